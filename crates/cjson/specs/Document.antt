@@ -1,0 +1,43 @@
+-- A metadata file as a document: what is signed, its canonical text, and who signed (TUF 1.0 section 4.2).
+use Rattle.std.specs.Prelude.{ℕ, List, codes, if◌then◌else◌, Option, None, option_map, option_and_then, Result, Ok}
+use Rattle.std.specs.Str.{is_utf8}
+use Rattle.serde_json.specs.Data.{Data, object}
+use Rattle.serde_json.specs.Read.{read}
+use Rattle.serde_json.specs.Find.{get, as_object}
+use Rattle.cjson.specs.Checks.{◌>>=◌, or_refuse}
+use Rattle.cjson.specs.Canon.{canon}
+use Rattle.cjson.specs.Form.{needed, list}
+use Rattle.cjson.specs.Entry.{Entry, entry}
+use Rattle.cjson.specs.declared.fault.DocFault.{DocFault}
+use Rattle.cjson.specs.declared.fault.DocFault.TheVariants.{NotJson, NotObject, Float, BadSignatures}
+
+pub record Document : Type 0 where
+  pub signed : Data
+  -- its canonical text, which signatures cover
+  pub text : List ℕ
+  pub entries : List Entry
+
+-- the tree of a file's bytes, where they are JSON in UTF-8
+abbrev pub tree_of : List ℕ → Option Data
+tree_of file = if is_utf8 file then read file else None
+
+-- the member `signed`, where it is an object
+abbrev pub signed_of : Data → Option Data
+signed_of tree = option_and_then (λ d. option_map object (as_object d)) (get (codes "signed") tree)
+
+-- the same of a file
+abbrev pub signed_in : List ℕ → Option Data
+signed_in file = option_and_then signed_of (tree_of file)
+
+-- the entries of the member `signatures`, a list
+abbrev pub entries_of : Data → Option (List Entry)
+entries_of tree = needed (codes "signatures") (list entry) tree
+
+-- the document, or the first fault of the file
+abbrev pub document : List ℕ → Result Document DocFault
+document file = do
+  tree ← or_refuse (tree_of file) NotJson
+  signed ← or_refuse (signed_of tree) NotObject
+  text ← or_refuse (canon signed) Float
+  entries ← or_refuse (entries_of tree) BadSignatures
+  Ok (record { signed = signed; text = text; entries = entries })

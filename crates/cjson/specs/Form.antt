@@ -1,0 +1,92 @@
+-- The forms of a JSON member. A form reads a tree, or gives nothing where the tree hasn't that form.
+use Rattle.std.specs.Prelude.{ℕ, ◌^◌, ◌&&◌, nat_lt, nat_le, if◌then◌else◌, List, [], ◌∷◌, Bool, true, false, Option, Some, None, option_map, option_and_then, Result, Ok, Err, ⊤}
+use Rattle.serde_json.specs.Data.{Data, Items, no_items, item, Members, no_members, member}
+use Rattle.serde_json.specs.Find.{get, as_str, as_number, as_u64, as_array, as_object}
+use Rattle.hex.specs.Hex.{decode_sized}
+use Rattle.cjson.specs.Option.{◌>>=◌}
+
+abbrev pub Form : Type 0 → Type 0
+Form A = Data → Option A
+
+-- a needed member
+abbrev pub needed : {A : Type 0} → List ℕ → Form A → Form A
+needed name form d = do
+  value ← get name d
+  form value
+
+-- nothing where the member is absent, or else what it is read as
+abbrev pub absent_or : {A : Type 0} → Form A → Option Data → Option (Option A)
+absent_or form None = Some None
+absent_or form (Some d) = option_map Some (form d)
+
+-- a member that may be absent
+abbrev pub optional : {A : Type 0} → List ℕ → Form A → Form (Option A)
+optional name form d = absent_or form (get name d)
+
+-- each of a list's items has the form
+abbrev pub each : {A : Type 0} → Form A → Items → Option (List A)
+each form no_items = Some []
+each form (item d ds) = do
+  first ← form d
+  rest ← each form ds
+  Some (first ∷ rest)
+
+-- a list of items of one form
+abbrev pub list : {A : Type 0} → Form A → Form (List A)
+list form d = do
+  items ← as_array d
+  each form items
+
+-- each of an object's members has the form that its name gives
+abbrev pub each_member : {A : Type 0} → (List ℕ → Form A) → Members → Option (List A)
+each_member form no_members = Some []
+each_member form (member k d ms) = do
+  first ← form k d
+  rest ← each_member form ms
+  Some (first ∷ rest)
+
+-- an object with members of such forms
+abbrev pub members : {A : Type 0} → (List ℕ → Form A) → Form (List A)
+members form d = do
+  found ← as_object d
+  each_member form found
+
+-- nothing more, where the test passes
+abbrev pub guard : Bool → Option ⊤
+guard true = Some tt
+guard false = None
+
+-- each of an object's members passes the test
+abbrev pub all_members : (Data → Bool) → Members → Bool
+all_members test no_members = true
+all_members test (member k d ms) = test d && all_members test ms
+
+-- whether a member is a text that passes the test
+abbrev pub has_text : List ℕ → (List ℕ → Bool) → Data → Bool
+has_text name test d = text_passes test (option_and_then as_str (get name d))
+  where
+    text_passes : (List ℕ → Bool) → Option (List ℕ) → Bool
+    text_passes test None = false
+    text_passes test (Some found) = test found
+
+-- a text, as its bytes in UTF-8
+abbrev pub text : Form (List ℕ)
+text d = as_str d
+
+-- a whole number from `least` to 9223372036854775807
+abbrev pub whole : ℕ → Form ℕ
+whole least d = do
+  number ← as_number d
+  n ← as_u64 number
+  if nat_le least n && nat_lt n (2 ^ 63) then Some n else None
+
+-- the value, where there is one
+abbrev pub ok : {A E : Type 0} → Result A E → Option A
+ok (Ok x) = Some x
+ok (Err e) = None
+
+-- the hexadecimal text, in either case, of `size` bytes
+abbrev pub hex_bytes : ℕ → Form (List ℕ)
+hex_bytes size d = do
+  digits ← as_str d
+  ok (decode_sized digits size)

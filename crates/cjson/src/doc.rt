@@ -1,0 +1,94 @@
+ghost use Rattle.std.specs.Prelude.{◌≡◌, Some};
+ghost use Rattle.serde_json.specs.View.{view};
+ghost use Rattle.cjson.specs.Canon.{canon};
+
+mod read;
+
+use crate::fault::Misread;
+use crate::form::{FromJson, needed};
+use crate::list::Items;
+use crate::text::Text;
+pub use read::signed_bytes;
+use serde_json::Value;
+use std::alloc::Global;
+use std::marker::Model;
+
+/// An entry of `signatures`: the id of a key and a signature, as the file spells them (TUF 1.0
+/// section 4.2). Both are texts of any length, and are compared with nothing here.
+#[derive(Drop)]
+pub struct Entry {
+    keyid: Text,
+    sig: Text,
+}
+
+impl Model for Entry {
+    ghost use Rattle.cjson.specs.Entry as spec;
+
+    ghost Value = { spec.Entry };
+
+    ghost view = { λ e. record { keyid = e.keyid; sig = e.sig } };
+}
+
+impl Entry {
+    /// The id of the key that is said to have signed.
+    pub fn keyid(&self) -> &str
+        ensures { result.now ≡ self.now.keyid }
+    {
+        self.keyid.as_str()
+    }
+
+    /// The signature, which should be hexadecimal text.
+    pub fn sig(&self) -> &str
+        ensures { result.now ≡ self.now.sig }
+    {
+        self.sig.as_str()
+    }
+}
+
+impl FromJson for Entry {
+    ghost use Rattle.cjson.specs.Entry as spec;
+
+    ghost form = { spec.entry };
+
+    fn from_json(alloc: Global, value: &Value) -> Result<Entry, Misread> {
+        let keyid = needed(alloc, value, "keyid")?;
+        let sig = needed(alloc, value, "sig")?;
+        Ok(Entry { keyid, sig })
+    }
+}
+
+/// A metadata file as a document: what is signed, its canonical text, and the entries of its
+/// signatures (TUF 1.0 section 4.2). Whoever has one knows that the text is the tree's.
+#[derive(Drop)]
+pub struct Doc {
+    tree: Value,
+    canonical: Vec<u8>,
+    listed: Items<Entry>,
+    ghost covered: { canon (view tree) ≡ Some canonical.items },
+}
+
+impl Doc {
+    ghost use Rattle.cjson.specs.DocOf.{doc_of};
+
+    /// The tree of `signed`.
+    pub fn tree(&self) -> &Value
+        ensures { view result.now ≡ (doc_of self.now).signed }
+    {
+        &self.tree
+    }
+
+    /// The canonical text of `signed`, which signatures cover, however the file spells it.
+    pub fn bytes(&self) -> &[u8]
+        ensures value { result.now ≡ (doc_of self.now).text }
+        ensures canonical { canon (doc_of self.now).signed ≡ Some result.now }
+    {
+        &self.canonical
+    }
+
+    /// The entries of `signatures`, in the file's order.
+    pub fn entries(&self) -> &[Entry]
+        ensures { result.now ≡ (doc_of self.now).entries }
+    {
+        self.listed.as_slice()
+    }
+}

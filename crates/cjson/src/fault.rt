@@ -1,0 +1,117 @@
+ghost use Rattle.std.specs.Prelude.{◌≡◌};
+ghost use Rattle.cjson.specs.declared.fault.Canon.TheVariants as canon;
+ghost use Rattle.cjson.specs.declared.fault.Misread.TheVariants as misread;
+ghost use Rattle.cjson.specs.Faults.{doc_fault_of};
+
+use std::alloc::{AllocError, AllocFailed};
+use thiserror::Error;
+
+/// Memory was refused.
+#[derive(Clone, Copy, Debug, PartialEq, Eq, Error)]
+#[error("out of memory")]
+pub struct NoMemory;
+
+/// Why no canonical text of a tree was made.
+#[derive(Clone, Copy, Debug, PartialEq, Eq, Error)]
+pub enum Canon {
+    /// A number in the tree isn't whole, or is below -2^63 or above 2^64 - 1.
+    #[error("a number is not whole")]
+    Float,
+    /// Memory was refused.
+    #[error("out of memory")]
+    NoMemory,
+}
+
+/// Why a file is no document, in the order in which the faults are asked.
+#[derive(Clone, Copy, Debug, PartialEq, Eq, Error)]
+pub enum DocFault {
+    /// The bytes aren't JSON in UTF-8, of at most 127 levels.
+    #[error("not JSON")]
+    NotJson,
+    /// The file or its `signed` isn't an object.
+    #[error("the file or its `signed` is not an object")]
+    NotObject,
+    /// `signed` has no canonical form.
+    #[error("`signed` has no canonical form")]
+    Float,
+    /// `signatures` isn't a list of objects with the texts `keyid` and `sig`.
+    #[error("`signatures` is not a list of entries")]
+    BadSignatures,
+    /// Memory was refused.
+    #[error("out of memory")]
+    NoMemory,
+}
+
+/// Why a tree was not read as a value of some form.
+#[derive(Clone, Copy, Debug, PartialEq, Eq, Error)]
+pub enum Misread {
+    /// The tree hasn't the form.
+    #[error("not of the form")]
+    Malformed,
+    /// Memory was refused.
+    #[error("out of memory")]
+    NoMemory,
+}
+
+impl From<AllocError> for NoMemory {
+    fn from(_refused: AllocError) -> NoMemory {
+        NoMemory
+    }
+}
+
+impl<T: Drop> From<AllocFailed<T>> for NoMemory {
+    fn from(_refused: AllocFailed<T>) -> NoMemory {
+        NoMemory
+    }
+}
+
+impl From<AllocError> for Canon {
+    ghost from_gives = { λ _ e. e ≡ canon.NoMemory };
+
+    fn from(_refused: AllocError) -> Canon {
+        Canon::NoMemory
+    }
+}
+
+impl<T: Drop> From<AllocFailed<T>> for Canon {
+    ghost from_gives = { λ _ e. e ≡ canon.NoMemory };
+
+    fn from(_refused: AllocFailed<T>) -> Canon {
+        Canon::NoMemory
+    }
+}
+
+impl From<Canon> for DocFault {
+    ghost from_gives = { λ c e. e ≡ doc_fault_of c };
+
+    fn from(fault: Canon) -> DocFault {
+        match fault {
+            Canon::Float => DocFault::Float,
+            Canon::NoMemory => DocFault::NoMemory,
+        }
+    }
+}
+
+impl From<AllocError> for Misread {
+    ghost from_gives = { λ _ e. e ≡ misread.NoMemory };
+
+    fn from(_refused: AllocError) -> Misread {
+        Misread::NoMemory
+    }
+}
+
+impl<T: Drop> From<AllocFailed<T>> for Misread {
+    ghost from_gives = { λ _ e. e ≡ misread.NoMemory };
+
+    fn from(_refused: AllocFailed<T>) -> Misread {
+        Misread::NoMemory
+    }
+}
+
+impl From<NoMemory> for Misread {
+    ghost from_gives = { λ _ e. e ≡ misread.NoMemory };
+
+    fn from(_refused: NoMemory) -> Misread {
+        Misread::NoMemory
+    }
+}

@@ -1,0 +1,55 @@
+//! Readers of one JSON value, and of an object's members.
+
+ghost use Rattle.std.specs.Prelude.{◌≡◌, Option, IfOk};
+ghost use Rattle.serde_json.specs.Data.{Data};
+ghost use Rattle.serde_json.specs.View.{view};
+ghost use Rattle.cjson.specs.Form as form_of;
+ghost use Rattle.cjson.specs.Reads.{Reads};
+
+use crate::fault::{Misread, NoMemory};
+use serde_json::Value;
+use std::alloc::Global;
+
+/// A type that is read from a JSON value of one form.
+pub trait FromJson: Sized {
+    ghost form: { Data → Option Self };
+
+    /// What `value` is read as; `Malformed` where it hasn't the form.
+    fn from_json(alloc: Global, value: &Value) -> Result<Self, Misread>
+        ensures { Reads (form (view value.now)) result };
+}
+
+/// A member that has to be there.
+///
+/// `Malformed` is answered where `value` is no object, has no member of that name, or has one of
+/// another form.
+pub fn needed<T: FromJson>(alloc: Global, value: &Value, name: &str) -> Result<T, Misread>
+    ensures { Reads (form_of.needed name.now T.form (view value.now)) result }
+{
+    let member = value.get(name).ok_or(Misread::Malformed)?;
+    T::from_json(alloc, member)
+}
+
+/// A member that may be absent.
+///
+/// `None` is answered where `value` has no member of that name, also where it is no object, and
+/// `Malformed` where the member has another form. A member that is `null` isn't absent.
+pub fn optional<T: FromJson>(alloc: Global, value: &Value, name: &str) -> Result<Option<T>, Misread>
+    ensures { Reads (form_of.optional name.now T.form (view value.now)) result }
+{
+    match value.get(name) {
+        Some(member) => Ok(Some(T::from_json(alloc, member)?)),
+        None => Ok(None),
+    }
+}
+
+/// What was read, or None where the value hasn't the form.
+pub fn if_formed<T>(read: Result<T, Misread>) -> Result<Option<T>, NoMemory>
+    ensures { (o : Option T) → Reads o read → IfOk result (λ x. x ≡ o) }
+{
+    match read {
+        Ok(x) => Ok(Some(x)),
+        Err(Misread::Malformed) => Ok(None),
+        Err(Misread::NoMemory) => Err(NoMemory),
+    }
+}

@@ -1,0 +1,27 @@
+//! Canonical JSON, metadata files as documents, and readers of JSON forms.
+//!
+//! - [`canonical`] writes the canonical text of a tree (OLPC Canonical JSON, which TUF 1.0
+//!   section 4.1 takes for what is digested and signed).
+//! - [`signed_bytes`] reads a metadata file as a [`Doc`] (TUF 1.0 section 4.2).
+//! - [`form::needed`], [`form::optional`] and [`members::read_members`] read the members of an
+//!   object as values of Rust types.
+//!
+//! Trees are read with `serde_json`; what it reads from a file's bytes is the file's tree.
+#![tactic(auto)]
+
+mod doc;
+mod fault;
+pub mod form;
+pub mod list;
+pub mod members;
+pub mod number;
+#[cfg(test)]
+mod tests;
+pub mod text;
+mod tree;
+mod write;
+
+pub use doc::{Doc, Entry, signed_bytes};
+pub use fault::{Canon, DocFault, Misread, NoMemory};
+pub use tree::read_tree;
+pub use write::canonical;

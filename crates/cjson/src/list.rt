@@ -1,0 +1,68 @@
+//! Lists whose items all have one form.
+
+ghost use Rattle.std.specs.Prelude.{◌≡◌};
+ghost use Rattle.serde_json.specs.View.{items_view};
+ghost use Rattle.cjson.specs.Form as form_of;
+ghost use Rattle.cjson.specs.Reads.{Reads};
+
+use crate::fault::Misread;
+use crate::form::FromJson;
+use serde_json::Value;
+use std::alloc::Global;
+use std::marker::Model;
+
+/// The items of a list, in order; read from a JSON list, `Malformed` where some item hasn't the form.
+#[derive(Drop)]
+pub struct Items<T> {
+    items: Vec<T>,
+}
+
+impl<T> Model for Items<T> {
+    ghost use Rattle.std.specs.Prelude.{List};
+
+    ghost Value = { List T };
+
+    ghost view = { λ a. a.items.items };
+}
+
+impl<T> Items<T> {
+    /// The items of a vector.
+    pub fn new(items: Vec<T>) -> Items<T>
+        ensures { result ≡ items.items }
+    {
+        Items { items }
+    }
+
+    /// The items, taken out.
+    pub fn into_vec(self) -> Vec<T>
+        ensures { result.items ≡ self }
+    {
+        self.items
+    }
+
+    /// The items, lent.
+    pub fn as_slice(&self) -> &[T]
+        ensures { result.now ≡ self.now }
+    {
+        self.items.as_slice()
+    }
+}
+
+impl<T: FromJson + Drop> FromJson for Items<T> {
+    ghost form = { form_of.list T.form };
+
+    fn from_json(alloc: Global, value: &Value) -> Result<Items<T>, Misread> {
+        let found = value.as_array().ok_or(Misread::Malformed)?;
+        read_each(alloc, found)
+    }
+}
+
+fn read_each<T: FromJson + Drop>(alloc: Global, found: &[Value]) -> Result<Items<T>, Misread>
+    ensures { Reads (form_of.each T.form (items_view found.now)) result }
+{
+    let mut items = Vec::with_capacity(alloc, found.len())?;
+    for item in found {
+        items.push(T::from_json(alloc, item)?)?;
+    }
+    Ok(Items::new(items))
+}

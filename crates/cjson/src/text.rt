@@ -1,0 +1,60 @@
+//! Texts.
+
+ghost use Rattle.std.specs.Prelude.{◌≡◌, bytes_eq, string_bytes};
+ghost use Rattle.serde_json.specs.View.{view};
+ghost use Rattle.cjson.specs.Form as form_of;
+
+use crate::fault::Misread;
+use crate::form::FromJson;
+use serde_json::Value;
+use std::alloc::Global;
+use std::marker::Model;
+
+/// A text, seen as its bytes in UTF-8; read from a JSON text of any length.
+#[derive(Drop)]
+pub struct Text {
+    text: String,
+}
+
+impl Model for Text {
+    ghost use Rattle.std.specs.Prelude.{List, ℕ, string_bytes};
+
+    ghost Value = { List ℕ };
+
+    ghost view = { λ t. string_bytes t.text };
+}
+
+impl Text {
+    /// The text of a `String`.
+    pub fn new(text: String) -> Text
+        ensures { result ≡ string_bytes text }
+    {
+        Text { text }
+    }
+
+    /// The text, lent.
+    pub fn as_str(&self) -> &str
+        ensures { result.now ≡ self.now }
+    {
+        self.text.as_str()
+    }
+}
+
+impl FromJson for Text {
+    ghost form = { form_of.text };
+
+    fn from_json(alloc: Global, value: &Value) -> Result<Text, Misread> {
+        let text = value.as_str().ok_or(Misread::Malformed)?;
+        Ok(Text::new(String::from_str(alloc, text)?))
+    }
+}
+
+/// Whether a member is this text.
+pub fn is_text(value: &Value, name: &str, text: &str) -> bool
+    ensures { result ≡ form_of.has_text name.now (bytes_eq text.now) (view value.now) }
+{
+    match value.get(name).and_then(Value::as_str) {
+        Some(found) => text == found,
+        None => false,
+    }
+}

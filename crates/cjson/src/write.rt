@@ -1,0 +1,149 @@
+ghost use Rattle.std.specs.Prelude.{◌≡◌, ◌≢◌, [], ◌∷◌, ◌++◌, Some, None, true, false, decimal, OnOk, IfOk, IsUtf8};
+ghost use Rattle.std.specs.Fmt.{signed_decimal};
+ghost use Rattle.serde_json.specs.Data.{Data, boolean};
+ghost use Rattle.serde_json.specs.View.{view, number_view, items_view, members_view};
+ghost use Rattle.cjson.specs.Canon.{canon, text, number_text, escaped, quoted, comma_if, items_text, members_text, is_whole, has_whole_numbers, items_are_whole, members_are_whole, is_ordered, items_are_ordered, members_are_ordered};
+
+use crate::fault::Canon;
+use serde_json::{Map, Number, Value};
+use std::alloc::{AllocError, Global};
+
+/// The canonical text of a tree (OLPC Canonical JSON; TUF 1.0 section 4.1).
+///
+/// There is no white space, and members stand in the order of their keys' bytes. In a text only
+/// `"` and `\` are escaped, each by a `\`; all else stands raw, control characters too. The text
+/// is UTF-8 of any length, and no other tree has the same.
+///
+/// `Float` is answered exactly where a number of the tree isn't whole, or is below -2^63 or above
+/// 2^64 - 1. What is spelled `1.0`, `1e2` or `-0` is read as no whole number.
+#[tactic(auto, using(crate::proofs::Unique::canon_unique))]
+pub fn canonical(alloc: Global, v: &Value) -> Result<Vec<u8>, Canon>
+    ensures ok { IfOk result (λ bytes. canon (view v.now) ≡ Some bytes.items) }
+    ensures float { result ≡ Err Canon.Float → canon (view v.now) ≡ None }
+    ensures not_whole { result ≡ Err Canon.Float → has_whole_numbers (view v.now) ≡ false }
+    ensures utf8 { IfOk result (λ bytes. IsUtf8 bytes.items) }
+
+    // No other tree has this text.
+    ensures unique { IfOk result (λ bytes. (d : Data) → canon d ≡ Some bytes.items → d ≡ view v.now) }
+{
+    let mut out = Vec::new(alloc);
+    write(v, &mut out)?;
+    Ok(out)
+}
+
+#[cycle(write)]
+fn write(value: &Value, out: &mut Vec<u8>) -> Result<(), Canon>
+    ensures text { OnOk result (out.new.items ≡ out.old.items ++ text (view value.now)) }
+    ensures utf8 { OnOk result (IsUtf8 out.old.items → IsUtf8 out.new.items) }
+    ensures whole { OnOk result (has_whole_numbers (view value.now) ≡ true) }
+    ensures ordered { OnOk result (is_ordered (view value.now) ≡ true) }
+    ensures float { result ≡ Err Canon.Float → has_whole_numbers (view value.now) ≡ false }
+{
+    match value {
+        Value::Null => Ok(out.extend_from_slice(b"null")?),
+        Value::Bool(b) => write_bool(*b, out),
+        Value::Number(n) => write_number(n, out),
+        Value::String(s) => Ok(write_text(s.as_str(), out)?),
+        Value::Array(items) => write_items(items, out),
+        Value::Object(members) => write_members(members, out),
+    }
+}
+
+#[cycle(write)]
+fn write_items(items: &Vec<Value>, out: &mut Vec<u8>) -> Result<(), Canon>
+    ensures text { OnOk result
+        (out.new.items ≡ out.old.items ++ 91 ∷ items_text false (items_view items.now.items)) }
+    ensures utf8 { OnOk result (IsUtf8 out.old.items → IsUtf8 out.new.items) }
+    ensures whole { OnOk result (items_are_whole (items_view items.now.items) ≡ true) }
+    ensures ordered { OnOk result (items_are_ordered (items_view items.now.items) ≡ true) }
+    ensures float { result ≡ Err Canon.Float
+        → items_are_whole (items_view items.now.items) ≡ false }
+{
+    out.push(b'[')?;
+    let mut later = false;
+    for item in items {
+        write_comma(later, out)?;
+        write(item, out)?;
+        later = true;
+    }
+    out.push(b']')?;
+    Ok(())
+}
+
+#[cycle(write)]
+fn write_members(members: &Map<String, Value>, out: &mut Vec<u8>) -> Result<(), Canon>
+    ensures text { OnOk result
+        (out.new.items ≡ out.old.items ++ 123 ∷ members_text false (members_view members.now.entries)) }
+    ensures utf8 { OnOk result (IsUtf8 out.old.items → IsUtf8 out.new.items) }
+    ensures whole { OnOk result (members_are_whole (members_view members.now.entries) ≡ true) }
+    ensures ordered { OnOk result (members_are_ordered (members_view members.now.entries) ≡ true) }
+    ensures float { result ≡ Err Canon.Float
+        → members_are_whole (members_view members.now.entries) ≡ false }
+{
+    out.push(b'{')?;
+    let mut later = false;
+    for (key, member) in members.iter() {
+        write_key(later, key.as_str(), out)?;
+        write(member, out)?;
+        later = true;
+    }
+    out.push(b'}')?;
+    Ok(())
+}
+
+/// What stands before a member's value.
+fn write_key(later: bool, key: &str, out: &mut Vec<u8>) -> Result<(), AllocError>
+    ensures { OnOk result (out.new.items ≡ out.old.items ++ (comma_if later ++ (quoted key.now ++ 58 ∷ []))) }
+{
+    write_comma(later, out)?;
+    write_text(key, out)?;
+    out.push(b':')?;
+    Ok(())
+}
+
+fn write_comma(later: bool, out: &mut Vec<u8>) -> Result<(), AllocError>
+    ensures { OnOk result (out.new.items ≡ out.old.items ++ comma_if later) }
+{
+    if later {
+        out.push(b',')?;
+    }
+    Ok(())
+}
+
+fn write_bool(b: bool, out: &mut Vec<u8>) -> Result<(), Canon>
+    ensures text { OnOk result (out.new.items ≡ out.old.items ++ text (boolean b)) }
+    ensures float { result ≢ Err Canon.Float }
+{
+    let word: &[u8] = if b { b"true" } else { b"false" };
+    Ok(out.extend_from_slice(word)?)
+}
+
+fn write_number(n: &Number, out: &mut Vec<u8>) -> Result<(), Canon>
+    ensures text { OnOk result (out.new.items ≡ out.old.items ++ number_text (number_view n.now)) }
+    ensures whole { OnOk result (is_whole (number_view n.now) ≡ true) }
+    ensures float { result ≡ Err Canon.Float → is_whole (number_view n.now) ≡ false }
+{
+    let mut digits = itoa::Buffer::new();
+    if let Some(whole) = n.as_u64() {
+        out.extend_from_slice(digits.format(whole).as_bytes())?;
+    } else if let Some(below_zero) = n.as_i64() {
+        out.extend_from_slice(digits.format(below_zero).as_bytes())?;
+    } else {
+        return Err(Canon::Float);
+    }
+    Ok(())
+}
+
+fn write_text(text: &str, out: &mut Vec<u8>) -> Result<(), AllocError>
+    ensures { OnOk result (out.new.items ≡ out.old.items ++ quoted text.now) }
+{
+    out.push(b'"')?;
+    for byte in text.as_bytes() {
+        if *byte == b'"' || *byte == b'\\' {
+            out.push(b'\\')?;
+        }
+        out.push(*byte)?;
+    }
+    out.push(b'"')?;
+    Ok(())
+}

@@ -1,0 +1,18 @@
+//! The client workflow of The Update Framework for a list of wanted paths, on one thread (TUF 1.0
+//! section 5).
+#![tactic(auto)]
+
+mod limits;
+mod outcome;
+mod run;
+mod target;
+mod verdict;
+
+pub use cjson::NoMemory;
+pub use cjson::text::Text;
+pub use limits::Limits;
+pub use meta::{Fault, Moment, Repo};
+pub use outcome::{Accepted, Outcome};
+pub use rolechain::{End, StateFault, Step, Trusted};
+pub use run::run_alone;
+pub use verdict::Verdict;

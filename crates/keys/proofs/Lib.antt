@@ -1,0 +1,4 @@
+pub mod Asks
+pub mod Decoded
+mod Rows
+pub mod Sets

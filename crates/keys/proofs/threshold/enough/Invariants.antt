@@ -1,0 +1,8 @@
+use Rattle.std.proofs.Common.{◌≡◌, take}
+use Rattle.keys.specs.Signers.{signers}
+use Rattle.cjson.specs.DocOf.{doc_of}
+use Rattle.keys.proofs.threshold.enough.Given as goal
+
+abbrev pub invariant-loop-key : goal.invariant-loop-key
+invariant-loop-key g l =
+    l.signers ≡ signers (doc_of l.doc).text (doc_of l.doc).entries (take l.key-index l.key-items) l.role

@@ -1,0 +1,107 @@
+ghost use Rattle.std.specs.Prelude.{◌≡◌, ◌↔◌, IsTrue, IfOk};
+ghost use Rattle.keys.specs.Truth.{IsSame, truth};
+
+use cjson::NoMemory;
+use lms::Public;
+
+/// A known hash algorithm (TUF 1.0 section 4.4).
+#[derive(Clone, Copy, Debug, PartialEq, Eq)]
+pub enum Algorithm {
+    /// `sha256`, of 32 bytes.
+    Sha256,
+    /// `sha512`, of 64 bytes.
+    Sha512,
+}
+
+/// A question about a metadata file or a target. Its answer is a matter of computing: no role, version
+/// or date bears on it. The names and the place say where the question comes from, and not what is true.
+#[derive(Clone, Copy)]
+pub enum Ask<'a> {
+    /// Whether the entry's text is the hexadecimal, in either case, of a valid signature of the
+    /// message (TUF 1.0 section 4.2).
+    Signature {
+        /// The name of the file that has the entry.
+        file: &'a str,
+        /// The entry's place in the file's `signatures`, from 0.
+        place: usize,
+        /// The key's public value.
+        public: &'a Public,
+        /// The canonical text of the file's `signed`.
+        message: &'a [u8],
+        /// The entry's `sig`, as the file spells it.
+        sig: &'a str,
+    },
+    /// Whether the digest is that of the bytes (TUF 1.0 section 4.4).
+    Digest {
+        /// The name of the file that has the bytes.
+        file: &'a str,
+        /// The algorithm of the digest.
+        algorithm: Algorithm,
+        /// The file's bytes.
+        bytes: &'a [u8],
+        /// The digest, as bytes. One of another length than the algorithm's is that of no bytes.
+        digest: &'a [u8],
+    },
+}
+
+impl Ask<'_> {
+    /// Whether all parts of the two questions are equal, the name of the file and the place too. It
+    /// takes no memory. Then the questions have one answer.
+    pub fn same(&self, other: &Ask) -> bool
+        ensures parts { IsTrue result ↔ IsSame self.now other.now }
+        ensures truth { IsTrue result → truth self.now ≡ truth other.now }
+    {
+        match (*self, *other) {
+            (
+                Ask::Signature {
+                    file,
+                    place,
+                    public,
+                    message,
+                    sig,
+                },
+                Ask::Signature {
+                    file: other_file,
+                    place: other_place,
+                    public: other_public,
+                    message: other_message,
+                    sig: other_sig,
+                },
+            ) => {
+                file == other_file
+                    && place == other_place
+                    && public.bytes() == other_public.bytes()
+                    && message == other_message
+                    && sig == other_sig
+            }
+            (
+                Ask::Digest {
+                    file,
+                    algorithm,
+                    bytes,
+                    digest,
+                },
+                Ask::Digest {
+                    file: other_file,
+                    algorithm: other_algorithm,
+                    bytes: other_bytes,
+                    digest: other_digest,
+                },
+            ) => {
+                file == other_file
+                    && algorithm == other_algorithm
+                    && bytes == other_bytes
+                    && digest == other_digest
+            }
+            _ => false,
+        }
+    }
+}
+
+/// What answers questions, and only with the truth: by computing at once, or by what it remembers.
+pub trait Judge {
+    /// Whether the answer is yes. The only refusal is want of memory, after which the question may be
+    /// asked again.
+    fn valid(&mut self, ask: &Ask) -> Result<bool, NoMemory>
+        ensures { IfOk result (λ b. b ≡ truth ask.now) };
+}

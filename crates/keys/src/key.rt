@@ -1,0 +1,95 @@
+ghost use Rattle.std.specs.Prelude.{◌≡◌, IfOk, string_bytes};
+ghost use Rattle.serde_json.specs.View.{view};
+ghost use Rattle.keys.specs.Keys as spec;
+ghost use Rattle.keys.specs.GivesText.{GivesText};
+
+use cjson::text::{Text, is_text};
+use cjson::{Canon, NoMemory, canonical};
+use hex::FromHex;
+use lms::Public;
+use serde_json::Value;
+use sha2::{Digest, Sha256};
+use std::alloc::Global;
+use std::marker::Model;
+
+/// A usable key: of type `lms` and scheme `lms-sha256`, with a public value of a supported kind,
+/// under its own id (TUF 1.0 section 4.2).
+#[derive(Drop)]
+pub struct Key {
+    id: Text,
+    public: Public,
+}
+
+impl Model for Key {
+    ghost use Rattle.keys.specs.Keys as spec;
+
+    ghost Value = { spec.Key };
+
+    ghost view = { λ a. record { id = a.id; public = a.public } };
+}
+
+impl Key {
+    /// The key's id: 64 lower-case hexadecimal digits.
+    pub fn id(&self) -> &str
+        ensures { result.now ≡ self.now.id }
+    {
+        self.id.as_str()
+    }
+
+    /// The public value, of 56 bytes.
+    pub fn public(&self) -> &Public
+        ensures { result.now ≡ self.now.public }
+    {
+        &self.public
+    }
+}
+
+/// The id of a key object as it stands: the SHA-256 of its canonical text, in 64 lower-case hexadecimal
+/// digits (TUF 1.0 section 4.2). An object with a number that isn't whole has no canonical text, so no id.
+pub fn key_id(alloc: Global, key: &Value) -> Result<String, Canon>
+    ensures { GivesText (spec.key_id (view key.now)) result string_bytes }
+{
+    let text = canonical(alloc, key)?;
+    let digest: [u8; 32] = Sha256::digest(text.as_slice());
+    Ok(hex::encode(alloc, digest)?)
+}
+
+/// The key, where it counts under the id.
+pub(crate) fn usable(alloc: Global, id: &str, key: &Value) -> Result<Option<Key>, NoMemory>
+    ensures { IfOk result (λ o. o ≡ spec.usable id.now (view key.now)) }
+{
+    let Some(public) = public_value(key) else {
+        return Ok(None);
+    };
+    if !is_lms(key) || !is_own_id(alloc, id, key)? {
+        return Ok(None);
+    }
+    let id = Text::new(String::from_str(alloc, id)?);
+    Ok(Some(Key { id, public }))
+}
+
+fn public_value(key: &Value) -> Option<Public>
+    ensures { result ≡ spec.public_value (view key.now) }
+{
+    let text = key.get("keyval")?.get("public")?.as_str()?;
+    match <[u8; 56] as FromHex>::from_hex(text) {
+        Ok(bytes) => Public::read(&bytes),
+        Err(_) => None,
+    }
+}
+
+fn is_lms(key: &Value) -> bool
+    ensures { result ≡ spec.is_lms (view key.now) }
+{
+    is_text(key, "keytype", "lms") && is_text(key, "scheme", "lms-sha256")
+}
+
+fn is_own_id(alloc: Global, id: &str, key: &Value) -> Result<bool, NoMemory>
+    ensures { IfOk result (λ b. b ≡ spec.is_own_id id.now (view key.now)) }
+{
+    match key_id(alloc, key) {
+        Ok(found) => Ok(found.as_str() == id),
+        Err(Canon::Float) => Ok(false),
+        Err(Canon::NoMemory) => Err(NoMemory),
+    }
+}

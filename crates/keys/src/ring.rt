@@ -1,0 +1,88 @@
+ghost use Rattle.std.specs.Prelude.{◌≡◌, IfOk};
+ghost use Rattle.serde_json.specs.View.{view};
+ghost use Rattle.cjson.specs.Reads.{Reads};
+ghost use Rattle.keys.specs.Keys as spec;
+
+use crate::key::{Key, usable};
+use cjson::form::{FromJson, if_formed};
+use cjson::list::Items;
+use cjson::members::{FromMember, read_members};
+use cjson::{Misread, NoMemory};
+use serde_json::Value;
+use std::alloc::Global;
+use std::marker::Model;
+
+/// The usable keys of an object of keys (TUF 1.0 section 4.3), in the order of their ids: those of type
+/// `lms` and scheme `lms-sha256` whose `keyval.public` is the hexadecimal, in either case, of 56 bytes of
+/// a supported kind, each under its own id. Any other key stays in the file and counts for no threshold.
+#[derive(Drop)]
+pub struct KeyRing {
+    keys: Vec<Key>,
+}
+
+impl Model for KeyRing {
+    ghost use Rattle.std.specs.Prelude.{List};
+    ghost use Rattle.keys.specs.Keys as spec;
+
+    ghost Value = { List spec.Key };
+
+    ghost view = { λ a. a.keys.items };
+}
+
+impl KeyRing {
+    /// The ring of an object of keys, or None where the value isn't an object or one of its members isn't
+    /// one.
+    pub fn read(alloc: Global, value: &Value) -> Result<Option<KeyRing>, NoMemory>
+        ensures { IfOk result (λ o. o ≡ spec.ring (view value.now)) }
+    {
+        if_formed(KeyRing::from_json(alloc, value))
+    }
+
+    /// The keys, in the order of their ids.
+    pub fn keys(&self) -> &[Key]
+        ensures { result.now ≡ self.now }
+    {
+        self.keys.as_slice()
+    }
+}
+
+impl FromJson for KeyRing {
+    ghost form = { spec.ring };
+
+    fn from_json(alloc: Global, value: &Value) -> Result<KeyRing, Misread> {
+        let listed: Items<ListedKey> = read_members(alloc, value)?;
+        let keys = listed
+            .into_vec()
+            .into_iter()
+            .filter_map(|listed| listed.key)
+            .collect(alloc)?;
+        Ok(KeyRing { keys })
+    }
+}
+
+/// A member of an object of keys: the key, if it is usable.
+#[derive(Drop)]
+struct ListedKey {
+    key: Option<Key>,
+}
+
+impl Model for ListedKey {
+    ghost use Rattle.std.specs.Prelude.{Option};
+    ghost use Rattle.keys.specs.Keys as spec;
+
+    ghost Value = { Option spec.Key };
+
+    ghost view = { λ a. a.key };
+}
+
+impl FromMember for ListedKey {
+    ghost member_form = { spec.listed_key };
+
+    fn from_member(alloc: Global, name: &str, value: &Value) -> Result<ListedKey, Misread> {
+        if !value.is_object() {
+            return Err(Misread::Malformed);
+        }
+        let key = usable(alloc, name, value)?;
+        Ok(ListedKey { key })
+    }
+}

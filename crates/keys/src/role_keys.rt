@@ -1,0 +1,61 @@
+ghost use Rattle.std.specs.Prelude.{◌≡◌, IfOk};
+ghost use Rattle.serde_json.specs.View.{view};
+ghost use Rattle.keys.specs.Keys as spec;
+
+use cjson::form::{FromJson, if_formed, needed};
+use cjson::list::Items;
+use cjson::number::Positive;
+use cjson::text::Text;
+use cjson::{Misread, NoMemory};
+use serde_json::Value;
+use std::alloc::Global;
+use std::marker::Model;
+
+/// Which keys a role lists, by their ids, and how many of them must sign (TUF 1.0 section 4.3).
+#[derive(Drop)]
+pub struct RoleKeys {
+    ids: Items<Text>,
+    threshold: Positive,
+}
+
+impl Model for RoleKeys {
+    ghost use Rattle.keys.specs.Keys as spec;
+
+    ghost Value = { spec.RoleKeys };
+
+    ghost view = { λ a. record { ids = a.ids; threshold = a.threshold } };
+}
+
+impl RoleKeys {
+    /// The role of an object, or None where `keyids` isn't a list of texts or `threshold` isn't a whole
+    /// number of 1 to 9223372036854775807. Other members are ignored.
+    pub fn read(alloc: Global, value: &Value) -> Result<Option<RoleKeys>, NoMemory>
+        ensures { IfOk result (λ o. o ≡ spec.role_keys (view value.now)) }
+    {
+        if_formed(RoleKeys::from_json(alloc, value))
+    }
+
+    /// The listed ids, as the file lists them: some may be repeated or unknown.
+    pub fn ids(&self) -> &[Text]
+        ensures { result.now ≡ self.now.ids }
+    {
+        self.ids.as_slice()
+    }
+
+    /// How many keys must sign, 1 to 9223372036854775807.
+    pub fn threshold(&self) -> u64
+        ensures { result ≡ self.now.threshold }
+    {
+        self.threshold.get()
+    }
+}
+
+impl FromJson for RoleKeys {
+    ghost form = { spec.role_keys };
+
+    fn from_json(alloc: Global, value: &Value) -> Result<RoleKeys, Misread> {
+        let ids = needed(alloc, value, "keyids")?;
+        let threshold = needed(alloc, value, "threshold")?;
+        Ok(RoleKeys { ids, threshold })
+    }
+}

@@ -1,0 +1,3 @@
+pub mod Hashed
+mod Rows
+pub mod Stamps

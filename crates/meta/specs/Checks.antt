@@ -1,0 +1,184 @@
+-- The checks of one file, in order (TUF 1.0 sections 5.3 to 5.6): the first that fails is the answer.
+use Rattle.std.specs.Prelude.{ℕ, ◌&&◌, ◌||◌, ◌==◌, nat_lt, nat_le, not, if◌then◌else◌, List, length, Bool, true, false, Option, Some, None, is_none, is_some, Result, Ok, Err, bytes_eq, ⊤}
+use Rattle.std.specs.List.{list_any, list_all}
+use Rattle.std.specs.Option.{option_map_or}
+use Rattle.keys.specs.Keys.{Key, RoleKeys}
+use Rattle.keys.specs.Signers.{is_met}
+use Rattle.keys.specs.Truth.{digest_by}
+use Rattle.keys.specs.declared.judge.Algorithm.TheVariants.{Sha256, Sha512}
+use Rattle.cjson.specs.Checks.{◌>>=◌, refuse_if, or_refuse}
+use Rattle.cjson.specs.Document.{Document}
+use Rattle.meta.specs.Moment.{Moment, is_before}
+use Rattle.meta.specs.Metadata.{Hashes, Listing, Header, Root, Timestamp, Named, Snapshot, Targets}
+use Rattle.meta.specs.Part.{Part, root_limit, timestamp_limit, snapshot_limit, targets_limit}
+use Rattle.meta.specs.Reads.{document_of, root_of, timestamp_of, snapshot_of, targets_of}
+use Rattle.meta.specs.declared.fault.Fault.{Fault}
+use Rattle.meta.specs.declared.fault.Fault.TheVariants.{NotListed, Missing, TooLong, LengthWrong, HashWrong, NoKnownHash, Malformed, Unsigned, VersionWrong, Rollback, Expired}
+
+-- the files of a repository by their names
+abbrev pub Files : Type 0
+Files = List ℕ → Option (List ℕ)
+
+-- whether a file has to be listed by another, and how it is
+pub data Listed : Type 0 where
+  not_due : Listed
+  absent : Listed
+  listed_as : Listing → Listed
+
+-- what is expected of a file, whatever its kind
+pub record Expectation : Type 0 where
+  pub name : List ℕ
+  pub listed : Listed
+  pub ring : List Key
+  pub role : RoleKeys
+
+-- ---- lengths and digests
+
+-- a digest is listed, and it isn't that of the bytes
+abbrev pub differs : Option (List ℕ) → List ℕ → Bool
+differs None found = false
+differs (Some given) found = not (bytes_eq given found)
+
+abbrev pub is_hash_wrong : Hashes → List ℕ → Bool
+is_hash_wrong h bytes = differs h.sha256 (digest_by Sha256 bytes) || differs h.sha512 (digest_by Sha512 bytes)
+
+abbrev pub has_no_known_hash : Hashes → Bool
+has_no_known_hash h = is_none h.sha256 && is_none h.sha512
+
+abbrev pub is_length_wrong : Option ℕ → List ℕ → Bool
+is_length_wrong None bytes = false
+is_length_wrong (Some n) bytes = not (n == length bytes)
+
+abbrev pub is_too_long : Option ℕ → List ℕ → Bool
+is_too_long None bytes = false
+is_too_long (Some limit) bytes = nat_lt limit (length bytes)
+
+-- the limit, and the length and the digests that may be listed
+abbrev pub content : Option ℕ → Option ℕ → Option Hashes → List ℕ → Result ⊤ Fault
+content limit size hashes bytes = do
+  short ← refuse_if (is_too_long limit bytes) TooLong
+  sized ← refuse_if (is_length_wrong size bytes) LengthWrong
+  hashed ← refuse_if (option_map_or (λ h. is_hash_wrong h bytes) hashes false) HashWrong
+  refuse_if (option_map_or has_no_known_hash hashes false) NoKnownHash
+
+abbrev pub is_absent : Listed → Bool
+is_absent absent = true
+is_absent not_due = false
+is_absent (listed_as l) = false
+
+abbrev pub listed_length : Listed → Option ℕ
+listed_length (listed_as l) = l.length
+listed_length not_due = None
+listed_length absent = None
+
+abbrev pub listed_hashes : Listed → Option Hashes
+listed_hashes (listed_as l) = l.hashes
+listed_hashes not_due = None
+listed_hashes absent = None
+
+abbrev pub listed_version : Listed → Option ℕ
+listed_version (listed_as l) = Some l.version
+listed_version not_due = None
+listed_version absent = None
+
+-- ---- form and signatures
+
+-- a file that was read, and the document that it is
+pub record Fetched (A : Type 0) : Type 0 where
+  pub part : Part A
+  pub doc : Document
+
+-- the file that is expected, out of the repository's
+abbrev pub fetched : {A : Type 0} → (Document → Result A Fault) → ℕ → Expectation → Files → Result (Fetched A) Fault
+fetched form limit e files = do
+  listed ← refuse_if (is_absent e.listed) NotListed
+  bytes ← or_refuse (files e.name) Missing
+  intact ← content (Some limit) (listed_length e.listed) (listed_hashes e.listed) bytes
+  doc ← document_of bytes
+  reading ← form doc
+  Ok (record { part = record { bytes = bytes; reading = reading }; doc = doc })
+
+abbrev pub is_signed : List Key → RoleKeys → Document → Bool
+is_signed ring role doc = is_met doc.text doc.entries ring role
+
+-- ---- version, rollback and expiry
+
+abbrev pub is_version_wrong : Option ℕ → Header → Bool
+is_version_wrong None h = false
+is_version_wrong (Some due) h = not (due == h.version)
+
+-- expired where it doesn't expire later than the moment
+abbrev pub is_expired : Header → Moment → Bool
+is_expired h now = not (is_before now h.expires)
+
+-- the trusted timestamp's version again
+abbrev pub is_again : Timestamp → Timestamp → Bool
+is_again old new = new.header.version == old.header.version
+
+-- a version below the trusted one, or a listed snapshot below the one that was listed
+abbrev pub is_earlier : Timestamp → Timestamp → Bool
+is_earlier old new = nat_lt new.header.version old.header.version || nat_lt new.snapshot.version old.snapshot.version
+
+-- the same name with no lower version
+abbrev pub is_kept_by : Named → Named → Bool
+is_kept_by old new = bytes_eq new.name old.name && nat_le old.listing.version new.listing.version
+
+-- a trusted name that is gone, or has a lower version
+abbrev pub is_listed_below : List Named → Named → Bool
+is_listed_below files old = list_all (λ new. not (is_kept_by old new)) files
+
+abbrev pub lists_less : Snapshot → Snapshot → Bool
+lists_less old new = list_any (is_listed_below new.files) old.files
+
+-- ---- the checks of each kind
+
+-- A root is signed by the keys of the root before, and by its own. Only the last root's expiry is asked, when the chain has ended.
+abbrev pub root_part : Expectation → ℕ → Files → Result (Part Root) Fault
+root_part e due files = do
+  f ← fetched root_of root_limit e files
+  signed ← refuse_if (not (is_signed e.ring e.role f.doc && is_signed f.part.reading.ring f.part.reading.root f.doc)) Unsigned
+  versioned ← refuse_if (is_version_wrong (Some due) f.part.reading.header) VersionWrong
+  Ok f.part
+
+-- a timestamp where none is trusted
+abbrev pub first_timestamp : Expectation → Files → Moment → Result (Part Timestamp) Fault
+first_timestamp e files now = do
+  f ← fetched timestamp_of timestamp_limit e files
+  signed ← refuse_if (not (is_signed e.ring e.role f.doc)) Unsigned
+  current ← refuse_if (is_expired f.part.reading.header now) Expired
+  Ok f.part
+
+abbrev pub newer_timestamp : Timestamp → Part Timestamp → Moment → Result (Option (Part Timestamp)) Fault
+newer_timestamp old p now = do
+  onward ← refuse_if (is_earlier old p.reading) Rollback
+  current ← refuse_if (is_expired p.reading.header now) Expired
+  Ok (Some p)
+
+-- a timestamp beside the trusted one; none where it has that one's version again
+abbrev pub next_timestamp : Expectation → Timestamp → Files → Moment → Result (Option (Part Timestamp)) Fault
+next_timestamp e old files now = do
+  f ← fetched timestamp_of timestamp_limit e files
+  signed ← refuse_if (not (is_signed e.ring e.role f.doc)) Unsigned
+  if is_again old f.part.reading then Ok None else newer_timestamp old f.part now
+
+abbrev pub snapshot_part : Expectation → Option Snapshot → Files → Moment → Result (Part Snapshot) Fault
+snapshot_part e old files now = do
+  f ← fetched snapshot_of snapshot_limit e files
+  signed ← refuse_if (not (is_signed e.ring e.role f.doc)) Unsigned
+  versioned ← refuse_if (is_version_wrong (listed_version e.listed) f.part.reading.header) VersionWrong
+  onward ← refuse_if (option_map_or (λ s. lists_less s f.part.reading) old false) Rollback
+  current ← refuse_if (is_expired f.part.reading.header now) Expired
+  Ok f.part
+
+abbrev pub is_delegating : Targets → Bool
+is_delegating m = is_some m.delegations
+
+-- Delegations aren't followed yet, so a file that has some is refused.
+abbrev pub targets_part : Expectation → Files → Moment → Result (Part Targets) Fault
+targets_part e files now = do
+  f ← fetched targets_of targets_limit e files
+  alone ← refuse_if (is_delegating f.part.reading) Malformed
+  signed ← refuse_if (not (is_signed e.ring e.role f.doc)) Unsigned
+  versioned ← refuse_if (is_version_wrong (listed_version e.listed) f.part.reading.header) VersionWrong
+  current ← refuse_if (is_expired f.part.reading.header now) Expired
+  Ok f.part

@@ -1,0 +1,13 @@
+pub use Rattle.keys.specs.Keys
+pub use Rattle.keys.specs.Signers
+pub use Rattle.keys.specs.Truth
+pub mod Moment
+pub mod Names
+pub mod Metadata
+pub mod Matcher
+pub mod Reads
+pub mod Part
+pub mod Checks
+pub mod Answers
+pub mod Expecting
+pub mod Fetching

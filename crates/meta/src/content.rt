@@ -1,0 +1,132 @@
+ghost use Rattle.std.specs.Prelude.{◌≡◌, IfOk, Result, not, bytes_eq};
+ghost use Rattle.cjson.specs.Checks.{refuse_if};
+ghost use Rattle.keys.specs.Truth.{digest_by};
+ghost use Rattle.meta.specs.Checks as spec;
+ghost use Rattle.meta.specs.Answers.{Answers};
+ghost use Rattle.keys.specs.declared.judge.Algorithm.TheVariants.{Sha256, Sha512};
+
+use crate::fault::{Fault, Stop};
+use crate::hashes::Hashes;
+use cjson::NoMemory;
+use keys::{Algorithm, Ask, Judge};
+
+/// What may be listed of a file's content, beside the limit of its kind.
+#[derive(Clone, Copy)]
+pub(crate) struct Content {
+    pub limit: Option<u64>,
+    pub length: Option<u64>,
+    pub hashes: Option<Hashes>,
+}
+
+impl Content {
+    /// Whether the bytes are within the limit, and have the length and the digests that are listed.
+    pub(crate) fn check<J: Judge>(
+        &self,
+        file: &str,
+        bytes: &[u8],
+        judge: &mut J,
+    ) -> Result<(), Stop>
+        ensures { Answers (spec.content self.now.limit self.now.length self.now.hashes bytes.now) result (λ x. x) }
+    {
+        refuse_if(is_too_long(self.limit, bytes), Fault::TooLong)?;
+        refuse_if(is_length_wrong(self.length, bytes), Fault::LengthWrong)?;
+        let Some(hashes) = self.hashes else {
+            return Ok(());
+        };
+        refuse_if(
+            is_hash_wrong(&hashes, file, bytes, judge)?,
+            Fault::HashWrong,
+        )?;
+        refuse_if(has_no_known_hash(&hashes), Fault::NoKnownHash)?;
+        Ok(())
+    }
+}
+
+/// The fault, where the check fails.
+pub(crate) fn refuse_if(fails: bool, fault: Fault) -> Result<(), Fault>
+    ensures { result ≡ refuse_if fails fault }
+{
+    if fails { Err(fault) } else { Ok(()) }
+}
+
+fn is_too_long(limit: Option<u64>, bytes: &[u8]) -> bool
+    ensures { result ≡ spec.is_too_long limit bytes.now }
+{
+    match limit {
+        Some(limit) => bytes.len() as u64 > limit,
+        None => false,
+    }
+}
+
+fn is_length_wrong(length: Option<u64>, bytes: &[u8]) -> bool
+    ensures { result ≡ spec.is_length_wrong length bytes.now }
+{
+    match length {
+        Some(length) => length != bytes.len() as u64,
+        None => false,
+    }
+}
+
+fn has_no_known_hash(hashes: &Hashes) -> bool
+    ensures { result ≡ spec.has_no_known_hash hashes.now }
+{
+    hashes.sha256().is_none() && hashes.sha512().is_none()
+}
+
+fn is_hash_wrong<J: Judge>(
+    hashes: &Hashes,
+    file: &str,
+    bytes: &[u8],
+    judge: &mut J,
+) -> Result<bool, NoMemory>
+    ensures { IfOk result (λ b. b ≡ spec.is_hash_wrong hashes.now bytes.now) }
+{
+    Ok(is_sha256_wrong(hashes, file, bytes, judge)? || is_sha512_wrong(hashes, file, bytes, judge)?)
+}
+
+fn is_sha256_wrong<J: Judge>(
+    hashes: &Hashes,
+    file: &str,
+    bytes: &[u8],
+    judge: &mut J,
+) -> Result<bool, NoMemory>
+    ensures { IfOk result (λ b. b ≡ spec.differs hashes.now.sha256 (digest_by Sha256 bytes.now)) }
+{
+    let Some(digest) = hashes.sha256() else {
+        return Ok(false);
+    };
+    differs(Algorithm::Sha256, file, bytes, &digest, judge)
+}
+
+fn is_sha512_wrong<J: Judge>(
+    hashes: &Hashes,
+    file: &str,
+    bytes: &[u8],
+    judge: &mut J,
+) -> Result<bool, NoMemory>
+    ensures { IfOk result (λ b. b ≡ spec.differs hashes.now.sha512 (digest_by Sha512 bytes.now)) }
+{
+    let Some(digest) = hashes.sha512() else {
+        return Ok(false);
+    };
+    differs(Algorithm::Sha512, file, bytes, &digest, judge)
+}
+
+/// Whether the digest isn't that of the bytes.
+fn differs<J: Judge>(
+    algorithm: Algorithm,
+    file: &str,
+    bytes: &[u8],
+    digest: &[u8],
+    judge: &mut J,
+) -> Result<bool, NoMemory>
+    ensures { IfOk result (λ b. b ≡ not (bytes_eq digest.now (digest_by algorithm bytes.now))) }
+{
+    let ask = Ask::Digest {
+        file,
+        algorithm,
+        bytes,
+        digest,
+    };
+    Ok(!judge.valid(&ask)?)
+}

@@ -1,0 +1,179 @@
+ghost use Rattle.std.specs.Prelude.{◌≡◌};
+ghost use Rattle.std.specs.List.{list_all};
+ghost use Rattle.serde_json.specs.View.{view};
+ghost use Rattle.cjson.specs.Form as form_of;
+ghost use Rattle.meta.specs.Metadata as spec;
+ghost use Rattle.cjson.specs.Reads.{Reads};
+ghost use Rattle.meta.specs.Matcher.{ReadsMatcher};
+
+use cjson::Misread;
+use cjson::form::{FromJson, needed, optional};
+use cjson::list::Items;
+use cjson::text::Text;
+use keys::{KeyRing, RoleKeys};
+use serde_json::Value;
+use std::alloc::Global;
+use std::marker::Model;
+
+/// A pattern of paths.
+#[derive(Drop)]
+pub struct PathPattern {
+    text: Text,
+}
+
+impl Model for PathPattern {
+    ghost use Rattle.std.specs.Prelude.{List, ℕ};
+
+    ghost Value = { List ℕ };
+
+    ghost view = { λ p. p.text };
+}
+
+impl FromJson for PathPattern {
+    ghost form = { spec.text_that spec.is_pattern };
+
+    fn from_json(alloc: Global, value: &Value) -> Result<PathPattern, Misread> {
+        let text: Text = FromJson::from_json(alloc, value)?;
+        if !is_pattern(text.as_str()) {
+            return Err(Misread::Malformed);
+        }
+        Ok(PathPattern { text })
+    }
+}
+
+fn is_pattern(text: &str) -> bool
+    ensures { result ≡ spec.is_pattern text.now }
+{
+    text.as_bytes().iter().all(|c| *c != b'[')
+}
+
+/// The beginning of a path's digest.
+#[derive(Drop)]
+pub struct HashPrefix {
+    text: Text,
+}
+
+impl Model for HashPrefix {
+    ghost use Rattle.std.specs.Prelude.{List, ℕ};
+
+    ghost Value = { List ℕ };
+
+    ghost view = { λ p. p.text };
+}
+
+impl FromJson for HashPrefix {
+    ghost form = { spec.text_that spec.is_prefix };
+
+    fn from_json(alloc: Global, value: &Value) -> Result<HashPrefix, Misread> {
+        let text: Text = FromJson::from_json(alloc, value)?;
+        if !is_prefix(text.as_str()) {
+            return Err(Misread::Malformed);
+        }
+        Ok(HashPrefix { text })
+    }
+}
+
+fn is_prefix(digits: &str) -> bool
+    ensures { result ≡ spec.is_prefix digits.now }
+{
+    if digits.is_empty() || digits.len() > 64 {
+        return false;
+    }
+    are_lower_digits(digits.as_bytes())
+}
+
+fn are_lower_digits(bytes: &[u8]) -> bool
+    ensures { result ≡ list_all spec.is_lower_digit bytes.now }
+{
+    bytes.iter().all(|c| is_lower_digit(*c))
+}
+
+fn is_lower_digit(c: u8) -> bool
+    ensures { result ≡ spec.is_lower_digit c }
+{
+    matches!(c, b'0'..=b'9' | b'a'..=b'f')
+}
+
+#[derive(Drop)]
+enum Paths {
+    Patterns(Items<PathPattern>),
+    Prefixes(Items<HashPrefix>),
+}
+
+/// A delegation to a role.
+#[derive(Drop)]
+pub struct Delegation {
+    name: Text,
+    keys: RoleKeys,
+    terminating: bool,
+    paths: Paths,
+}
+
+impl Model for Delegation {
+    ghost use Rattle.meta.specs.Metadata as spec;
+    ghost use Rattle.meta.specs.Matcher.{matcher_of};
+
+    ghost Value = { spec.Delegation };
+
+    ghost view = { λ a. record { name = a.name; keys = a.keys; terminating = a.terminating; matcher = matcher_of a.paths } };
+}
+
+impl FromJson for Delegation {
+    ghost form = { spec.delegation };
+
+    fn from_json(alloc: Global, value: &Value) -> Result<Delegation, Misread> {
+        let name = needed(alloc, value, "name")?;
+        let keys = RoleKeys::from_json(alloc, value)?;
+        let terminating = flag(alloc, value, "terminating")?;
+        let paths = read_paths(alloc, value)?;
+        Ok(Delegation {
+            name,
+            keys,
+            terminating,
+            paths,
+        })
+    }
+}
+
+pub(crate) fn flag(alloc: Global, value: &Value, name: &str) -> Result<bool, Misread>
+    ensures { Reads (spec.flag name.now (view value.now)) result }
+{
+    Ok(optional(alloc, value, name)?.unwrap_or(false))
+}
+
+fn read_paths(alloc: Global, value: &Value) -> Result<Paths, Misread>
+    ensures { ReadsMatcher (spec.matcher (view value.now)) result }
+{
+    let patterns = optional(alloc, value, "paths")?;
+    let prefixes = optional(alloc, value, "path_hash_prefixes")?;
+    match (patterns, prefixes) {
+        (Some(found), None) => Ok(Paths::Patterns(found)),
+        (None, Some(found)) => Ok(Paths::Prefixes(found)),
+        _ => Err(Misread::Malformed),
+    }
+}
+
+/// The delegations of a targets file.
+#[derive(Drop)]
+pub struct Delegations {
+    ring: KeyRing,
+    roles: Items<Delegation>,
+}
+
+impl Model for Delegations {
+    ghost use Rattle.meta.specs.Metadata as spec;
+
+    ghost Value = { spec.Delegations };
+
+    ghost view = { λ a. record { ring = a.ring; roles = a.roles } };
+}
+
+impl FromJson for Delegations {
+    ghost form = { spec.delegations };
+
+    fn from_json(alloc: Global, value: &Value) -> Result<Delegations, Misread> {
+        let ring = needed(alloc, value, "keys")?;
+        let roles = needed(alloc, value, "roles")?;
+        Ok(Delegations { ring, roles })
+    }
+}

@@ -1,0 +1,24 @@
+use crate::listing::Listing;
+use keys::{KeyRing, RoleKeys};
+
+/// Whether a file has to be listed by another, and how it is.
+#[derive(Clone, Copy)]
+pub enum Listed<'a> {
+    /// No file lists it: roots and the timestamp.
+    NotDue,
+    /// It should be listed, and isn't.
+    Absent,
+    As(&'a Listing),
+}
+
+/// What is expected of a file, whatever its kind.
+#[derive(Clone, Copy)]
+pub struct Expect<'a> {
+    /// The file's name in the repository.
+    pub name: &'a str,
+    pub listed: Listed<'a>,
+    /// The keys of the file that delegates to it.
+    pub ring: &'a KeyRing,
+    /// Which of the keys must sign, and how many.
+    pub role: &'a RoleKeys,
+}

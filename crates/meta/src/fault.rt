@@ -1,0 +1,118 @@
+ghost use Rattle.std.specs.Prelude.{◌≡◌};
+ghost use Rattle.meta.specs.Reads.{read_fault};
+ghost use Rattle.meta.specs.Answers.{stop_of};
+ghost use Rattle.meta.specs.declared.fault.Stop.TheVariants as stop;
+
+use cjson::{Misread, NoMemory};
+use std::alloc::{AllocError, AllocFailed};
+use thiserror::Error;
+
+/// Why a file is refused (TUF 1.0 section 5): the first check that it fails, in this order of
+/// the checks: listed, present, limit, length, hashes, form, signatures, version, rollback, expiry.
+#[derive(Clone, Copy, Debug, PartialEq, Eq)]
+pub enum Fault {
+    /// The snapshot has no listing for the role.
+    NotListed = 1,
+    /// The repository has no file of that name.
+    Missing = 2,
+    /// The file is longer than its kind's limit.
+    TooLong = 3,
+    /// The file has another length than listed.
+    LengthWrong = 4,
+    /// A listed digest of a known algorithm isn't the file's.
+    HashWrong = 5,
+    /// Digests are listed, and none of a known algorithm.
+    NoKnownHash = 6,
+    /// The file hasn't the form of its kind.
+    Malformed = 7,
+    /// Fewer distinct keys signed than the role asks for.
+    Unsigned = 8,
+    /// The version isn't the one that is due.
+    VersionWrong = 9,
+    /// The file falls below what is trusted, or leaves out a name.
+    Rollback = 10,
+    /// The file expires no later than the moment.
+    Expired = 11,
+    /// The targets file delegates to succinct roles.
+    SuccinctRoles = 12,
+}
+
+/// Why a document was not read as a file of its kind.
+#[derive(Clone, Copy, Debug, PartialEq, Eq, Error)]
+pub enum ReadFault {
+    /// The document hasn't the form of the kind.
+    #[error("not of the form")]
+    Malformed,
+    /// `delegations` of a targets file is an object with `succinct_roles`.
+    #[error("succinct roles")]
+    SuccinctRoles,
+    /// Memory was refused.
+    #[error("out of memory")]
+    NoMemory,
+}
+
+/// Why the checks of a file end early.
+#[derive(Clone, Copy, Debug, PartialEq, Eq, Error)]
+pub enum Stop {
+    /// The file is refused.
+    #[error("the file is refused")]
+    Refused(Fault),
+    /// Memory was refused.
+    #[error("out of memory")]
+    NoMemory,
+}
+
+impl From<Misread> for ReadFault {
+    ghost from_gives = { λ m e. e ≡ read_fault m };
+
+    fn from(misread: Misread) -> ReadFault {
+        match misread {
+            Misread::Malformed => ReadFault::Malformed,
+            Misread::NoMemory => ReadFault::NoMemory,
+        }
+    }
+}
+
+impl From<Fault> for Stop {
+    ghost from_gives = { λ f e. e ≡ stop.Refused f };
+
+    fn from(fault: Fault) -> Stop {
+        Stop::Refused(fault)
+    }
+}
+
+impl From<ReadFault> for Stop {
+    ghost from_gives = { λ f e. e ≡ stop_of f };
+
+    fn from(fault: ReadFault) -> Stop {
+        match fault {
+            ReadFault::Malformed => Stop::Refused(Fault::Malformed),
+            ReadFault::SuccinctRoles => Stop::Refused(Fault::SuccinctRoles),
+            ReadFault::NoMemory => Stop::NoMemory,
+        }
+    }
+}
+
+impl From<NoMemory> for Stop {
+    ghost from_gives = { λ _ e. e ≡ stop.NoMemory };
+
+    fn from(_refused: NoMemory) -> Stop {
+        Stop::NoMemory
+    }
+}
+
+impl From<AllocError> for Stop {
+    ghost from_gives = { λ _ e. e ≡ stop.NoMemory };
+
+    fn from(_refused: AllocError) -> Stop {
+        Stop::NoMemory
+    }
+}
+
+impl<T: Drop> From<AllocFailed<T>> for Stop {
+    ghost from_gives = { λ _ e. e ≡ stop.NoMemory };
+
+    fn from(_refused: AllocFailed<T>) -> Stop {
+        Stop::NoMemory
+    }
+}

@@ -1,0 +1,73 @@
+ghost use Rattle.std.specs.Prelude.{◌≡◌, codes};
+ghost use Rattle.serde_json.specs.View.{view};
+ghost use Rattle.cjson.specs.Form as form_of;
+ghost use Rattle.meta.specs.Metadata as spec;
+ghost use Rattle.cjson.specs.Reads.{Reads};
+
+use crate::moment::Moment;
+use cjson::Misread;
+use cjson::form::needed;
+use cjson::number::Positive;
+use cjson::text::is_text;
+use serde_json::Value;
+use std::alloc::Global;
+use std::marker::Model;
+
+/// What all kinds of metadata have (TUF 1.0 section 4.3).
+#[derive(Clone, Copy)]
+pub struct Header {
+    version: Positive,
+    expires: Moment,
+}
+
+impl Model for Header {
+    ghost use Rattle.meta.specs.Metadata as spec;
+
+    ghost Value = { spec.Header };
+
+    ghost view = { λ a. record { version = a.version; expires = a.expires } };
+
+    ghost inverse = { λ a. record { version = a.version; expires = a.expires } };
+}
+
+impl Header {
+    /// The version, 1 to 9223372036854775807.
+    pub fn version(&self) -> u64
+        ensures { result ≡ self.now.version }
+    {
+        self.version.get()
+    }
+
+    /// The first moment at which the file is expired.
+    pub fn expires(&self) -> Moment
+        ensures { result ≡ self.now.expires }
+    {
+        self.expires
+    }
+}
+
+pub(crate) fn read_header(alloc: Global, kind: &str, value: &Value) -> Result<Header, Misread>
+    ensures { Reads (spec.header kind.now (view value.now)) result }
+{
+    if !is_text(value, "_type", kind) || !is_of_version_one(value) {
+        return Err(Misread::Malformed);
+    }
+    let version = needed(alloc, value, "version")?;
+    let expires = expires(value).ok_or(Misread::Malformed)?;
+    Ok(Header { version, expires })
+}
+
+fn is_of_version_one(value: &Value) -> bool
+    ensures { result ≡ form_of.has_text (codes "spec_version") (spec.begins_with (codes "1.")) (view value.now) }
+{
+    match value.get("spec_version").and_then(Value::as_str) {
+        Some(found) => found.as_bytes().starts_with(b"1."),
+        None => false,
+    }
+}
+
+fn expires(value: &Value) -> Option<Moment>
+    ensures { result ≡ form_of.needed (codes "expires") spec.moment_text (view value.now) }
+{
+    Moment::read(value.get("expires")?.as_str()?)
+}

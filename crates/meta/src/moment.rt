@@ -1,0 +1,178 @@
+//! Moments of the calendar, and the text that `expires` has (TUF 1.0 section 4.2.1).
+ghost use Rattle.std.specs.Prelude.{◌≡◌, ◌+◌, ◌*◌, ◌/◌, ◌%◌, ◌<◌, ◌≤◌, pos, IfSome, IsNone, IsSome, ◌↔◌, [], ◌∷◌, ℕ};
+ghost use Rattle.jiff_core.specs.Calendar.{IsDate, days_from_civil};
+ghost use Rattle.meta.specs.Moment as spec;
+
+use jiff::civil::Date;
+use std::marker::Model;
+
+/// The day number of 31 December 9999.
+const LAST_DAY: u64 = 2_932_896;
+
+const SECONDS_OF_DAY: u64 = 86_400;
+
+/// A second of the calendar, in UTC.
+#[derive(Clone, Copy, Debug, PartialEq, Eq, PartialOrd, Ord)]
+pub struct Moment {
+    day: i32,
+    second: u32,
+}
+
+impl Model for Moment {
+    ghost use Rattle.meta.specs.Moment as spec;
+
+    ghost Value = { spec.Moment };
+
+    ghost view = { λ m. record { day = m.day; second = m.second } };
+
+    ghost inverse = { λ m. record { day = m.day; second = m.second } };
+}
+
+impl Moment {
+    /// The moment that a text of the form `YYYY-MM-DDTHH:MM:SSZ` spells, for a real date from year
+    /// 0000 to 9999, hours 00 to 23, and minutes and seconds 00 to 59 (TUF 1.0 section 4.2.1). `None`
+    /// for any other text.
+    #[tactic(auto, using(crate::proofs::Stamps::no_moment, crate::proofs::Stamps::the_moment))]
+    pub fn read(text: &str) -> Option<Moment>
+        ensures value { result ≡ spec.moment_of text.now }
+        ensures some { IfSome result (λ m. spec.IsMomentText text.now m) }
+        ensures none { IsNone result → (m : spec.Moment) → spec.IsMomentText text.now m → ⊥ }
+    {
+        let [
+            y1,
+            y2,
+            y3,
+            y4,
+            b'-',
+            m1,
+            m2,
+            b'-',
+            d1,
+            d2,
+            b'T',
+            h1,
+            h2,
+            b':',
+            i1,
+            i2,
+            b':',
+            s1,
+            s2,
+            b'Z',
+        ] = text.as_bytes()
+        else {
+            return None;
+        };
+        let year = 100 * u16::from(number(*y1, *y2)?) + u16::from(number(*y3, *y4)?);
+        let month = number(*m1, *m2)?;
+        let day = number(*d1, *d2)?;
+        let hour = number(*h1, *h2)?;
+        let minute = number(*i1, *i2)?;
+        let second = second_of_day(hour, minute, number(*s1, *s2)?)?;
+        let day = day_number(year, month, day)?;
+        Some(Moment { day, second })
+    }
+
+    /// The moment that many seconds after 1970-01-01T00:00:00Z. `None` past the year 9999.
+    pub fn at(seconds: u64) -> Option<Moment>
+        ensures some { IsSome result ↔ (seconds / 86_400 ≤ 2_932_896) }
+        ensures day { IfSome result (λ m. m.day ≡ pos (seconds / 86_400)) }
+        ensures second { IfSome result (λ m. m.second ≡ seconds % 86_400) }
+    {
+        let days = seconds / SECONDS_OF_DAY;
+        if days > LAST_DAY {
+            return None;
+        }
+        Some(Moment {
+            day: days as i32,
+            second: (seconds % SECONDS_OF_DAY) as u32,
+        })
+    }
+
+    /// The days since 1970-01-01, negative before it.
+    pub fn day(&self) -> i32
+        ensures { result ≡ self.now.day }
+    {
+        self.day
+    }
+
+    /// The seconds since midnight.
+    pub fn second(&self) -> u32
+        ensures { result ≡ self.now.second }
+    {
+        self.second
+    }
+
+    /// Whether this moment comes before the other; no moment comes before itself.
+    pub fn is_before(self, other: Moment) -> bool
+        ensures { result ≡ spec.is_before self other }
+    {
+        self < other
+    }
+}
+
+/// The number that two decimal digits spell.
+fn number(tens: u8, ones: u8) -> Option<u8>
+    ensures value { IfSome result (λ n. (n < 100) × (spec.two_digits n ≡ tens ∷ ones ∷ [])) }
+    ensures none { IsNone result → (n : ℕ) → n < 100 → spec.two_digits n ≡ tens ∷ ones ∷ [] → ⊥ }
+{
+    match (tens, ones) {
+        (b'0'..=b'9', b'0'..=b'9') => Some(10 * (tens - b'0') + (ones - b'0')),
+        _ => None,
+    }
+}
+
+/// The seconds from midnight to that time of day.
+fn second_of_day(hour: u8, minute: u8, second: u8) -> Option<u32>
+    ensures value { IfSome result (λ n. (hour < 24) × (minute < 60) × (second < 60)
+        × (n ≡ 3600 * hour + 60 * minute + second)) }
+    ensures none { IsNone result → hour < 24 → minute < 60 → second < 60 → ⊥ }
+{
+    if hour >= 24 || minute >= 60 || second >= 60 {
+        return None;
+    }
+    Some(3600 * u32::from(hour) + 60 * u32::from(minute) + u32::from(second))
+}
+
+/// The day number of that date, where the calendar has it.
+fn day_number(year: u16, month: u8, day: u8) -> Option<i32>
+    requires year_fits { year < 10_000 }
+    requires month_fits { month < 100 }
+    requires day_fits { day < 100 }
+    ensures value { IfSome result (λ n. IsDate (pos year) (pos month) (pos day)
+        × (n ≡ days_from_civil (pos year) month day)) }
+    ensures none { IsNone result → IsDate (pos year) (pos month) (pos day) → ⊥ }
+{
+    match Date::new(year as i16, month as i8, day as i8) {
+        Ok(date) => Some(date.to_plain().to_unix_epoch_day()),
+        Err(_) => None,
+    }
+}
+
+#[cfg(test)]
+mod tests {
+    use super::Moment;
+
+    #[test]
+    fn moments(rt: HostRuntime) {
+        for (text, seconds) in [
+            ("1970-01-01T00:00:00Z", 0),
+            ("2026-01-01T00:00:00Z", 1_767_225_600),
+            ("9999-12-31T23:59:59Z", 253_402_300_799),
+        ] {
+            let moment = Moment::read(text);
+            assert!(rt; moment.is_some(), "{text}");
+            assert_eq!(rt; moment, Moment::at(seconds), "{text}");
+        }
+        assert_eq!(rt; Moment::at(253_402_300_800), None);
+        assert_eq!(rt; Moment::read("2026-02-29T00:00:00Z"), None);
+        let (Some(first), Some(second)) = (Moment::at(86_399), Moment::at(86_400)) else {
+            return;
+        };
+        assert_eq!(rt; (first.day(), first.second()), (0, 86_399));
+        assert_eq!(rt; (second.day(), second.second()), (1, 0));
+        assert!(rt; first.is_before(second));
+        assert!(rt; !second.is_before(first));
+        assert!(rt; !first.is_before(first));
+    }
+}

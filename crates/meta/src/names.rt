@@ -1,0 +1,77 @@
+//! The names under which files lie in a repository (TUF 1.0, consistent snapshots).
+ghost use Rattle.std.specs.Prelude.{◌≡◌, IfOk, string_bytes};
+ghost use Rattle.hex.specs.Hex.{encode_lower};
+ghost use Rattle.meta.specs.Names as spec;
+
+use std::alloc::{AllocError, Global};
+
+/// The file of the root of that version: `VERSION.root.json`.
+pub fn root_name(alloc: Global, version: u64) -> Result<String, AllocError>
+    ensures { IfOk result (λ s. string_bytes s ≡ spec.root_name version) }
+{
+    format!(in alloc; "{version}.root.json")
+}
+
+/// The name of a role's file, as the snapshot lists it: `ROLE.json`.
+pub fn role_name(alloc: Global, role: &str) -> Result<String, AllocError>
+    ensures { IfOk result (λ s. string_bytes s ≡ spec.role_name role.now) }
+{
+    format!(in alloc; "{role}.json")
+}
+
+/// The file of that name and version: `VERSION.NAME` under consistent snapshots, else `NAME`.
+pub fn versioned(
+    alloc: Global,
+    consistent: bool,
+    version: u64,
+    name: &str,
+) -> Result<String, AllocError>
+    ensures { IfOk result (λ s. string_bytes s ≡ spec.versioned consistent version name.now) }
+{
+    if consistent {
+        format!(in alloc; "{version}.{name}")
+    } else {
+        format!(in alloc; "{name}")
+    }
+}
+
+/// The file of a target with that digest, under consistent snapshots: `DIR/HASH.BASE`, where `BASE`
+/// is what follows the last `/` of the path and `HASH` the digest in lower-case hexadecimal.
+#[tactic(auto, using(crate::proofs::Hashed::in_folder, crate::proofs::Hashed::no_folder))]
+pub fn hashed(alloc: Global, digest: &[u8], path: &str) -> Result<String, AllocError>
+    ensures { IfOk result (λ s. string_bytes s ≡ spec.hashed (encode_lower digest.now) path.now) }
+{
+    let hash = hex::encode(alloc, digest)?;
+    match path.rsplit_once('/') {
+        Some((dir, base)) => format!(in alloc; "{dir}/{hash}.{base}"),
+        None => format!(in alloc; "{hash}.{path}"),
+    }
+}
+
+#[cfg(test)]
+mod tests {
+    use super::{hashed, role_name, root_name, versioned};
+    use std::test::Fail;
+
+    #[test]
+    fn names(rt: HostRuntime) -> Result<(), Fail> {
+        let alloc = rt.alloc();
+        assert_eq!(rt; root_name(alloc, 1)?.as_str(), "1.root.json");
+        assert_eq!(rt; role_name(alloc, "targets")?.as_str(), "targets.json");
+        assert_eq!(rt;
+            versioned(alloc, true, 42, "snapshot.json")?.as_str(),
+            "42.snapshot.json"
+        );
+        assert_eq!(rt;
+            versioned(alloc, false, 42, "snapshot.json")?.as_str(),
+            "snapshot.json"
+        );
+        let digest = [0xe3, 0xb0, 0xc4, 0x42];
+        assert_eq!(rt;
+            hashed(alloc, &digest, "a/b/c.txt")?.as_str(),
+            "a/b/e3b0c442.c.txt"
+        );
+        assert_eq!(rt; hashed(alloc, &digest, "c.txt")?.as_str(), "e3b0c442.c.txt");
+        Ok(())
+    }
+}

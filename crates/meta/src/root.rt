@@ -1,0 +1,130 @@
+ghost use Rattle.std.specs.Prelude.{◌≡◌, codes};
+ghost use Rattle.serde_json.specs.View.{view};
+ghost use Rattle.meta.specs.Metadata as spec;
+ghost use Rattle.meta.specs.Reads.{ReadsFile, root_of, timestamp_of, snapshot_of, targets_of};
+ghost use Rattle.cjson.specs.Reads.{Reads};
+ghost use Rattle.cjson.specs.DocOf.{doc_of};
+
+use crate::delegation::flag;
+use crate::fault::ReadFault;
+use crate::header::{Header, read_header};
+use cjson::form::needed;
+use cjson::{Doc, Misread};
+use keys::{KeyRing, RoleKeys};
+use serde_json::Value;
+use std::alloc::Global;
+use std::marker::Model;
+
+/// What a root file says (TUF 1.0 section 4.3).
+#[derive(Drop)]
+pub struct Root {
+    header: Header,
+    ring: KeyRing,
+    root: RoleKeys,
+    timestamp: RoleKeys,
+    snapshot: RoleKeys,
+    targets: RoleKeys,
+    consistent: bool,
+}
+
+impl Model for Root {
+    ghost use Rattle.meta.specs.Metadata as spec;
+
+    ghost Value = { spec.Root };
+
+    ghost view = { λ a. record {
+      header = a.header;
+      ring = a.ring;
+      root = a.root;
+      timestamp = a.timestamp;
+      snapshot = a.snapshot;
+      targets = a.targets;
+      consistent = a.consistent;
+    } };
+}
+
+impl Root {
+    /// The version, and when the file expires.
+    pub fn header(&self) -> &Header
+        ensures { result.now ≡ self.now.header }
+    {
+        &self.header
+    }
+
+    /// The usable keys.
+    pub fn ring(&self) -> &KeyRing
+        ensures { result.now ≡ self.now.ring }
+    {
+        &self.ring
+    }
+
+    /// The keys of the root role.
+    pub fn root(&self) -> &RoleKeys
+        ensures { result.now ≡ self.now.root }
+    {
+        &self.root
+    }
+
+    /// The keys of the timestamp role.
+    pub fn timestamp(&self) -> &RoleKeys
+        ensures { result.now ≡ self.now.timestamp }
+    {
+        &self.timestamp
+    }
+
+    /// The keys of the snapshot role.
+    pub fn snapshot(&self) -> &RoleKeys
+        ensures { result.now ≡ self.now.snapshot }
+    {
+        &self.snapshot
+    }
+
+    /// The keys of the top-level targets role.
+    pub fn targets(&self) -> &RoleKeys
+        ensures { result.now ≡ self.now.targets }
+    {
+        &self.targets
+    }
+
+    /// Whether names carry versions and digests (consistent snapshots).
+    pub fn consistent(&self) -> bool
+        ensures { result ≡ self.now.consistent }
+    {
+        self.consistent
+    }
+}
+
+/// Reads a document as a root file (TUF 1.0 section 4.3).
+pub fn read_root(alloc: Global, doc: &Doc) -> Result<Root, ReadFault>
+    ensures { ReadsFile (root_of (doc_of doc.now)) result }
+{
+    Ok(parse(alloc, doc.tree())?)
+}
+
+fn parse(alloc: Global, value: &Value) -> Result<Root, Misread>
+    ensures { Reads (spec.root (view value.now)) result }
+{
+    let header = read_header(alloc, "root", value)?;
+    let ring = needed(alloc, value, "keys")?;
+    let root = role_of(alloc, value, "root")?;
+    let timestamp = role_of(alloc, value, "timestamp")?;
+    let snapshot = role_of(alloc, value, "snapshot")?;
+    let targets = role_of(alloc, value, "targets")?;
+    let consistent = flag(alloc, value, "consistent_snapshot")?;
+    Ok(Root {
+        header,
+        ring,
+        root,
+        timestamp,
+        snapshot,
+        targets,
+        consistent,
+    })
+}
+
+fn role_of(alloc: Global, value: &Value, name: &str) -> Result<RoleKeys, Misread>
+    ensures { Reads (spec.role_of name.now (view value.now)) result }
+{
+    let roles = value.get("roles").ok_or(Misread::Malformed)?;
+    needed(alloc, roles, name)
+}

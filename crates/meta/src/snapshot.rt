@@ -1,0 +1,106 @@
+ghost use Rattle.std.specs.Prelude.{◌≡◌};
+ghost use Rattle.serde_json.specs.View.{view};
+ghost use Rattle.meta.specs.Metadata as spec;
+ghost use Rattle.meta.specs.Reads.{ReadsFile, root_of, timestamp_of, snapshot_of, targets_of};
+ghost use Rattle.cjson.specs.Reads.{Reads};
+ghost use Rattle.cjson.specs.DocOf.{doc_of};
+
+use crate::fault::ReadFault;
+use crate::header::{Header, read_header};
+use crate::listing::Listing;
+use cjson::form::FromJson;
+use cjson::list::Items;
+use cjson::members::{FromMember, read_members};
+use cjson::text::Text;
+use cjson::{Doc, Misread};
+use serde_json::Value;
+use std::alloc::Global;
+use std::marker::Model;
+
+/// A file's name with its listing (TUF 1.0 section 4.4).
+#[derive(Drop)]
+pub struct Named {
+    name: Text,
+    listing: Listing,
+}
+
+impl Model for Named {
+    ghost use Rattle.meta.specs.Metadata as spec;
+
+    ghost Value = { spec.Named };
+
+    ghost view = { λ a. record { name = a.name; listing = a.listing } };
+}
+
+impl Named {
+    /// The name of the file, without its version.
+    pub fn name(&self) -> &str
+        ensures { result.now ≡ self.now.name }
+    {
+        self.name.as_str()
+    }
+
+    /// How the file is listed.
+    pub fn listing(&self) -> &Listing
+        ensures { result.now ≡ self.now.listing }
+    {
+        &self.listing
+    }
+}
+
+impl FromMember for Named {
+    ghost member_form = { spec.named };
+
+    fn from_member(alloc: Global, name: &str, value: &Value) -> Result<Named, Misread> {
+        let listing = Listing::from_json(alloc, value)?;
+        let name = Text::new(String::from_str(alloc, name)?);
+        Ok(Named { name, listing })
+    }
+}
+
+/// What a snapshot file says (TUF 1.0 section 4.4).
+#[derive(Drop)]
+pub struct Snapshot {
+    header: Header,
+    files: Items<Named>,
+}
+
+impl Model for Snapshot {
+    ghost use Rattle.meta.specs.Metadata as spec;
+
+    ghost Value = { spec.Snapshot };
+
+    ghost view = { λ a. record { header = a.header; files = a.files } };
+}
+
+impl Snapshot {
+    /// The version, and when the file expires.
+    pub fn header(&self) -> &Header
+        ensures { result.now ≡ self.now.header }
+    {
+        &self.header
+    }
+
+    /// The listed files, in byte order of their names.
+    pub fn files(&self) -> &[Named]
+        ensures { result.now ≡ self.now.files }
+    {
+        self.files.as_slice()
+    }
+}
+
+/// Reads a document as a snapshot file (TUF 1.0 section 4.4).
+pub fn read_snapshot(alloc: Global, doc: &Doc) -> Result<Snapshot, ReadFault>
+    ensures { ReadsFile (snapshot_of (doc_of doc.now)) result }
+{
+    Ok(parse(alloc, doc.tree())?)
+}
+
+fn parse(alloc: Global, value: &Value) -> Result<Snapshot, Misread>
+    ensures { Reads (spec.snapshot (view value.now)) result }
+{
+    let header = read_header(alloc, "snapshot", value)?;
+    let meta = value.get("meta").ok_or(Misread::Malformed)?;
+    let files = read_members(alloc, meta)?;
+    Ok(Snapshot { header, files })
+}

@@ -1,0 +1,168 @@
+ghost use Rattle.std.specs.Prelude.{◌≡◌, Some, option_map};
+ghost use Rattle.serde_json.specs.View.{view};
+ghost use Rattle.meta.specs.Answers.{Answers};
+ghost use Rattle.meta.specs.Checks.{content};
+ghost use Rattle.meta.specs.Metadata as spec;
+ghost use Rattle.meta.specs.Reads.{ReadsFile, targets_of};
+ghost use Rattle.cjson.specs.Reads.{Reads};
+ghost use Rattle.cjson.specs.DocOf.{doc_of};
+
+use crate::content::Content;
+use crate::delegation::Delegations;
+use crate::fault::{ReadFault, Stop};
+use crate::hashes::Hashes;
+use crate::header::{Header, read_header};
+use cjson::form::{needed, optional};
+use cjson::list::Items;
+use cjson::members::{FromMember, read_members};
+use cjson::number::Length;
+use cjson::text::Text;
+use cjson::{Doc, Misread};
+use keys::Judge;
+use serde_json::Value;
+use std::alloc::Global;
+use std::marker::Model;
+
+/// A listed target (TUF 1.0 section 4.5).
+#[derive(Drop)]
+pub struct Target {
+    path: Text,
+    length: Length,
+    hashes: Hashes,
+}
+
+impl Model for Target {
+    ghost use Rattle.meta.specs.Metadata as spec;
+
+    ghost Value = { spec.Target };
+
+    ghost view = { λ a. record { path = a.path; length = a.length; hashes = a.hashes } };
+}
+
+impl Target {
+    /// The target's path.
+    pub fn path(&self) -> &str
+        ensures { result.now ≡ self.now.path }
+    {
+        self.path.as_str()
+    }
+
+    /// The file's length in bytes.
+    pub fn length(&self) -> u64
+        ensures { result ≡ self.now.length }
+    {
+        self.length.get()
+    }
+
+    /// The file's digests.
+    pub fn hashes(&self) -> Hashes
+        ensures { result ≡ self.now.hashes }
+    {
+        self.hashes
+    }
+
+    /// Whether the bytes of the target's file are within the limit, and have the listed length and
+    /// digests: the first of these checks that fails (TUF 1.0 section 5.7).
+    pub fn check<J: Judge>(
+        &self,
+        bytes: &[u8],
+        limit: Option<u64>,
+        judge: &mut J,
+    ) -> Result<(), Stop>
+        ensures { Answers (content limit (Some self.now.length) (Some self.now.hashes) bytes.now) result (λ x. x) }
+    {
+        let listed = Content {
+            limit,
+            length: Some(self.length()),
+            hashes: Some(self.hashes),
+        };
+        listed.check(self.path(), bytes, judge)
+    }
+}
+
+impl FromMember for Target {
+    ghost member_form = { spec.target };
+
+    fn from_member(alloc: Global, name: &str, value: &Value) -> Result<Target, Misread> {
+        let length = needed(alloc, value, "length")?;
+        let hashes = needed(alloc, value, "hashes")?;
+        let path = Text::new(String::from_str(alloc, name)?);
+        Ok(Target {
+            path,
+            length,
+            hashes,
+        })
+    }
+}
+
+/// What a targets file says (TUF 1.0 section 4.5).
+#[derive(Drop)]
+pub struct Targets {
+    header: Header,
+    targets: Items<Target>,
+    delegations: Option<Delegations>,
+}
+
+impl Model for Targets {
+    ghost use Rattle.meta.specs.Metadata as spec;
+
+    ghost Value = { spec.Targets };
+
+    ghost view = { λ a. record { header = a.header; targets = a.targets; delegations = a.delegations } };
+}
+
+impl Targets {
+    /// The version, and when the file expires.
+    pub fn header(&self) -> &Header
+        ensures { result.now ≡ self.now.header }
+    {
+        &self.header
+    }
+
+    /// The listed targets, in byte order of their paths.
+    pub fn targets(&self) -> &[Target]
+        ensures { result.now ≡ self.now.targets }
+    {
+        self.targets.as_slice()
+    }
+
+    /// The delegations, where the file has any.
+    pub fn delegations(&self) -> Option<&Delegations>
+        ensures { option_map (λ d. d.now) result ≡ self.now.delegations }
+    {
+        self.delegations.as_ref()
+    }
+}
+
+/// Reads a document as a targets file (TUF 1.0 section 4.5); succinct roles are asked first.
+pub fn read_targets(alloc: Global, doc: &Doc) -> Result<Targets, ReadFault>
+    ensures { ReadsFile (targets_of (doc_of doc.now)) result }
+{
+    let signed = doc.tree();
+    if has_succinct_roles(signed) {
+        return Err(ReadFault::SuccinctRoles);
+    }
+    Ok(parse(alloc, signed)?)
+}
+
+fn has_succinct_roles(value: &Value) -> bool
+    ensures { result ≡ spec.has_succinct_roles (view value.now) }
+{
+    value
+        .get("delegations")
+        .is_some_and(|found| found.get("succinct_roles").is_some())
+}
+
+fn parse(alloc: Global, value: &Value) -> Result<Targets, Misread>
+    ensures { Reads (spec.targets (view value.now)) result }
+{
+    let header = read_header(alloc, "targets", value)?;
+    let listed = value.get("targets").ok_or(Misread::Malformed)?;
+    let targets = read_members(alloc, listed)?;
+    let delegations = optional(alloc, value, "delegations")?;
+    Ok(Targets {
+        header,
+        targets,
+        delegations,
+    })
+}

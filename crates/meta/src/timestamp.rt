@@ -1,0 +1,62 @@
+ghost use Rattle.std.specs.Prelude.{◌≡◌};
+ghost use Rattle.serde_json.specs.View.{view};
+ghost use Rattle.meta.specs.Metadata as spec;
+ghost use Rattle.meta.specs.Reads.{ReadsFile, root_of, timestamp_of, snapshot_of, targets_of};
+ghost use Rattle.cjson.specs.Reads.{Reads};
+ghost use Rattle.cjson.specs.DocOf.{doc_of};
+
+use crate::fault::ReadFault;
+use crate::header::{Header, read_header};
+use crate::listing::Listing;
+use cjson::form::needed;
+use cjson::{Doc, Misread};
+use serde_json::Value;
+use std::alloc::Global;
+use std::marker::Model;
+
+/// What a timestamp file says (TUF 1.0 section 4.6).
+#[derive(Drop)]
+pub struct Timestamp {
+    header: Header,
+    snapshot: Listing,
+}
+
+impl Model for Timestamp {
+    ghost use Rattle.meta.specs.Metadata as spec;
+
+    ghost Value = { spec.Timestamp };
+
+    ghost view = { λ a. record { header = a.header; snapshot = a.snapshot } };
+}
+
+impl Timestamp {
+    /// The version, and when the file expires.
+    pub fn header(&self) -> &Header
+        ensures { result.now ≡ self.now.header }
+    {
+        &self.header
+    }
+
+    /// How the snapshot file is listed.
+    pub fn snapshot(&self) -> &Listing
+        ensures { result.now ≡ self.now.snapshot }
+    {
+        &self.snapshot
+    }
+}
+
+/// Reads a document as a timestamp file (TUF 1.0 section 4.6).
+pub fn read_timestamp(alloc: Global, doc: &Doc) -> Result<Timestamp, ReadFault>
+    ensures { ReadsFile (timestamp_of (doc_of doc.now)) result }
+{
+    Ok(parse(alloc, doc.tree())?)
+}
+
+fn parse(alloc: Global, value: &Value) -> Result<Timestamp, Misread>
+    ensures { Reads (spec.timestamp (view value.now)) result }
+{
+    let header = read_header(alloc, "timestamp", value)?;
+    let meta = value.get("meta").ok_or(Misread::Malformed)?;
+    let snapshot = needed(alloc, meta, "snapshot.json")?;
+    Ok(Timestamp { header, snapshot })
+}

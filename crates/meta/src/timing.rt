@@ -1,0 +1,71 @@
+ghost use Rattle.std.specs.Prelude.{◌≡◌, false, option_map};
+ghost use Rattle.std.specs.Option.{option_map_or};
+ghost use Rattle.meta.specs.Checks as spec;
+
+use crate::header::Header;
+use crate::moment::Moment;
+use crate::snapshot::{Named, Snapshot};
+use crate::timestamp::Timestamp;
+
+/// Whether the file has another version than the one that is due.
+pub(crate) fn is_version_wrong(due: Option<u64>, header: &Header) -> bool
+    ensures { result ≡ spec.is_version_wrong due header.now }
+{
+    match due {
+        Some(due) => due != header.version(),
+        None => false,
+    }
+}
+
+/// Whether the file expires no later than the moment (TUF 1.0 section 5).
+pub fn is_expired(header: &Header, now: Moment) -> bool
+    ensures { result ≡ spec.is_expired header.now now }
+{
+    !now.is_before(header.expires())
+}
+
+/// Whether the timestamp has the version of the trusted one.
+pub(crate) fn is_again(old: &Timestamp, new: &Timestamp) -> bool
+    ensures { result ≡ spec.is_again old.now new.now }
+{
+    new.header().version() == old.header().version()
+}
+
+/// Whether the timestamp, or the snapshot that it lists, falls below the trusted one.
+pub(crate) fn is_earlier(old: &Timestamp, new: &Timestamp) -> bool
+    ensures { result ≡ spec.is_earlier old.now new.now }
+{
+    new.header().version() < old.header().version()
+        || new.snapshot().version() < old.snapshot().version()
+}
+
+/// Whether the snapshot leaves out a name of the trusted one, or lowers its version.
+pub(crate) fn falls_short(old: Option<&Snapshot>, new: &Snapshot) -> bool
+    ensures { result ≡ option_map_or (λ s. spec.lists_less s new.now) (option_map (λ s. s.now) old.entry) false }
+{
+    match old {
+        Some(old) => lists_less(old, new),
+        None => false,
+    }
+}
+
+fn lists_less(old: &Snapshot, new: &Snapshot) -> bool
+    ensures { result ≡ spec.lists_less old.now new.now }
+{
+    old.files()
+        .iter()
+        .any(|named| is_listed_below(new.files(), named))
+}
+
+fn is_listed_below(files: &[Named], old: &Named) -> bool
+    ensures { result ≡ spec.is_listed_below files.now old.now }
+{
+    files.iter().all(|new| !is_kept_by(old, new))
+}
+
+/// Whether it has the same name and no lower version.
+fn is_kept_by(old: &Named, new: &Named) -> bool
+    ensures { result ≡ spec.is_kept_by old.now new.now }
+{
+    new.name() == old.name() && old.listing().version() <= new.listing().version()
+}

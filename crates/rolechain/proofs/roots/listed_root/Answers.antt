@@ -1,0 +1,15 @@
+use Rattle.std.proofs.Common.{◌≡◌, ◌+◌, ap, ◌∙◌}
+use Rattle.meta.specs.Checks.{root_part}
+use Rattle.meta.specs.Expecting.{expectation, file_in}
+use Rattle.rolechain.specs.Expected.{next_root}
+use Rattle.rolechain.proofs.Along.{gives}
+use Rattle.rolechain.proofs.roots.listed_root.Goals as goal
+
+pub returns : goal.returns
+returns g c =
+    let files = file_in c.args.round.now.files.now in
+    let root = c.args.root.now in
+    let version : c.version-due.result ≡ root.header.version = cc in
+    gives _ (root_part (next_root root) (root.header.version + 1) files) _
+    (ap (λ e. root_part e (c.version-due.result + 1) files) c.due_root.ensures ∙ ap (λ n. root_part (next_root root) (n + 1) files) version)
+    c.examine_root.ensures

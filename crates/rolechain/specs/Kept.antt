@@ -1,0 +1,59 @@
+-- The files that a state file keeps.
+use Rattle.std.specs.Prelude.{ℕ, ◌||◌, nat_lt, List, [], ◌∷◌, ◌++◌, length, Bool, false, Option, Some, None, option_map, codes}
+use Rattle.std.specs.Option.{option_map_or}
+use Rattle.serde_json.specs.Find.{as_str}
+use Rattle.hex.specs.Hex.{encode_lower, decode_of}
+use Rattle.cjson.specs.Option.{◌>>=◌}
+use Rattle.cjson.specs.Form.{Form, needed, optional, ok}
+use Rattle.meta.specs.Part.{Part, root_limit, timestamp_limit, snapshot_limit, targets_limit}
+use Rattle.rolechain.specs.State.{State}
+
+-- the bytes of the trusted files
+pub record Kept : Type 0 where
+  pub root : List ℕ
+  pub snapshot : Option (List ℕ)
+  pub targets : Option (List ℕ)
+  pub timestamp : Option (List ℕ)
+
+abbrev pub bytes_in : {A : Type 0} → Option (Part A) → Option (List ℕ)
+bytes_in None = None
+bytes_in (Some p) = Some p.bytes
+
+abbrev pub kept_of : State → Kept
+kept_of s = record { root = s.root.bytes; snapshot = bytes_in s.snapshot; targets = bytes_in s.targets; timestamp = bytes_in s.timestamp }
+
+-- the hexadecimal text of some bytes
+abbrev pub hex_text : Form (List ℕ)
+hex_text d = do
+  text ← as_str d
+  ok (decode_of text)
+
+abbrev pub kept : Form Kept
+kept d = do
+  root ← needed (codes "root") hex_text d
+  snapshot ← optional (codes "snapshot") hex_text d
+  targets ← optional (codes "targets") hex_text d
+  timestamp ← optional (codes "timestamp") hex_text d
+  Some (record { root = root; snapshot = snapshot; targets = targets; timestamp = timestamp })
+
+-- a member that is a text in lower-case hexadecimal
+abbrev pub member_text : List ℕ → List ℕ → List ℕ
+member_text name bytes = 34 ∷ name ++ codes "\":\"" ++ encode_lower bytes ++ codes "\""
+
+-- the same behind a comma, where the file is trusted
+abbrev pub later_text : List ℕ → Option (List ℕ) → List ℕ
+later_text name None = []
+later_text name (Some bytes) = 44 ∷ member_text name bytes
+
+-- the members in the order of their names, without white space
+abbrev pub kept_text : Kept → List ℕ
+kept_text k =
+    codes "{" ++ member_text (codes "root") k.root ++ later_text (codes "snapshot") k.snapshot
+    ++ later_text (codes "targets") k.targets ++ later_text (codes "timestamp") k.timestamp ++ codes "}"
+
+abbrev pub is_over : ℕ → Option (List ℕ) → Bool
+is_over limit bytes = option_map_or (λ b. nat_lt limit (length b)) bytes false
+
+-- a file over the limit of its kind
+abbrev pub has_long : Kept → Bool
+has_long k = nat_lt root_limit (length k.root) || is_over snapshot_limit k.snapshot || is_over targets_limit k.targets || is_over timestamp_limit k.timestamp

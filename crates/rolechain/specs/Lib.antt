@@ -1,0 +1,11 @@
+pub use Rattle.meta.specs.Checks
+pub use Rattle.meta.specs.Metadata
+pub use Rattle.meta.specs.Moment
+pub use Rattle.meta.specs.Names
+pub use Rattle.meta.specs.Part
+pub mod State
+pub mod Expected
+pub mod Advance
+pub mod Answers
+pub mod Kept
+pub mod Text

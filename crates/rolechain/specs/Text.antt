@@ -1,0 +1,71 @@
+-- The state file: the canonical JSON of an object with the trusted files in hexadecimal.
+use Rattle.std.specs.Prelude.{◌≡◌, ◌≢◌, ℕ, not, List, Option, Some, None, bytes_eq, Result, Ok, Err}
+use Rattle.cjson.specs.Document.{tree_of}
+use Rattle.cjson.specs.Checks.{◌>>=◌, refuse_if, or_refuse}
+use Rattle.meta.specs.Part.{Part, part_of, root_limit, timestamp_limit, snapshot_limit, targets_limit}
+use Rattle.meta.specs.Reads.{root_of, timestamp_of, snapshot_of, targets_of}
+use Rattle.meta.specs.Metadata.{Root, Snapshot, Targets}
+use Rattle.meta.specs.declared.fault.Fault.{Fault}
+use Rattle.meta.specs.declared.fault.Fault.TheVariants as fault
+use Rattle.rolechain.specs.State.{State, first}
+use Rattle.rolechain.specs.Kept.{Kept, kept, kept_of, kept_text, has_long}
+use Rattle.rolechain.specs.declared.fault.StateFault.{StateFault}
+use Rattle.rolechain.specs.declared.fault.StateFault.TheVariants.{TooLong, Malformed, NoMemory}
+
+-- a file over the limit of its kind is too long, and one without its reading is malformed
+abbrev pub of_fault : Fault → StateFault
+of_fault fault.TooLong = TooLong
+of_fault other = Malformed
+
+abbrev pub or_state_fault : {A : Type 0} → Result A Fault → Result A StateFault
+or_state_fault (Ok x) = Ok x
+or_state_fault (Err fault) = Err (of_fault fault)
+
+abbrev pub part_in : {A : Type 0} → (List ℕ → Result (Part A) Fault) → Option (List ℕ) → Result (Option (Part A)) StateFault
+part_in read None = Ok None
+part_in read (Some bytes) = do
+  part ← or_state_fault (read bytes)
+  Ok (Some part)
+
+-- the state of a root file that is trusted because it was handed in
+abbrev pub root_state : List ℕ → Result State StateFault
+root_state bytes = do
+  root ← or_state_fault (part_of root_of root_limit bytes)
+  Ok (first root)
+
+-- the state that the files give, each read in turn
+abbrev pub with_timestamp_in : Part Root → Option (Part Snapshot) → Option (Part Targets) → Option (List ℕ) → Result State StateFault
+with_timestamp_in root snapshot targets bytes = do
+  timestamp ← part_in (part_of timestamp_of timestamp_limit) bytes
+  Ok (record { root = root; timestamp = timestamp; snapshot = snapshot; targets = targets })
+
+abbrev pub with_targets_in : Part Root → Option (Part Snapshot) → Option (List ℕ) → Option (List ℕ) → Result State StateFault
+with_targets_in root snapshot bytes timestamp = do
+  targets ← part_in (part_of targets_of targets_limit) bytes
+  with_timestamp_in root snapshot targets timestamp
+
+abbrev pub state_in : Kept → Result State StateFault
+state_in k = do
+  root ← or_state_fault (part_of root_of root_limit k.root)
+  snapshot ← part_in (part_of snapshot_of snapshot_limit) k.snapshot
+  with_targets_in root snapshot k.targets k.timestamp
+
+-- the files of a state's text, which is spelled just so
+abbrev pub kept_in : List ℕ → Result Kept StateFault
+kept_in text = do
+  tree ← or_refuse (tree_of text) Malformed
+  k ← or_refuse (kept tree) Malformed
+  spelled ← refuse_if (not (bytes_eq text (kept_text k))) Malformed
+  Ok k
+
+-- the state of a text, or why it has none
+abbrev pub state_of : List ℕ → Result State StateFault
+state_of text = do
+  k ← kept_in text
+  short ← refuse_if (has_long k) TooLong
+  state_in k
+
+-- what the calls answer that read a state; want of memory says nothing
+abbrev pub ReadsState : {A : Type 0} → Result A StateFault → Result A StateFault → Type 0
+ReadsState r (Ok x) = r ≡ Ok x
+ReadsState r (Err e) = e ≢ NoMemory → r ≡ Err e

@@ -1,0 +1,102 @@
+ghost use Rattle.std.specs.Prelude.{◌≡◌, ◌+◌, IfOk, bytes_eq, codes, find, option_map, string_bytes};
+ghost use Rattle.meta.specs.Expecting.{expectation, listed_of};
+ghost use Rattle.meta.specs.Names.{root_name, versioned as due_name};
+ghost use Rattle.rolechain.specs.Expected as spec;
+
+use meta::names::{role_name, versioned};
+use meta::{Expect, Listed, Listing, Named, Root, Snapshot};
+use std::alloc::{AllocError, Global};
+
+/// What the root that follows is expected to be (TUF 1.0 section 5.3).
+pub(crate) fn due_root<'a>(root: &'a Root, name: &'a str) -> Expect<'a>
+    requires { name.now ≡ root_name (root.now.header.version + 1) }
+    ensures { expectation result ≡ spec.next_root root.now }
+{
+    Expect {
+        name,
+        listed: Listed::NotDue,
+        ring: root.ring(),
+        role: root.root(),
+    }
+}
+
+/// What the timestamp is expected to be (TUF 1.0 section 5.4).
+pub(crate) fn due_timestamp(root: &Root) -> Expect<'_>
+    ensures { expectation result ≡ spec.due_timestamp root.now }
+{
+    Expect {
+        name: "timestamp.json",
+        listed: Listed::NotDue,
+        ring: root.ring(),
+        role: root.timestamp(),
+    }
+}
+
+/// The name under which the snapshot that is so listed lies.
+pub(crate) fn snapshot_name(
+    alloc: Global,
+    root: &Root,
+    listing: &Listing,
+) -> Result<String, AllocError>
+    ensures { IfOk result (λ s. string_bytes s
+        ≡ due_name root.now.consistent listing.now.version (codes "snapshot.json")) }
+{
+    versioned(alloc, root.consistent(), listing.version(), "snapshot.json")
+}
+
+/// What the snapshot that is so listed is expected to be (TUF 1.0 section 5.5).
+pub(crate) fn due_snapshot<'a>(root: &'a Root, listing: &'a Listing, name: &'a str) -> Expect<'a>
+    requires { name.now ≡ due_name root.now.consistent listing.now.version (codes "snapshot.json") }
+    ensures { expectation result ≡ spec.next_snapshot root.now listing.now }
+{
+    Expect {
+        name,
+        listed: Listed::As(listing),
+        ring: root.ring(),
+        role: root.snapshot(),
+    }
+}
+
+/// Where a role's targets file lies (TUF 1.0 sections 5.6 and 5.7).
+pub(crate) fn place_of<'a>(
+    alloc: Global,
+    root: &Root,
+    snapshot: &'a Snapshot,
+    role: &str,
+) -> Result<(Listed<'a>, String), AllocError>
+    ensures listed { IfOk result (λ p. listed_of p.0 ≡ spec.listing_of role.now snapshot.now) }
+    ensures name { IfOk result (λ p. string_bytes p.1 ≡ spec.file_name root.now role.now (spec.listing_of role.now snapshot.now)) }
+{
+    let plain = role_name(alloc, role)?;
+    match find_name(snapshot.files(), plain.as_str()) {
+        Some(named) => {
+            let listing = named.listing();
+            let name = versioned(alloc, root.consistent(), listing.version(), plain.as_str())?;
+            Ok((Listed::As(listing), name))
+        }
+        None => Ok((Listed::Absent, plain)),
+    }
+}
+
+/// What the top-level targets file that lies there is expected to be (TUF 1.0 section 5.6).
+pub(crate) fn due_targets<'a>(root: &'a Root, listed: Listed<'a>, name: &'a str) -> Expect<'a>
+    ensures { expectation result ≡ record {
+      name = name.now;
+      listed = listed_of listed.entry;
+      ring = root.now.ring;
+      role = root.now.targets;
+    } }
+{
+    Expect {
+        name,
+        listed,
+        ring: root.ring(),
+        role: root.targets(),
+    }
+}
+
+fn find_name<'a>(files: &'a [Named], name: &str) -> Option<&'a Named>
+    ensures { option_map (λ n. n.now) result ≡ find (λ n. bytes_eq n.name name.now) files.now }
+{
+    files.iter().find(|named| named.name() == name)
+}

@@ -1,0 +1,44 @@
+ghost use Rattle.std.specs.Prelude.{◌≡◌};
+ghost use Rattle.rolechain.specs.declared.fault.StateFault.TheVariants as state;
+
+use cjson::NoMemory;
+use std::alloc::{AllocError, AllocFailed};
+use thiserror::Error;
+
+/// Why a trusted state was not read.
+#[derive(Clone, Copy, Debug, PartialEq, Eq, Error)]
+pub enum StateFault {
+    /// A file is longer than the limit of its kind.
+    #[error("a file is too long")]
+    TooLong,
+    /// The text isn't spelled as a state's, or a file hasn't the form of its kind.
+    #[error("not of the form")]
+    Malformed,
+    /// Memory was refused.
+    #[error("out of memory")]
+    NoMemory,
+}
+
+impl From<NoMemory> for StateFault {
+    ghost from_gives = { λ _ e. e ≡ state.NoMemory };
+
+    fn from(_refused: NoMemory) -> StateFault {
+        StateFault::NoMemory
+    }
+}
+
+impl From<AllocError> for StateFault {
+    ghost from_gives = { λ _ e. e ≡ state.NoMemory };
+
+    fn from(_refused: AllocError) -> StateFault {
+        StateFault::NoMemory
+    }
+}
+
+impl<T: Drop> From<AllocFailed<T>> for StateFault {
+    ghost from_gives = { λ _ e. e ≡ state.NoMemory };
+
+    fn from(_refused: AllocFailed<T>) -> StateFault {
+        StateFault::NoMemory
+    }
+}

@@ -1,0 +1,17 @@
+//! The trusted state, and the client workflow up to the top-level targets file (TUF 1.0 sections
+//! 5.3 to 5.6).
+#![tactic(auto)]
+
+mod end;
+mod expected;
+mod fault;
+mod roots;
+mod rotation;
+mod state;
+mod steps;
+mod text;
+
+pub use end::{End, Step};
+pub use fault::StateFault;
+pub use roots::advance;
+pub use state::Trusted;

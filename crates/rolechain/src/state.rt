@@ -1,0 +1,162 @@
+ghost use Rattle.std.specs.Prelude.{◌≡◌, IfOk, option_map};
+ghost use Rattle.rolechain.specs.State as spec;
+ghost use Rattle.rolechain.specs.Advance.{with_root, with_timestamp, with_snapshot, with_targets, reading_in};
+
+use crate::rotation::is_rotated;
+use cjson::NoMemory;
+use meta::{Part, Reading, Root, Snapshot, Targets, Timestamp};
+use std::alloc::Global;
+use std::marker::Model;
+
+/// What is trusted: a root file and, each where trusted, a timestamp, a snapshot and a top-level
+/// targets file (TUF 1.0 section 5). Each is the reading of its bytes, which are within the limit
+/// of its kind.
+#[derive(Drop)]
+pub struct Trusted {
+    root: Part<Root>,
+    timestamp: Option<Part<Timestamp>>,
+    snapshot: Option<Part<Snapshot>>,
+    targets: Option<Part<Targets>>,
+}
+
+impl Model for Trusted {
+    ghost use Rattle.rolechain.specs.State as spec;
+
+    ghost Value = { spec.State };
+
+    ghost view = { λ t. record {
+      root = t.root;
+      timestamp = t.timestamp;
+      snapshot = t.snapshot;
+      targets = t.targets;
+    } };
+}
+
+impl Trusted {
+    pub(crate) fn of(
+        root: Part<Root>,
+        timestamp: Option<Part<Timestamp>>,
+        snapshot: Option<Part<Snapshot>>,
+        targets: Option<Part<Targets>>,
+    ) -> Trusted
+        ensures { result ≡ record {
+          root = root;
+          timestamp = timestamp;
+          snapshot = snapshot;
+          targets = targets;
+        } }
+    {
+        Trusted {
+            root,
+            timestamp,
+            snapshot,
+            targets,
+        }
+    }
+
+    /// The root file.
+    pub fn root(&self) -> &Part<Root>
+        ensures { result.now ≡ self.now.root }
+    {
+        &self.root
+    }
+
+    /// The timestamp file, where one is trusted.
+    pub fn timestamp(&self) -> Option<&Part<Timestamp>>
+        ensures { option_map (λ p. p.now) result ≡ self.now.timestamp }
+    {
+        self.timestamp.as_ref()
+    }
+
+    /// The snapshot file, where one is trusted.
+    pub fn snapshot(&self) -> Option<&Part<Snapshot>>
+        ensures { option_map (λ p. p.now) result ≡ self.now.snapshot }
+    {
+        self.snapshot.as_ref()
+    }
+
+    /// The top-level targets file, where one is trusted.
+    pub fn targets(&self) -> Option<&Part<Targets>>
+        ensures { option_map (λ p. p.now) result ≡ self.now.targets }
+    {
+        self.targets.as_ref()
+    }
+
+    /// Whether all four files are there.
+    pub fn is_ready(&self) -> bool
+        ensures { result ≡ spec.is_ready self.now }
+    {
+        self.timestamp.is_some() && self.snapshot.is_some() && self.targets.is_some()
+    }
+
+    /// An equal state.
+    pub fn copy(&self, alloc: Global) -> Result<Trusted, NoMemory>
+        ensures { IfOk result (λ t. t ≡ self.now) }
+    {
+        Ok(Trusted {
+            root: self.root.copy(alloc)?,
+            timestamp: copy_of(alloc, &self.timestamp)?,
+            snapshot: copy_of(alloc, &self.snapshot)?,
+            targets: copy_of(alloc, &self.targets)?,
+        })
+    }
+
+    /// The version of the root.
+    pub fn root_version(&self) -> u64
+        ensures { result ≡ self.now.root.reading.header.version }
+    {
+        self.root.reading().header().version()
+    }
+
+    /// What the trusted snapshot says.
+    pub(crate) fn old_snapshot(&self) -> Option<&Snapshot>
+        ensures { option_map (λ s. s.now) result ≡ reading_in self.now.snapshot }
+    {
+        match &self.snapshot {
+            Some(part) => Some(part.reading()),
+            None => None,
+        }
+    }
+
+    /// Trusts the next root; where keys were rotated, the timestamp and the snapshot are dropped.
+    pub(crate) fn trust_root(&mut self, next: Part<Root>)
+        ensures { self.new ≡ with_root self.old next }
+    {
+        let rotates = is_rotated(self.root.reading(), next.reading());
+        self.root = next;
+        if rotates {
+            self.timestamp = None;
+            self.snapshot = None;
+        }
+    }
+
+    pub(crate) fn trust_timestamp(&mut self, next: Part<Timestamp>)
+        ensures { self.new ≡ with_timestamp self.old next }
+    {
+        self.timestamp = Some(next);
+    }
+
+    pub(crate) fn trust_snapshot(&mut self, next: Part<Snapshot>)
+        ensures { self.new ≡ with_snapshot self.old next }
+    {
+        self.snapshot = Some(next);
+    }
+
+    pub(crate) fn trust_targets(&mut self, next: Part<Targets>)
+        ensures { self.new ≡ with_targets self.old next }
+    {
+        self.targets = Some(next);
+    }
+}
+
+fn copy_of<A: Reading + Drop>(
+    alloc: Global,
+    part: &Option<Part<A>>,
+) -> Result<Option<Part<A>>, NoMemory>
+    ensures { IfOk result (λ p. p ≡ part.now) }
+{
+    match part {
+        Some(part) => Ok(Some(part.copy(alloc)?)),
+        None => Ok(None),
+    }
+}

@@ -1,0 +1,317 @@
+ghost use Rattle.std.specs.Prelude.{◌≡◌, ◌≢◌, ◌++◌, Some, None, IfOk, IfErr, OnOk, option_map};
+ghost use Rattle.serde_json.specs.View.{view};
+ghost use Rattle.cjson.specs.Document.{tree_of};
+ghost use Rattle.meta.specs.Part.{part_of};
+ghost use Rattle.rolechain.specs.Kept as spec;
+ghost use Rattle.rolechain.specs.Text.{ReadsState, or_state_fault, of_fault, root_state, state_of, state_in, kept_in, part_in, with_targets_in, with_timestamp_in};
+
+use crate::fault::StateFault;
+use crate::state::Trusted;
+use cjson::form::{FromJson, needed, optional};
+use cjson::{Misread, NoMemory, read_tree};
+use meta::{Fault, Part, Reading, Root, Snapshot, Stop, Targets, Timestamp};
+use serde_json::Value;
+use std::alloc::{AllocError, Global};
+use std::marker::Model;
+
+/// Bytes that a text spells in hexadecimal.
+#[derive(Drop)]
+struct Hex {
+    bytes: Vec<u8>,
+}
+
+impl Model for Hex {
+    ghost use Rattle.std.specs.Prelude.{List, ℕ};
+
+    ghost Value = { List ℕ };
+
+    ghost view = { λ h. h.bytes.items };
+}
+
+impl FromJson for Hex {
+    ghost form = { spec.hex_text };
+
+    fn from_json(alloc: Global, value: &Value) -> Result<Hex, Misread> {
+        let text = value.as_str().ok_or(Misread::Malformed)?;
+        match hex::decode(alloc, text) {
+            Ok(bytes) => Ok(Hex { bytes }),
+            Err(hex::FromHexError::OutOfMemory) => Err(Misread::NoMemory),
+            Err(_) => Err(Misread::Malformed),
+        }
+    }
+}
+
+/// The files that a state's text keeps.
+#[derive(Drop)]
+struct Kept {
+    root: Hex,
+    snapshot: Option<Hex>,
+    targets: Option<Hex>,
+    timestamp: Option<Hex>,
+}
+
+impl Model for Kept {
+    ghost use Rattle.rolechain.specs.Kept as spec;
+
+    ghost Value = { spec.Kept };
+
+    ghost view = { λ k. record {
+      root = k.root;
+      snapshot = k.snapshot;
+      targets = k.targets;
+      timestamp = k.timestamp;
+    } };
+}
+
+impl FromJson for Kept {
+    ghost form = { spec.kept };
+
+    fn from_json(alloc: Global, value: &Value) -> Result<Kept, Misread> {
+        let root = needed(alloc, value, "root")?;
+        let snapshot = optional(alloc, value, "snapshot")?;
+        let targets = optional(alloc, value, "targets")?;
+        let timestamp = optional(alloc, value, "timestamp")?;
+        Ok(Kept {
+            root,
+            snapshot,
+            targets,
+            timestamp,
+        })
+    }
+}
+
+impl Trusted {
+    /// A root file alone, trusted because it was handed in: no signature is asked. `TooLong` over
+    /// 512,000 bytes, else `Malformed` where it isn't a root file.
+    pub fn from_root(alloc: Global, bytes: &[u8]) -> Result<Trusted, StateFault>
+        ensures { ReadsState (root_state bytes.now) result }
+    {
+        let root = read_part(alloc, Vec::from_slice(alloc, bytes)?)?;
+        Ok(Trusted::of(root, None, None, None))
+    }
+
+    /// The state of a state file's text. `Malformed` where the text isn't spelled as `to_text`
+    /// spells it; then `TooLong` where a file is over the limit of its kind; else `Malformed`
+    /// where a file hasn't the form of its kind.
+    pub fn from_text(alloc: Global, text: &[u8]) -> Result<Trusted, StateFault>
+        ensures { ReadsState (state_of text.now) result }
+    {
+        let kept = kept_in(alloc, text)?;
+        if has_long(&kept) {
+            return Err(StateFault::TooLong);
+        }
+        state_in(alloc, kept)
+    }
+
+    /// The text of a state file: the canonical JSON of an object whose members `root` and, where
+    /// trusted, `snapshot`, `targets` and `timestamp` are the files in lower-case hexadecimal.
+    pub fn to_text(&self, alloc: Global) -> Result<Vec<u8>, NoMemory>
+        ensures { IfOk result (λ text. text.items ≡ spec.kept_text (spec.kept_of self.now)) }
+    {
+        let root = self.root().bytes();
+        let snapshot = self.snapshot().map(|part| part.bytes());
+        let targets = self.targets().map(|part| part.bytes());
+        let timestamp = self.timestamp().map(|part| part.bytes());
+        text_of(alloc, root, snapshot, targets, timestamp)
+    }
+}
+
+/// The files of a text that is spelled as a state's.
+fn kept_in(alloc: Global, text: &[u8]) -> Result<Kept, StateFault>
+    ensures { ReadsState (kept_in text.now) result }
+{
+    let tree = tree_in(alloc, text)?;
+    let kept = read_kept(alloc, &tree)?;
+    let spelled = respelled(alloc, &kept)?;
+    if text != spelled.as_slice() {
+        return Err(StateFault::Malformed);
+    }
+    Ok(kept)
+}
+
+fn tree_in(alloc: Global, text: &[u8]) -> Result<Value, StateFault>
+    ensures ok { IfOk result (λ tree. tree_of text.now ≡ Some (view tree)) }
+    ensures err { IfErr result (λ e. e ≢ StateFault.NoMemory
+        → (e ≡ StateFault.Malformed) × (tree_of text.now ≡ None)) }
+{
+    match read_tree(alloc, text) {
+        Ok(tree) => Ok(tree),
+        Err(Misread::Malformed) => Err(StateFault::Malformed),
+        Err(Misread::NoMemory) => Err(StateFault::NoMemory),
+    }
+}
+
+fn read_kept(alloc: Global, tree: &Value) -> Result<Kept, StateFault>
+    ensures ok { IfOk result (λ k. spec.kept (view tree.now) ≡ Some k) }
+    ensures err { IfErr result (λ e. e ≢ StateFault.NoMemory
+        → (e ≡ StateFault.Malformed) × (spec.kept (view tree.now) ≡ None)) }
+{
+    match Kept::from_json(alloc, tree) {
+        Ok(kept) => Ok(kept),
+        Err(Misread::Malformed) => Err(StateFault::Malformed),
+        Err(Misread::NoMemory) => Err(StateFault::NoMemory),
+    }
+}
+
+/// The file of these bytes.
+fn read_part<A: Reading + Drop>(alloc: Global, bytes: Vec<u8>) -> Result<Part<A>, StateFault>
+    ensures { ReadsState (or_state_fault (part_of A.of_document A.limit bytes.items)) result }
+{
+    match Part::read(alloc, bytes) {
+        Ok(part) => Ok(part),
+        Err(Stop::Refused(fault)) => Err(of_fault(fault)),
+        Err(Stop::NoMemory) => Err(StateFault::NoMemory),
+    }
+}
+
+fn of_fault(fault: Fault) -> StateFault
+    ensures { result ≡ of_fault fault }
+{
+    match fault {
+        Fault::TooLong => StateFault::TooLong,
+        _ => StateFault::Malformed,
+    }
+}
+
+fn respelled(alloc: Global, kept: &Kept) -> Result<Vec<u8>, NoMemory>
+    ensures { IfOk result (λ text. text.items ≡ spec.kept_text kept.now) }
+{
+    let root = kept.root.bytes.as_slice();
+    let snapshot = bytes_of(&kept.snapshot);
+    let targets = bytes_of(&kept.targets);
+    let timestamp = bytes_of(&kept.timestamp);
+    text_of(alloc, root, snapshot, targets, timestamp)
+}
+
+fn bytes_of(hex: &Option<Hex>) -> Option<&[u8]>
+    ensures { option_map (λ b. b.now) result ≡ hex.now }
+{
+    match hex {
+        Some(hex) => Some(hex.bytes.as_slice()),
+        None => None,
+    }
+}
+
+fn has_long(kept: &Kept) -> bool
+    ensures { result ≡ spec.has_long kept.now }
+{
+    kept.root.bytes.len() as u64 > Root::limit()
+        || is_over(Snapshot::limit(), &kept.snapshot)
+        || is_over(Targets::limit(), &kept.targets)
+        || is_over(Timestamp::limit(), &kept.timestamp)
+}
+
+fn is_over(limit: u64, hex: &Option<Hex>) -> bool
+    ensures { result ≡ spec.is_over limit hex.now }
+{
+    match hex {
+        Some(hex) => hex.bytes.len() as u64 > limit,
+        None => false,
+    }
+}
+
+fn state_in(alloc: Global, kept: Kept) -> Result<Trusted, StateFault>
+    ensures { ReadsState (state_in kept) result }
+{
+    let Kept {
+        root,
+        snapshot,
+        targets,
+        timestamp,
+    } = kept;
+    let root = read_part(alloc, root.bytes)?;
+    let snapshot = part_in(alloc, snapshot)?;
+    with_targets_in(alloc, root, snapshot, targets, timestamp)
+}
+
+fn with_targets_in(
+    alloc: Global,
+    root: Part<Root>,
+    snapshot: Option<Part<Snapshot>>,
+    targets: Option<Hex>,
+    timestamp: Option<Hex>,
+) -> Result<Trusted, StateFault>
+    ensures { ReadsState (with_targets_in root snapshot targets timestamp) result }
+{
+    let targets = part_in(alloc, targets)?;
+    with_timestamp_in(alloc, root, snapshot, targets, timestamp)
+}
+
+fn with_timestamp_in(
+    alloc: Global,
+    root: Part<Root>,
+    snapshot: Option<Part<Snapshot>>,
+    targets: Option<Part<Targets>>,
+    timestamp: Option<Hex>,
+) -> Result<Trusted, StateFault>
+    ensures { ReadsState (with_timestamp_in root snapshot targets timestamp) result }
+{
+    let timestamp = part_in(alloc, timestamp)?;
+    Ok(Trusted::of(root, timestamp, snapshot, targets))
+}
+
+fn part_in<A: Reading + Drop>(
+    alloc: Global,
+    hex: Option<Hex>,
+) -> Result<Option<Part<A>>, StateFault>
+    ensures { ReadsState (part_in (part_of A.of_document A.limit) hex) result }
+{
+    match hex {
+        Some(hex) => Ok(Some(read_part(alloc, hex.bytes)?)),
+        None => Ok(None),
+    }
+}
+
+/// The text of the files of a state.
+fn text_of(
+    alloc: Global,
+    root: &[u8],
+    snapshot: Option<&[u8]>,
+    targets: Option<&[u8]>,
+    timestamp: Option<&[u8]>,
+) -> Result<Vec<u8>, NoMemory>
+    ensures { IfOk result (λ text. text.items ≡ spec.kept_text (record {
+      root = root.now;
+      snapshot = option_map (λ b. b.now) snapshot.entry;
+      targets = option_map (λ b. b.now) targets.entry;
+      timestamp = option_map (λ b. b.now) timestamp.entry;
+    })) }
+{
+    let mut out = Vec::new(alloc);
+    out.push(b'{')?;
+    push_member(alloc, &mut out, "root", root)?;
+    push_later(alloc, &mut out, "snapshot", snapshot)?;
+    push_later(alloc, &mut out, "targets", targets)?;
+    push_later(alloc, &mut out, "timestamp", timestamp)?;
+    out.push(b'}')?;
+    Ok(out)
+}
+
+fn push_later(
+    alloc: Global,
+    out: &mut Vec<u8>,
+    name: &str,
+    bytes: Option<&[u8]>,
+) -> Result<(), AllocError>
+    ensures { OnOk result (out.new.items ≡ out.old.items ++ spec.later_text name.now (option_map (λ b. b.now) bytes.entry)) }
+{
+    match bytes {
+        Some(bytes) => {
+            out.push(b',')?;
+            push_member(alloc, out, name, bytes)
+        }
+        None => Ok(()),
+    }
+}
+
+fn push_member(alloc: Global, out: &mut Vec<u8>, name: &str, bytes: &[u8]) -> Result<(), AllocError>
+    ensures { OnOk result (out.new.items ≡ out.old.items ++ spec.member_text name.now bytes.now) }
+{
+    let hex = hex::encode(alloc, bytes)?;
+    out.push(b'"')?;
+    out.extend_from_slice(name.as_bytes())?;
+    out.extend_from_slice(b"\":\"")?;
+    out.extend_from_slice(hex.as_bytes())?;
+    out.extend_from_slice(b"\"")?;
+    Ok(())
+}
