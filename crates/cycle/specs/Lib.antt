@@ -3,5 +3,7 @@ pub use Rattle.meta.specs.Expecting
 pub use Rattle.meta.specs.Moment
 pub use Rattle.rolechain.specs.Advance
 pub use Rattle.rolechain.specs.State
+pub use Rattle.deleg.specs.Accepted
+pub use Rattle.deleg.specs.Search
 pub mod Limits
 pub mod Workflow

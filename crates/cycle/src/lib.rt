@@ -4,15 +4,17 @@
 
 mod limits;
 mod outcome;
+mod roles;
 mod run;
 mod target;
 mod verdict;
 
 pub use cjson::NoMemory;
 pub use cjson::text::Text;
+pub use deleg::Accepted;
 pub use limits::Limits;
 pub use meta::{Fault, Moment, Repo};
-pub use outcome::{Accepted, Outcome};
+pub use outcome::Outcome;
 pub use rolechain::{End, StateFault, Step, Trusted};
 pub use run::run_alone;
 pub use verdict::Verdict;

@@ -1,4 +1,4 @@
-ghost use Rattle.std.specs.Prelude.{◌≡◌, ◌↔◌, IsSome, IfSome};
+ghost use Rattle.std.specs.Prelude.{◌≡◌, ◌≤◌, ◌↔◌, IsSome, IfSome};
 ghost use Rattle.cycle.specs.Limits as spec;
 
 use std::marker::Model;
@@ -48,7 +48,9 @@ impl Limits {
 
     /// The most roles that a search visits, 1 to 256.
     pub fn roles(&self) -> usize
-        ensures { result ≡ self.now.roles }
+        ensures value { result ≡ self.now.roles }
+        ensures least { 1 ≤ result }
+        ensures most { result ≤ 256 }
     {
         self.roles
     }

@@ -1,40 +1,9 @@
 ghost use Rattle.std.specs.Prelude.{◌≡◌};
 
 use crate::verdict::Verdict;
-use cjson::text::Text;
+use deleg::Accepted;
 use rolechain::{End, Trusted};
 use std::marker::Model;
-
-/// A delegated role that a search accepted.
-#[derive(Drop)]
-pub struct Accepted {
-    role: Text,
-    version: u64,
-}
-
-impl Model for Accepted {
-    ghost use Rattle.cycle.specs.Workflow as spec;
-
-    ghost Value = { spec.Accepted };
-
-    ghost view = { λ a. record { role = a.role; version = a.version } };
-}
-
-impl Accepted {
-    /// The role's name.
-    pub fn role(&self) -> &str
-        ensures { result.now ≡ self.now.role }
-    {
-        self.role.as_str()
-    }
-
-    /// The version of its file.
-    pub fn version(&self) -> u64
-        ensures { result ≡ self.now.version }
-    {
-        self.version
-    }
-}
 
 /// What a cycle gives: the new trusted state, how the cycle ended, a verdict for each wanted path,
 /// by position, and the delegated roles that were accepted, each once, in byte order of their names.

@@ -1,4 +1,4 @@
-ghost use Rattle.std.specs.Prelude.{◌≡◌, IfOk, bytes_eq, codes, find, option_map};
+ghost use Rattle.std.specs.Prelude.{◌≡◌, IfOk, map, option_map};
 ghost use Rattle.meta.specs.Answers.{Answers};
 ghost use Rattle.meta.specs.Expecting.{file_in};
 ghost use Rattle.meta.specs.Names.{target_names};
@@ -7,43 +7,86 @@ ghost use Rattle.cycle.specs.Workflow as spec;
 use crate::verdict::Verdict;
 use cjson::NoMemory;
 use cjson::text::Text;
+use deleg::{Found, Searched};
 use keys::Judge;
 use meta::names::hashed;
-use meta::{Fault, Stop, Target, Targets};
+use meta::{Fault, Stop, Target};
 use std::alloc::{AllocError, Global};
 use std::collections::BTreeMap;
 
-/// The verdict of a path, where the top-level targets file is trusted.
-pub(crate) fn search<J: Judge>(
+/// The verdict of each search, in order.
+pub(crate) fn verdicts_of<J: Judge>(
     alloc: Global,
     files: &BTreeMap<String, Vec<u8>>,
     consistent: bool,
-    targets: &Targets,
-    path: &str,
+    searches: &[Option<Searched>],
+    judge: &mut J,
+) -> Result<Vec<Verdict>, NoMemory>
+    ensures { IfOk result (λ vs. vs.items ≡ map (spec.verdict_of (file_in files.now) consistent) searches.now) }
+{
+    let mut verdicts = Vec::with_capacity(alloc, searches.len())?;
+    for search in searches {
+        verdicts.push(verdict_of(alloc, files, consistent, search, judge)?)?;
+    }
+    Ok(verdicts)
+}
+
+fn verdict_of<J: Judge>(
+    alloc: Global,
+    files: &BTreeMap<String, Vec<u8>>,
+    consistent: bool,
+    search: &Option<Searched>,
     judge: &mut J,
 ) -> Result<Verdict, NoMemory>
-    ensures { IfOk result (λ v. v ≡ spec.searched (file_in files.now) consistent targets.now path.now) }
+    ensures { IfOk result (λ v. v ≡ spec.verdict_of (file_in files.now) consistent search.now) }
 {
-    let Some(target) = target_of(targets, path) else {
-        return Ok(Verdict::NotFound);
-    };
+    match search {
+        Some(search) => found_verdict(alloc, files, consistent, search.found(), judge),
+        None => Ok(Verdict::NotSearched),
+    }
+}
+
+fn found_verdict<J: Judge>(
+    alloc: Global,
+    files: &BTreeMap<String, Vec<u8>>,
+    consistent: bool,
+    found: &Found,
+    judge: &mut J,
+) -> Result<Verdict, NoMemory>
+    ensures { IfOk result (λ v. v ≡ spec.found_verdict (file_in files.now) consistent found.now) }
+{
+    match found {
+        Found::Listed { role, target, .. } => {
+            listed_verdict(alloc, files, consistent, role.as_str(), target, judge)
+        }
+        Found::NotFound => Ok(Verdict::NotFound),
+        Found::LimitReached => Ok(Verdict::LimitReached),
+        Found::RoleRefused { role, fault } => Ok(Verdict::RoleRefused {
+            role: Text::new(String::from_str(alloc, role.as_str())?),
+            fault: *fault,
+        }),
+    }
+}
+
+/// The verdict of a target that the role lists.
+fn listed_verdict<J: Judge>(
+    alloc: Global,
+    files: &BTreeMap<String, Vec<u8>>,
+    consistent: bool,
+    role: &str,
+    target: &Target,
+    judge: &mut J,
+) -> Result<Verdict, NoMemory>
+    ensures { IfOk result (λ v. v ≡ spec.listed_verdict role.now target.now (spec.target_checked (file_in files.now) consistent target.now)) }
+{
     match check(alloc, files, consistent, target, judge) {
         Ok(()) => Ok(Verdict::Good {
-            role: Text::new(String::from_str(alloc, "targets")?),
+            role: Text::new(String::from_str(alloc, role)?),
             length: target.length(),
         }),
         Err(Stop::Refused(fault)) => Ok(Verdict::FileRefused(fault)),
         Err(Stop::NoMemory) => Err(NoMemory),
     }
-}
-
-fn target_of<'a>(targets: &'a Targets, path: &str) -> Option<&'a Target>
-    ensures { option_map (λ t. t.now) result ≡ spec.target_of targets.now path.now }
-{
-    targets
-        .targets()
-        .iter()
-        .find(|target| target.path() == path)
 }
 
 /// Whether the target's file is there, and has the listed length and digests.

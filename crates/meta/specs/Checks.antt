@@ -1,5 +1,5 @@
 -- The checks of one file, in order (TUF 1.0 sections 5.3 to 5.6): the first that fails is the answer.
-use Rattle.std.specs.Prelude.{ℕ, ◌&&◌, ◌||◌, ◌==◌, nat_lt, nat_le, not, if◌then◌else◌, List, length, Bool, true, false, Option, Some, None, is_none, is_some, Result, Ok, Err, bytes_eq, ⊤}
+use Rattle.std.specs.Prelude.{ℕ, ◌&&◌, ◌||◌, ◌==◌, nat_lt, nat_le, not, if◌then◌else◌, List, length, Bool, true, false, Option, Some, None, is_none, Result, Ok, Err, bytes_eq, ⊤}
 use Rattle.std.specs.List.{list_any, list_all}
 use Rattle.std.specs.Option.{option_map_or}
 use Rattle.keys.specs.Keys.{Key, RoleKeys}
@@ -13,7 +13,7 @@ use Rattle.meta.specs.Metadata.{Hashes, Listing, Header, Root, Timestamp, Named,
 use Rattle.meta.specs.Part.{Part, root_limit, timestamp_limit, snapshot_limit, targets_limit}
 use Rattle.meta.specs.Reads.{document_of, root_of, timestamp_of, snapshot_of, targets_of}
 use Rattle.meta.specs.declared.fault.Fault.{Fault}
-use Rattle.meta.specs.declared.fault.Fault.TheVariants.{NotListed, Missing, TooLong, LengthWrong, HashWrong, NoKnownHash, Malformed, Unsigned, VersionWrong, Rollback, Expired}
+use Rattle.meta.specs.declared.fault.Fault.TheVariants.{NotListed, Missing, TooLong, LengthWrong, HashWrong, NoKnownHash, Unsigned, VersionWrong, Rollback, Expired}
 
 -- the files of a repository by their names
 abbrev pub Files : Type 0
@@ -170,14 +170,9 @@ snapshot_part e old files now = do
   current ← refuse_if (is_expired f.part.reading.header now) Expired
   Ok f.part
 
-abbrev pub is_delegating : Targets → Bool
-is_delegating m = is_some m.delegations
-
--- Delegations aren't followed yet, so a file that has some is refused.
 abbrev pub targets_part : Expectation → Files → Moment → Result (Part Targets) Fault
 targets_part e files now = do
   f ← fetched targets_of targets_limit e files
-  alone ← refuse_if (is_delegating f.part.reading) Malformed
   signed ← refuse_if (not (is_signed e.ring e.role f.doc)) Unsigned
   versioned ← refuse_if (is_version_wrong (listed_version e.listed) f.part.reading.header) VersionWrong
   current ← refuse_if (is_expired f.part.reading.header now) Expired

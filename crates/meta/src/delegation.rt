@@ -4,7 +4,7 @@ ghost use Rattle.serde_json.specs.View.{view};
 ghost use Rattle.cjson.specs.Form as form_of;
 ghost use Rattle.meta.specs.Metadata as spec;
 ghost use Rattle.cjson.specs.Reads.{Reads};
-ghost use Rattle.meta.specs.Matcher.{ReadsMatcher};
+ghost use Rattle.meta.specs.Matcher.{ReadsMatcher, matcher_of};
 
 use cjson::Misread;
 use cjson::form::{FromJson, needed, optional};
@@ -27,6 +27,15 @@ impl Model for PathPattern {
     ghost Value = { List ℕ };
 
     ghost view = { λ p. p.text };
+}
+
+impl PathPattern {
+    /// The pattern's text.
+    pub fn as_str(&self) -> &str
+        ensures { result.now ≡ self.now }
+    {
+        self.text.as_str()
+    }
 }
 
 impl FromJson for PathPattern {
@@ -59,6 +68,15 @@ impl Model for HashPrefix {
     ghost Value = { List ℕ };
 
     ghost view = { λ p. p.text };
+}
+
+impl HashPrefix {
+    /// The first digits of the digest, 1 to 64.
+    pub fn as_str(&self) -> &str
+        ensures { result.now ≡ self.now }
+    {
+        self.text.as_str()
+    }
 }
 
 impl FromJson for HashPrefix {
@@ -94,9 +112,12 @@ fn is_lower_digit(c: u8) -> bool
     matches!(c, b'0'..=b'9' | b'a'..=b'f')
 }
 
+/// Which paths a delegation is for (TUF 1.0 section 4.5).
 #[derive(Drop)]
-enum Paths {
+pub enum Paths {
+    /// Those that one of the patterns matches.
     Patterns(Items<PathPattern>),
+    /// Those whose digest begins with one of the prefixes.
     Prefixes(Items<HashPrefix>),
 }
 
@@ -116,6 +137,36 @@ impl Model for Delegation {
     ghost Value = { spec.Delegation };
 
     ghost view = { λ a. record { name = a.name; keys = a.keys; terminating = a.terminating; matcher = matcher_of a.paths } };
+}
+
+impl Delegation {
+    /// The role's name.
+    pub fn name(&self) -> &str
+        ensures { result.now ≡ self.now.name }
+    {
+        self.name.as_str()
+    }
+
+    /// Which keys must sign the role's file, and how many.
+    pub fn keys(&self) -> &RoleKeys
+        ensures { result.now ≡ self.now.keys }
+    {
+        &self.keys
+    }
+
+    /// Whether a search that comes to the delegation tries none that follow it.
+    pub fn is_terminating(&self) -> bool
+        ensures { result ≡ self.now.terminating }
+    {
+        self.terminating
+    }
+
+    /// Which paths it is for.
+    pub fn paths(&self) -> &Paths
+        ensures { matcher_of result.now ≡ self.now.matcher }
+    {
+        &self.paths
+    }
 }
 
 impl FromJson for Delegation {
@@ -166,6 +217,22 @@ impl Model for Delegations {
     ghost Value = { spec.Delegations };
 
     ghost view = { λ a. record { ring = a.ring; roles = a.roles } };
+}
+
+impl Delegations {
+    /// The keys of the file, for the roles that it delegates to.
+    pub fn ring(&self) -> &KeyRing
+        ensures { result.now ≡ self.now.ring }
+    {
+        &self.ring
+    }
+
+    /// The delegations, in order.
+    pub fn roles(&self) -> &[Delegation]
+        ensures { result.now ≡ self.now.roles }
+    {
+        self.roles.as_slice()
+    }
 }
 
 impl FromJson for Delegations {

@@ -151,7 +151,6 @@ pub fn examine_targets<J: Judge>(
     ensures { Answers (spec.targets_part (expectation expect.now) (file_in files.now) now) result (λ p. p) }
 {
     let fetched: Fetched<Targets> = fetch(alloc, expect, files, judge)?;
-    refuse_if(is_delegating(fetched.part.reading()), Fault::Malformed)?;
     let signed = is_signed(
         alloc,
         &fetched.doc,
@@ -166,13 +165,6 @@ pub fn examine_targets<J: Judge>(
     refuse_if(is_version_wrong(due, targets.header()), Fault::VersionWrong)?;
     refuse_if(is_expired(targets.header(), now), Fault::Expired)?;
     Ok(fetched.part)
-}
-
-/// Whether the file has delegations, which aren't followed yet.
-fn is_delegating(targets: &Targets) -> bool
-    ensures { result ≡ spec.is_delegating targets.now }
-{
-    targets.delegations().is_some()
 }
 
 /// The file that is expected, out of the repository's.

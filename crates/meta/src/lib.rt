@@ -19,7 +19,7 @@ mod targets;
 mod timestamp;
 mod timing;
 
-pub use delegation::{Delegation, Delegations};
+pub use delegation::{Delegation, Delegations, HashPrefix, PathPattern, Paths};
 pub use examine::{
     examine_first_timestamp, examine_next_timestamp, examine_root, examine_snapshot,
     examine_targets,

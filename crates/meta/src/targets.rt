@@ -1,4 +1,4 @@
-ghost use Rattle.std.specs.Prelude.{◌≡◌, Some, option_map};
+ghost use Rattle.std.specs.Prelude.{◌≡◌, IfOk, Some, option_map};
 ghost use Rattle.serde_json.specs.View.{view};
 ghost use Rattle.meta.specs.Answers.{Answers};
 ghost use Rattle.meta.specs.Checks.{content};
@@ -17,7 +17,7 @@ use cjson::list::Items;
 use cjson::members::{FromMember, read_members};
 use cjson::number::Length;
 use cjson::text::Text;
-use cjson::{Doc, Misread};
+use cjson::{Doc, Misread, NoMemory};
 use keys::Judge;
 use serde_json::Value;
 use std::alloc::Global;
@@ -59,6 +59,18 @@ impl Target {
         ensures { result ≡ self.now.hashes }
     {
         self.hashes
+    }
+
+    /// An equal target.
+    pub fn copy(&self, alloc: Global) -> Result<Target, NoMemory>
+        ensures { IfOk result (λ t. t ≡ self.now) }
+    {
+        let path = Text::new(String::from_str(alloc, self.path())?);
+        Ok(Target {
+            path,
+            length: self.length,
+            hashes: self.hashes,
+        })
     }
 
     /// Whether the bytes of the target's file are within the limit, and have the listed length and

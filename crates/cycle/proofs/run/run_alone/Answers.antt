@@ -1,6 +1,9 @@
-use Rattle.std.proofs.Common.{◌∙◌}
-use Rattle.cycle.proofs.Outcomes.{outcome-workflow}
+use Rattle.std.proofs.Common.{◌≡◌, IfOk, subst, ◌∙◌}
+use Rattle.cycle.proofs.Gathering.{workflow_of}
 use Rattle.cycle.proofs.run.run_alone.Goals as goal
 
 pub returns : goal.returns
-returns c = c.new-2.ensures ∙ outcome-workflow _ _ _ _ _ _ _ _ _ c.in_ok-trusted.ensures.workflow c.in_ok-verdicts.ensures c.new.ensures.items
+returns c =
+    subst (λ w. IfOk c.close.result (λ o. o ≡ w))
+    (workflow_of _ _ _ _ _ _ _ _ _ c.in_ok-trusted.ensures.workflow (c.as_slice.ensures.value ∙ c.in_ok-searches.ensures))
+    c.close.ensures

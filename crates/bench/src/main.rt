@@ -1,0 +1,49 @@
+//! Times the slow parts of a verification.
+//!
+//! Without a word it does nothing. With the word `all` it prints a line for each part.
+#![tactic(auto)]
+
+mod parts;
+mod trouble;
+
+use std::alloc::Global;
+use std::env;
+use std::io::Write;
+use std::process::ExitCode;
+use std::rt::{Clock, Env};
+use trouble::Trouble;
+
+fn main(rt: HostRuntime) -> ExitCode {
+    let mut out = rt.stdout();
+    match measured(&rt, rt.alloc(), &mut out) {
+        Ok(()) => ExitCode::SUCCESS,
+        Err(trouble) => {
+            let _ = writeln!(rt.stderr(), "bench: {trouble}");
+            ExitCode::FAILURE
+        }
+    }
+}
+
+fn measured<R: Env + Clock + AllocGlobal, W: Write>(
+    rt: &R,
+    alloc: Global,
+    out: &mut W,
+) -> Result<(), Trouble> {
+    if !is_asked(rt)? {
+        return Ok(());
+    }
+    let rate = parts::verifications(rt, alloc)?;
+    writeln!(out, "verify W8 H5: {rate} per second")?;
+    let step = parts::chain_step(rt, alloc)?;
+    writeln!(out, "chain step: {step} ns")?;
+    let speed = parts::canonical_speed(rt, alloc)?;
+    writeln!(out, "canonical: {speed} MB/s")?;
+    Ok(())
+}
+
+/// Whether the only word is `all`.
+fn is_asked<R: Env + AllocGlobal>(rt: &R) -> Result<bool, Trouble> {
+    let mut words = env::args(rt)?.skip(1);
+    let word = words.next();
+    Ok(word.as_ref().map(String::as_str) == Some("all"))
+}

@@ -1,0 +1,57 @@
+//! What ends a measurement early.
+
+use cjson::{Canon, Misread, NoMemory};
+use lms::SignFault;
+use std::alloc::{AllocError, AllocFailed};
+use std::io;
+use thiserror::Error;
+
+/// Why nothing was measured.
+#[derive(Debug, Drop, Error)]
+pub enum Trouble {
+    /// The clock can't be read, the words can't, or a line can't be written.
+    #[error("a refusal of the system")]
+    System(#[from] io::Error),
+    /// Memory was refused.
+    #[error("out of memory")]
+    Memory,
+    /// What was made for the measurement isn't what it has to be.
+    #[error("a part is not as it was made")]
+    Part,
+}
+
+impl From<AllocError> for Trouble {
+    fn from(_error: AllocError) -> Trouble {
+        Trouble::Memory
+    }
+}
+
+impl<T: Drop> From<AllocFailed<T>> for Trouble {
+    fn from(_error: AllocFailed<T>) -> Trouble {
+        Trouble::Memory
+    }
+}
+
+impl From<NoMemory> for Trouble {
+    fn from(_error: NoMemory) -> Trouble {
+        Trouble::Memory
+    }
+}
+
+impl From<SignFault> for Trouble {
+    fn from(_error: SignFault) -> Trouble {
+        Trouble::Memory
+    }
+}
+
+impl From<Misread> for Trouble {
+    fn from(_error: Misread) -> Trouble {
+        Trouble::Part
+    }
+}
+
+impl From<Canon> for Trouble {
+    fn from(_error: Canon) -> Trouble {
+        Trouble::Part
+    }
+}

@@ -1,0 +1,6 @@
+pub mod Patterns
+pub mod Prefixes
+pub mod Walking
+pub mod Stack
+pub mod Starting
+pub mod Rows

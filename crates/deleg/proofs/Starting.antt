@@ -1,0 +1,49 @@
+-- A search begins with the trusted targets file.
+use Rattle.std.proofs.Common.{◌≡◌, ℕ, ◌+◌, List, [], ◌∷◌, ◌++◌, length, codes, Option, Some, None, option_map, option_and_then, Result, Ok, Err, IfOk, refl, sym, ap, ◌∙◌}
+use Rattle.std.specs.Option.{option_map_or}
+use Rattle.meta.specs.Moment.{Moment}
+use Rattle.meta.specs.Metadata.{Root, Snapshot, Target, Targets}
+use Rattle.meta.specs.Checks.{Files}
+use Rattle.meta.specs.Part.{Part}
+use Rattle.rolechain.specs.State.{State}
+use Rattle.deleg.specs.Accepted.{Accepted, Searched}
+use Rattle.deleg.specs.Edge.{Edge, edges, followed}
+use Rattle.deleg.specs.Search.{done, settled, walk, target_of, search_from, search_in}
+use Rattle.deleg.specs.Quest.{Quest, outlook, pending}
+use Rattle.deleg.specs.declared.found.Found.TheVariants.{Listed}
+
+starts : (q : Quest) (m : Targets) (files : List (List Edge)) → files ≡ edges m ∷ [] → None ≡ target_of m q.path
+    → outlook q (pending q.path files) [] ≡ search_from q.files q.now q.top q.snap q.path q.most m
+unfolding outlook
+starts q m files e none =
+    ap (λ (fs : List (List Edge)). settled (walk q.files q.now q.top q.snap q.path q.most (pending q.path fs) [])) e
+    ∙ ap (λ (o : Option Target). settled (option_map_or (λ t. done (Some (Listed (codes "targets") t (length {A = Accepted} [] + 1))) []) o (walk q.files q.now q.top q.snap q.path q.most (followed m q.path) []))) none
+
+along : {E : Type 0} (r : Result Searched E) (a b : Searched) → a ≡ b → IfOk r (λ s. s ≡ a) → IfOk r (λ s. s ≡ b)
+along (Ok s) a b e h = h ∙ e
+along (Err x) a b e h = h
+
+pub starts_from : {E : Type 0} (q : Quest) (m : Targets) (files : List (List Edge)) (r : Result Searched E) → files ≡ edges m ∷ [] → None ≡ target_of m q.path
+    → IfOk r (λ s. s ≡ outlook q (pending q.path files) []) → IfOk r (λ s. s ≡ search_from q.files q.now q.top q.snap q.path q.most m)
+starts_from q m files r e none h = along r _ _ (starts q m files e none) h
+
+in_state : (files : Files) (now : Moment) (t : State) (path : List ℕ) (most : ℕ) (top : Root) (snap : Part Snapshot) (m : Part Targets) → top ≡ t.root.reading → Some snap ≡ t.snapshot → Some m ≡ t.targets
+    → search_in files now t path most ≡ Some (search_from files now top snap.reading path most m.reading)
+in_state files now t path most top snap m e f g =
+    ap (λ (o : Option (Part Snapshot)). option_and_then (λ sn. option_map (λ mm. search_from files now t.root.reading sn.reading path most mm.reading) t.targets) o) (sym f)
+    ∙ ap (λ (o : Option (Part Targets)). option_map (λ mm. search_from files now t.root.reading snap.reading path most mm.reading) o) (sym g)
+    ∙ ap (λ (r : Root). Some (search_from files now r snap.reading path most m.reading)) (sym e)
+
+told : {E : Type 0} (r : Result Searched E) (o : Option Searched) (a : Searched) → o ≡ Some a → IfOk r (λ s. s ≡ a) → IfOk r (λ s. o ≡ Some s)
+told (Ok s) o a e h = e ∙ ap Some (sym h)
+told (Err x) o a e h = h
+
+pub starts_in : {E : Type 0} (files : Files) (now : Moment) (t : State) (path : List ℕ) (most : ℕ) (top : Root) (snap : Part Snapshot) (m : Part Targets) (read : Snapshot) (listed : Targets) (r : Result Searched E)
+    → top ≡ t.root.reading → Some snap ≡ t.snapshot → Some m ≡ t.targets → read ≡ snap.reading → listed ≡ m.reading
+    → IfOk r (λ s. s ≡ search_from files now top read path most listed) → IfOk r (λ s. search_in files now t path most ≡ Some s)
+starts_in files now t path most top snap m read listed r e f g k l h =
+    told r _ (search_from files now top read path most listed)
+    (in_state files now t path most top snap m e f g
+    ∙ ap (λ (x : Snapshot). Some (search_from files now top x path most m.reading)) (sym k)
+    ∙ ap (λ (x : Targets). Some (search_from files now top read path most x)) (sym l))
+    h

@@ -1,0 +1,9 @@
+pub mod Pattern
+pub mod Prefix
+pub mod Lead
+pub mod Accepted
+pub mod Edge
+pub mod Search
+pub mod Quest
+pub mod Values
+pub mod Held

@@ -1,0 +1,21 @@
+-- What the values of the program stand for.
+use Rattle.std.specs.Prelude.{ℕ, List}
+use Rattle.meta.specs.Expecting.{file_in}
+use Rattle.meta.specs.Metadata.{Targets}
+use Rattle.deleg.specs.Edge as edge
+use Rattle.deleg.specs.Quest as quest
+use Rattle.deleg.specs.declared.edge.Edge.{Edge}
+use Rattle.deleg.specs.declared.quest.Quest.{Quest}
+
+abbrev pub edge_of : Edge → edge.Edge
+edge_of e = record { ring = e.ring.now; to = e.to.now }
+
+abbrev pub quest_of : Quest → quest.Quest
+quest_of q = record {
+  files = file_in q.files.now;
+  now = q.moment;
+  top = q.root.now;
+  snap = q.snapshot.now;
+  path = q.path.now;
+  most = q.limit;
+}

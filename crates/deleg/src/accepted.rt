@@ -1,0 +1,93 @@
+ghost use Rattle.std.specs.Prelude.{◌≡◌, IfOk};
+
+use crate::found::Found;
+use cjson::NoMemory;
+use cjson::text::Text;
+use std::alloc::Global;
+use std::marker::Model;
+
+/// A delegated role that a search accepted.
+#[derive(Drop)]
+pub struct Accepted {
+    role: Text,
+    version: u64,
+}
+
+impl Model for Accepted {
+    ghost use Rattle.deleg.specs.Accepted as spec;
+
+    ghost Value = { spec.Accepted };
+
+    ghost view = { λ a. record { role = a.role; version = a.version } };
+}
+
+impl Accepted {
+    pub(crate) fn new(role: Text, version: u64) -> Accepted
+        ensures { result ≡ record { role = role; version = version } }
+    {
+        Accepted { role, version }
+    }
+
+    /// The role's name.
+    pub fn role(&self) -> &str
+        ensures { result.now ≡ self.now.role }
+    {
+        self.role.as_str()
+    }
+
+    /// An equal role.
+    pub fn copy(&self, alloc: Global) -> Result<Accepted, NoMemory>
+        ensures { IfOk result (λ a. a ≡ self.now) }
+    {
+        let role = Text::new(String::from_str(alloc, self.role())?);
+        Ok(Accepted {
+            role,
+            version: self.version,
+        })
+    }
+
+    /// The version of its file.
+    pub fn version(&self) -> u64
+        ensures { result ≡ self.now.version }
+    {
+        self.version
+    }
+}
+
+/// What a search gives: what was found of the path, and the delegated roles that were accepted, in
+/// the order of their visits.
+#[derive(Drop)]
+pub struct Searched {
+    found: Found,
+    accepted: Vec<Accepted>,
+}
+
+impl Model for Searched {
+    ghost use Rattle.deleg.specs.Accepted as spec;
+
+    ghost Value = { spec.Searched };
+
+    ghost view = { λ s. record { found = s.found; accepted = s.accepted.items } };
+}
+
+impl Searched {
+    pub(crate) fn new(found: Found, accepted: Vec<Accepted>) -> Searched
+        ensures { result ≡ record { found = found; accepted = accepted.items } }
+    {
+        Searched { found, accepted }
+    }
+
+    /// What was found of the path.
+    pub fn found(&self) -> &Found
+        ensures { result.now ≡ self.now.found }
+    {
+        &self.found
+    }
+
+    /// The delegated roles that were accepted, in the order of their visits.
+    pub fn accepted(&self) -> &[Accepted]
+        ensures { result.now ≡ self.now.accepted }
+    {
+        self.accepted.as_slice()
+    }
+}

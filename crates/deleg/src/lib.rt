@@ -1,0 +1,24 @@
+//! Which paths a delegation is for, and the search for a path through delegations (TUF 1.0 sections
+//! 4.5 and 5.6.7).
+#![tactic(auto)]
+
+mod accepted;
+mod edge;
+mod found;
+mod frame;
+mod pattern;
+mod prefix;
+mod quest;
+mod searching;
+mod walk;
+
+pub use accepted::{Accepted, Searched};
+pub use found::Found;
+pub use pattern::matches;
+pub use prefix::prefix_matches;
+pub use searching::search;
+
+#[cfg(test)]
+mod search_tests;
+#[cfg(test)]
+mod tests;

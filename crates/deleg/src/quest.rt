@@ -1,0 +1,99 @@
+ghost use Rattle.std.specs.Prelude.{◌≡◌, IfOk, bytes_eq, find, option_map, string_bytes};
+ghost use Rattle.std.specs.List.{list_any};
+ghost use Rattle.meta.specs.Answers.{Answers};
+ghost use Rattle.meta.specs.Expecting.{expectation, file_in, listed_of};
+ghost use Rattle.rolechain.specs.Expected.{listing_of, file_name};
+ghost use Rattle.deleg.specs.Search as spec;
+ghost use Rattle.deleg.specs.Values.{edge_of};
+
+use crate::accepted::Accepted;
+use crate::edge::Edge;
+use keys::Judge;
+use meta::names::{role_name, versioned};
+use meta::{
+    Expect, Listed, Moment, Named, Part, Root, Snapshot, Stop, Target, Targets, examine_targets,
+};
+use std::alloc::{AllocError, Global};
+use std::collections::BTreeMap;
+
+/// What a search looks for, and where: a path, in the repository's metadata files by their names, at
+/// a moment, below a trusted root and snapshot; it visits at most so many roles.
+#[derive(Clone, Copy)]
+pub(crate) struct Quest<'a> {
+    pub alloc: Global,
+    pub files: &'a BTreeMap<String, Vec<u8>>,
+    pub moment: Moment,
+    pub root: &'a Root,
+    pub snapshot: &'a Snapshot,
+    pub path: &'a str,
+    pub limit: usize,
+}
+
+/// The file of the role that is delegated to, or its first fault: it must be listed by the snapshot,
+/// and signed by the keys that this delegation asks for.
+pub(crate) fn examine<J: Judge>(
+    quest: &Quest,
+    edge: &Edge,
+    judge: &mut J,
+) -> Result<Part<Targets>, Stop>
+    ensures { Answers (spec.examined (file_in quest.now.files.now) quest.now.moment quest.now.root.now quest.now.snapshot.now (edge_of edge.now)) result (λ p. p) }
+{
+    let (listed, name) = place_of(quest.alloc, quest.root, quest.snapshot, edge.to.name())?;
+    let expect = Expect {
+        name: name.as_str(),
+        listed,
+        ring: edge.ring,
+        role: edge.to.keys(),
+    };
+    examine_targets(quest.alloc, &expect, quest.files, quest.moment, judge)
+}
+
+/// How a role's file is listed, and the name under which it lies (TUF 1.0 section 5.6.1).
+fn place_of<'a>(
+    alloc: Global,
+    root: &Root,
+    snapshot: &'a Snapshot,
+    role: &str,
+) -> Result<(Listed<'a>, String), AllocError>
+    ensures listed { IfOk result (λ p. listed_of p.0 ≡ listing_of role.now snapshot.now) }
+    ensures name { IfOk result (λ p. string_bytes p.1 ≡ file_name root.now role.now (listing_of role.now snapshot.now)) }
+{
+    let plain = role_name(alloc, role)?;
+    match find_name(snapshot.files(), plain.as_str()) {
+        Some(named) => {
+            let listing = named.listing();
+            let name = versioned(alloc, root.consistent(), listing.version(), plain.as_str())?;
+            Ok((Listed::As(listing), name))
+        }
+        None => Ok((Listed::Absent, plain)),
+    }
+}
+
+fn find_name<'a>(files: &'a [Named], name: &str) -> Option<&'a Named>
+    ensures { option_map (λ n. n.now) result ≡ find (λ n. bytes_eq n.name name.now) files.now }
+{
+    files.iter().find(|named| named.name() == name)
+}
+
+/// The target that is listed under the path.
+pub(crate) fn target_of<'a>(targets: &'a Targets, path: &str) -> Option<&'a Target>
+    ensures { option_map (λ t. t.now) result ≡ spec.target_of targets.now path.now }
+{
+    targets
+        .targets()
+        .iter()
+        .find(|target| target.path() == path)
+}
+
+/// Whether the role was visited; the top-level role always was.
+pub(crate) fn is_visited(seen: &[Accepted], role: &str) -> bool
+    ensures { result ≡ spec.is_visited seen.now role.now }
+{
+    role == "targets" || is_accepted(seen, role)
+}
+
+fn is_accepted(seen: &[Accepted], role: &str) -> bool
+    ensures { result ≡ list_any (λ a. bytes_eq a.role role.now) seen.now }
+{
+    seen.iter().any(|accepted| accepted.role() == role)
+}

@@ -1,0 +1,81 @@
+ghost use Rattle.std.specs.Prelude.{◌≡◌, IfOk, IsTrue, Some};
+ghost use Rattle.meta.specs.Expecting.{file_in};
+ghost use Rattle.meta.specs.Metadata.{Snapshot};
+ghost use Rattle.rolechain.specs.State.{is_ready};
+ghost use Rattle.deleg.specs.Search as spec;
+ghost use Rattle.deleg.specs.Values.{quest_of};
+
+use crate::accepted::Searched;
+use crate::found::Found;
+use crate::frame::Frame;
+use crate::quest::{Quest, target_of};
+use crate::walk::walk;
+use cjson::NoMemory;
+use cjson::text::Text;
+use keys::Judge;
+use meta::{Moment, Repo, Targets};
+use rolechain::Trusted;
+use std::alloc::Global;
+
+/// Searches for a path from the trusted top-level targets file on (TUF 1.0 section 5.6.7).
+///
+/// Roles are visited in preorder, at most `limit` of them (a search of this project has a limit of 1
+/// to 256), the top-level role among them. A delegated role's file must be listed by the trusted
+/// snapshot and signed as the delegation asks by which the search comes to it. Where the role lists
+/// the path, the search ends. Else its delegations that are for the path are followed in order; one to
+/// a role that was visited is skipped. After a terminating one nothing else is tried, whether it was
+/// followed or skipped. The search also ends with the first role that is refused, and where one more
+/// role would be visited than the limit allows.
+pub fn search<J: Judge>(
+    alloc: Global,
+    trusted: &Trusted,
+    repo: &Repo,
+    now: Moment,
+    path: &str,
+    limit: usize,
+    judge: &mut J,
+) -> Result<Searched, NoMemory>
+    requires { IsTrue (is_ready trusted.now) }
+    ensures preorder { (snapshot : Snapshot) → spec.IsPreorder (file_in repo.now.metadata) now trusted.now.root.reading snapshot path.now limit }
+    ensures searched { IfOk result (λ s. spec.search_in (file_in repo.now.metadata) now trusted.now path.now limit ≡ Some s) }
+{
+    let Some(snapshot) = trusted.snapshot() else {
+        unreachable!()
+    };
+    let Some(targets) = trusted.targets() else {
+        unreachable!()
+    };
+    let quest = Quest {
+        alloc,
+        files: &repo.metadata,
+        moment: now,
+        root: trusted.root().reading(),
+        snapshot: snapshot.reading(),
+        path,
+        limit,
+    };
+    search_from(&quest, targets.reading(), judge)
+}
+
+/// The search from the top-level targets file on.
+fn search_from<J: Judge>(
+    quest: &Quest,
+    targets: &Targets,
+    judge: &mut J,
+) -> Result<Searched, NoMemory>
+    ensures { let q = quest_of quest.now in
+        IfOk result (λ s. s ≡ spec.search_from q.files q.now q.top q.snap q.path q.most targets.now) }
+{
+    if let Some(target) = target_of(targets, quest.path) {
+        let role = Text::new(String::from_str(quest.alloc, "targets")?);
+        let found = Found::Listed {
+            role,
+            target: target.copy(quest.alloc)?,
+            visited: 1,
+        };
+        return Ok(Searched::new(found, Vec::new(quest.alloc)));
+    }
+    let mut stack = Vec::new(quest.alloc);
+    stack.push(Frame::of_trusted(targets))?;
+    walk(quest, stack, judge)
+}

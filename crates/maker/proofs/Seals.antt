@@ -1,0 +1,152 @@
+-- Signed files: their text, and their entries one by one.
+use Rattle.std.proofs.Common.{◌≡◌, ℕ, zero, suc, ◌+◌, ◌<◌, ◌≤◌, ◌&&◌, ◌++◌, List, [], ◌∷◌, length, get_or, set, take, drop, map, fold, Bool, true, false, Some, None, slice_get, is_some, option_map, IsSome, Any, refl, sym, ap, ap₂, ◌∙◌, arith, true≢false, if◌then◌else◌}
+use Rattle.std.specs.List.{AllZip}
+use Rattle.std.proofs.Math.Seq.{map-set_same}
+use Rattle.std.proofs.lemmas.List.{take_more, take-append-drop, length-map, map-set, get_or-map, get_or-set_same, get_or_default}
+use Rattle.std.proofs.lemmas.List.Sums.{fold-append}
+use Rattle.std.proofs.lemmas.Option.{slice_get-get_or, slice_get-map}
+use Rattle.serde_json.specs.Data.{Data, Items, no_items, item}
+use Rattle.serde_json.specs.View.{view, items_view}
+use Rattle.serde_json.specs.declared.value.Value.{Value}
+use Rattle.cjson.specs.Canon.{canon, has_whole_numbers, items_are_whole, is_ordered, items_are_ordered}
+use Rattle.cjson.specs.Entry.{Entry}
+use Rattle.cjson.proofs.OnLiterals.{cjson_on_literals}
+use Rattle.maker.specs.declared.signer.Signer.{Signer}
+use Rattle.maker.specs.Sealed.{Holder, IsSignedAt, IsSignedBy, IsOverspent, entry_object, entry_objects, holder, sealed, spend, used_of}
+
+-- ---- the file has a text
+
+entries_whole : (es : List Entry) → items_are_whole (entry_objects es) ≡ true
+entries_whole [] = refl
+entries_whole (e ∷ es) = entries_whole es
+
+entries_ordered : (es : List Entry) → items_are_ordered (entry_objects es) ≡ true
+unfolding cjson_on_literals
+entries_ordered [] = refl
+entries_ordered (e ∷ es) = entries_ordered es
+
+file_whole : (d : Data) (es : List Entry) → has_whole_numbers d ≡ true → has_whole_numbers (sealed d es) ≡ true
+file_whole d es whole = rw (entries_whole es, whole)
+
+file_ordered : (d : Data) (es : List Entry) → is_ordered d ≡ true → is_ordered (sealed d es) ≡ true
+unfolding cjson_on_literals
+file_ordered d es ordered = rw (entries_ordered es, ordered)
+
+both_true : (a b : Bool) (s : List ℕ) → is_some (if a && b then Some s else None) ≡ true → (a ≡ true) × (b ≡ true)
+both_true true true s h = (refl, refl)
+both_true true false s h = absurd (true≢false (sym h))
+both_true false b s h = absurd (true≢false (sym h))
+
+-- a file has a canonical text where its value has one
+pub IsSome-canon-sealed : (d file : Data) (es : List Entry) → IsSome (canon d) → file ≡ sealed d es → IsSome (canon file)
+IsSome-canon-sealed d file es has is =
+    let parts = both_true (has_whole_numbers d) (is_ordered d) _ has in
+    rw (is, file_whole d es parts.0, file_ordered d es parts.1)
+
+-- ---- one more entry
+
+items_then : Items → Data → Items
+items_then no_items d = item d no_items
+items_then (item x xs) d = item x (items_then xs d)
+
+items_view-push : (vs : List Value) (v : Value) → items_view (vs ++ v ∷ []) ≡ items_then (items_view vs) (view v)
+unfolding items_then
+items_view-push [] v = refl
+items_view-push (x ∷ vs) v = ap (item (view x)) (items_view-push vs v)
+
+entry_objects-push : (es : List Entry) (e : Entry) → entry_objects (es ++ e ∷ []) ≡ items_then (entry_objects es) (entry_object e)
+unfolding items_then
+entry_objects-push [] e = refl
+entry_objects-push (x ∷ es) e = ap (item (entry_object x)) (entry_objects-push es e)
+
+view-push : (vs : List Value) (v : Value) (es : List Entry) (e : Entry) → items_view vs ≡ entry_objects es → view v ≡ entry_object e
+    → items_view (vs ++ v ∷ []) ≡ entry_objects (es ++ e ∷ [])
+view-push vs v es e done here = items_view-push vs v ∙ ap₂ items_then done here ∙ sym (entry_objects-push es e)
+
+AllZip-push : {A B : Type 0} (R : A → B → Type 0) (xs : List A) (ys : List B) (x : A) (y : B) → AllZip R xs ys → R x y
+    → AllZip R (xs ++ x ∷ []) (ys ++ y ∷ [])
+AllZip-push R [] [] x y h r = (r, tt)
+AllZip-push R [] (z ∷ ys) x y h r = absurd h
+AllZip-push R (w ∷ xs) [] x y h r = absurd h
+AllZip-push R (w ∷ xs) (z ∷ ys) x y h r = (h.0, AllZip-push R xs ys x y h.1 r)
+
+-- the entries so far and one more
+pub entries_more : (hs : List Holder) (by text : List ℕ) (i : ℕ) (vs : List Value) (es : List Entry) (v : Value) (e : Entry) (h : Holder)
+    → i < length by → slice_get hs (get_or by i 0) ≡ Some h
+    → items_view vs ≡ entry_objects es → AllZip (IsSignedAt hs text) (take i by) es
+    → view v ≡ entry_object e → IsSignedBy h text e
+    → (more : List Entry) × (items_view (vs ++ v ∷ []) ≡ entry_objects more) × AllZip (IsSignedAt hs text) (take (i + 1) by) more
+entries_more hs by text i vs es v e h within at done signed is by_h =
+    let pushed : AllZip (IsSignedAt hs text) (take i by ++ get_or by i 0 ∷ []) (es ++ e ∷ []) =
+    AllZip-push (IsSignedAt hs text) (take i by) es (get_or by i 0) e signed (h, at, by_h) in
+    let all : AllZip (IsSignedAt hs text) (take (i + 1) by) (es ++ e ∷ []) = rw (take_more by i 0 within) pushed in
+    (es ++ e ∷ [], view-push vs v es e done is, all)
+
+-- ---- the signers
+
+-- the holder at a place, whatever was signed before
+pub holder_at : (first ss : List Signer) (p : ℕ) (d : Signer) → p < length ss → map holder ss ≡ map holder first
+    → slice_get (map holder first) p ≡ Some (holder (get_or ss p d))
+holder_at first ss p d within so_far =
+    ap (λ hs. slice_get hs p) (sym so_far) ∙ slice_get-map holder ss p ∙ ap (option_map holder) (slice_get-get_or ss p d within)
+
+-- an entry's signer keeps its id and its public key, so all do
+pub holders_kept : (first ss : List Signer) (p : ℕ) (d t : Signer) → holder t ≡ holder (get_or ss p d) → map holder ss ≡ map holder first
+    → map holder (set ss p t) ≡ map holder first
+holders_kept first ss p d t kept so_far = map-set_same holder ss p t d kept ∙ so_far
+
+-- a signer of the places takes one more leaf
+pub leaves_more : (first ss : List Signer) (by : List ℕ) (i : ℕ) (d t : Signer) → i < length by → get_or by i 0 < length ss
+    → used_of t ≡ used_of (get_or ss (get_or by i 0) d) + 1 → map used_of ss ≡ fold spend (map used_of first) (take i by)
+    → map used_of (set ss (get_or by i 0) t) ≡ fold spend (map used_of first) (take (i + 1) by)
+leaves_more first ss by i d t within there one so_far =
+    let p = get_or by i 0 in
+    let count : used_of t ≡ get_or (map used_of ss) p 0 + 1 = one ∙ ap (λ n. n + 1) (sym (get_or-map used_of ss p d 0 there)) in
+    let here : map used_of (set ss p t) ≡ spend (map used_of ss) p = map-set used_of ss p t ∙ ap (set (map used_of ss) p) count in
+    here ∙ ap (λ counts. spend counts p) so_far
+    ∙ sym (ap (fold spend (map used_of first)) (take_more by i 0 within) ∙ fold-append spend (map used_of first) (take i by) (p ∷ []))
+
+-- ---- a signer that has too few leaves
+
+spend-least : (counts : List ℕ) (q p : ℕ) → get_or counts p 0 ≤ get_or (spend counts q) p 0
+spend-least [] q p = omega arith
+spend-least (n ∷ counts) zero zero = omega arith
+spend-least (n ∷ counts) zero (suc p) = omega arith
+spend-least (n ∷ counts) (suc q) zero = omega arith
+spend-least (n ∷ counts) (suc q) (suc p) = spend-least counts q p
+
+-- no count falls
+spends-least : (by counts : List ℕ) (p : ℕ) → get_or counts p 0 ≤ get_or (fold spend counts by) p 0
+spends-least [] counts p = omega arith
+spends-least (q ∷ by) counts p =
+    let one = spend-least counts q p in
+    let more = spends-least by (spend counts q) p in
+    omega arith
+
+-- the counts after all places, from those before place i
+split_at : (by counts : List ℕ) (i : ℕ) → i < length by
+    → fold spend counts by ≡ fold spend (spend (fold spend counts (take i by)) (get_or by i 0)) (drop (i + 1) by)
+split_at by counts i within =
+    ap (fold spend counts) (sym (take-append-drop (i + 1) by)) ∙ fold-append spend counts (take (i + 1) by) (drop (i + 1) by)
+    ∙ ap (λ c. fold spend c (drop (i + 1) by))
+    (ap (fold spend counts) (take_more by i 0 within) ∙ fold-append spend counts (take i by) (get_or by i 0 ∷ []))
+
+asked_again : (by counts : List ℕ) (i n : ℕ) → i < length by → get_or by i 0 < length (fold spend counts (take i by))
+    → get_or (fold spend counts (take i by)) (get_or by i 0) 0 ≡ n → n < get_or (fold spend counts by) (get_or by i 0) 0
+asked_again by counts i n within there is =
+    let p = get_or by i 0 in
+    let before = fold spend counts (take i by) in
+    let one : get_or (spend before p) p 0 ≡ get_or before p 0 + 1 = get_or-set_same before p _ 0 there in
+    let more = spends-least (drop (i + 1) by) (spend before p) p in
+    rw (split_at by counts i within) (omega (arith, one, more, is))
+
+-- a signer that is asked for a leaf and has none
+pub overspent_at : (first ss : List Signer) (by : List ℕ) (i : ℕ) (d : Signer) → i < length by → get_or by i 0 < length ss
+    → used_of (get_or ss (get_or by i 0) d) ≡ (holder (get_or ss (get_or by i 0) d)).leaves → map holder ss ≡ map holder first
+    → map used_of ss ≡ fold spend (map used_of first) (take i by) → Any (IsOverspent first by) by
+overspent_at first ss by i d within there spent kept leaves =
+    let p = get_or by i 0 in
+    let count : get_or (map used_of ss) p 0 ≡ (holder (get_or ss p d)).leaves = get_or-map used_of ss p d 0 there ∙ spent in
+    let room : p < length (map used_of ss) = omega (arith, length-map ss used_of) in
+    let less = asked_again by (map used_of first) i _ within (rw leaves at room) (rw leaves at count) in
+    (i, p, within, get_or_default by i p 0 within, (holder (get_or ss p d), holder_at first ss p d there kept, less))

@@ -1,0 +1,173 @@
+//! The lines of a script.
+
+use crate::refusal::Refusal;
+use crate::words::Words;
+use lms::Height;
+use std::alloc::Global;
+
+/// A line of a script, as it is spelled.
+#[derive(Drop)]
+pub enum Line<'a> {
+    /// An empty line or a comment.
+    Passed,
+    /// `key S H`
+    Key { byte: u8, height: Height },
+    /// `consistent yes` or `consistent no`
+    Consistent(bool),
+    /// `expires TEXT`
+    Expires(&'a str),
+    /// `top ROLE T KEYS`
+    Top { role: &'a str, quorum: Quorum },
+    /// `target ROLE PATH HEX HASHES`
+    Target(TargetLine<'a>),
+    /// `delegate FROM TO T KEYS END KIND LIST`
+    Delegate(DelegateLine<'a>),
+    /// `forget ROLE`
+    Forget(&'a str),
+    /// `write ROLE VERSION KEYS`
+    Write(WriteLine<'a>),
+}
+
+/// The keys of a role, by their bytes, and how many of them must sign.
+#[derive(Drop)]
+pub struct Quorum {
+    pub threshold: u64,
+    pub keys: Vec<u8>,
+}
+
+/// Which digests of a target are listed.
+#[derive(Clone, Copy, PartialEq, Eq)]
+pub enum Digests {
+    Sha256,
+    Sha512,
+    Both,
+}
+
+/// A line that makes and lists a target.
+#[derive(Drop)]
+pub struct TargetLine<'a> {
+    pub role: &'a str,
+    pub path: &'a str,
+    pub bytes: Vec<u8>,
+    pub digests: Digests,
+}
+
+/// A line that adds a delegation.
+#[derive(Drop)]
+pub struct DelegateLine<'a> {
+    pub from: &'a str,
+    pub to: &'a str,
+    pub quorum: Quorum,
+    pub terminating: bool,
+    /// Whether the list has patterns of paths, and not prefixes of their digests.
+    pub by_paths: bool,
+    /// Patterns or prefixes, joined by `,`.
+    pub list: &'a str,
+}
+
+/// A line that makes a metadata file.
+#[derive(Drop)]
+pub struct WriteLine<'a> {
+    pub role: &'a str,
+    pub version: u64,
+    pub keys: Vec<u8>,
+}
+
+/// Reads a line without its line feed.
+pub fn read_line<'a>(alloc: Global, text: &'a str) -> Result<Line<'a>, Refusal> {
+    if text.is_empty() {
+        return Ok(Line::Passed);
+    }
+    if text.starts_with('#') {
+        return Ok(Line::Passed);
+    }
+    let mut words = Words::of(text);
+    let line = read_words(alloc, &mut words)?;
+    words.end()?;
+    Ok(line)
+}
+
+fn read_words<'a>(alloc: Global, words: &mut Words<'a>) -> Result<Line<'a>, Refusal> {
+    match words.word()? {
+        "key" => read_key(words),
+        "consistent" => Ok(Line::Consistent(words.choice("yes", "no")?)),
+        "expires" => Ok(Line::Expires(words.word()?)),
+        "top" => read_top(alloc, words),
+        "target" => read_target(alloc, words),
+        "delegate" => read_delegate(alloc, words),
+        "forget" => Ok(Line::Forget(words.word()?)),
+        "write" => read_write(alloc, words),
+        _ => Err(Refusal::Line),
+    }
+}
+
+fn read_key<'a>(words: &mut Words<'a>) -> Result<Line<'a>, Refusal> {
+    let byte = words.key_byte()?;
+    let height = words.height()?;
+    Ok(Line::Key { byte, height })
+}
+
+fn read_quorum(alloc: Global, words: &mut Words<'_>) -> Result<Quorum, Refusal> {
+    let threshold = words.whole()?;
+    let keys = words.keys(alloc)?;
+    Ok(Quorum { threshold, keys })
+}
+
+fn read_top<'a>(alloc: Global, words: &mut Words<'a>) -> Result<Line<'a>, Refusal> {
+    let role = words.word()?;
+    if !matches!(role, "root" | "timestamp" | "snapshot" | "targets") {
+        return Err(Refusal::Line);
+    }
+    let quorum = read_quorum(alloc, words)?;
+    Ok(Line::Top { role, quorum })
+}
+
+fn read_target<'a>(alloc: Global, words: &mut Words<'a>) -> Result<Line<'a>, Refusal> {
+    let role = words.word()?;
+    let path = words.path()?;
+    let bytes = words.bytes(alloc)?;
+    let digests = read_digests(words)?;
+    Ok(Line::Target(TargetLine {
+        role,
+        path,
+        bytes,
+        digests,
+    }))
+}
+
+fn read_digests(words: &mut Words<'_>) -> Result<Digests, Refusal> {
+    match words.word()? {
+        "sha256" => Ok(Digests::Sha256),
+        "sha512" => Ok(Digests::Sha512),
+        "both" => Ok(Digests::Both),
+        _ => Err(Refusal::Line),
+    }
+}
+
+fn read_delegate<'a>(alloc: Global, words: &mut Words<'a>) -> Result<Line<'a>, Refusal> {
+    let from = words.word()?;
+    let to = words.role()?;
+    let quorum = read_quorum(alloc, words)?;
+    let terminating = words.choice("stop", "go")?;
+    let by_paths = words.choice("paths", "prefixes")?;
+    let list = words.word()?;
+    Ok(Line::Delegate(DelegateLine {
+        from,
+        to,
+        quorum,
+        terminating,
+        by_paths,
+        list,
+    }))
+}
+
+fn read_write<'a>(alloc: Global, words: &mut Words<'a>) -> Result<Line<'a>, Refusal> {
+    let role = words.word()?;
+    let version = words.whole()?;
+    let keys = words.keys(alloc)?;
+    Ok(Line::Write(WriteLine {
+        role,
+        version,
+        keys,
+    }))
+}

@@ -1,0 +1,158 @@
+//! The objects of metadata files (TUF 1.0 section 4).
+
+use crate::line::{DelegateLine, Digests, TargetLine};
+use lms::Public;
+use meta::names;
+use serde_json::{Map, Value, json};
+use sha2::{Digest, Sha256, Sha512};
+use std::alloc::{AllocError, Global};
+
+/// The lower-case hexadecimal text of the bytes' SHA-256.
+pub fn sha256_text(alloc: Global, bytes: &[u8]) -> Result<String, AllocError> {
+    let digest: [u8; 32] = Sha256::digest(bytes);
+    hex::encode(alloc, digest)
+}
+
+/// The lower-case hexadecimal text of the bytes' SHA-512.
+pub fn sha512_text(alloc: Global, bytes: &[u8]) -> Result<String, AllocError> {
+    let digest: [u8; 64] = Sha512::digest(bytes);
+    hex::encode(alloc, digest)
+}
+
+/// Puts a value at a key, in place of what is there.
+pub fn put(
+    alloc: Global,
+    members: &mut Map<String, Value>,
+    key: &str,
+    value: Value,
+) -> Result<(), AllocError> {
+    let key = String::from_str(alloc, key)?;
+    let _ = members.insert(key, value)?;
+    Ok(())
+}
+
+/// A key object (TUF 1.0 section 4.2).
+pub fn key_object(alloc: Global, public: &Public) -> Result<Value, AllocError> {
+    let public = hex::encode(alloc, public.bytes().as_slice())?;
+    json!(in alloc; {
+        "keytype": "lms",
+        "keyval": { "public": public },
+        "scheme": "lms-sha256"
+    })
+}
+
+/// What a role says of its keys (TUF 1.0 section 4.3).
+pub fn role_object(alloc: Global, ids: Vec<Value>, threshold: u64) -> Result<Value, AllocError> {
+    json!(in alloc; { "keyids": ids, "threshold": threshold })
+}
+
+/// The digests of a file.
+pub fn hashes_object(alloc: Global, bytes: &[u8], digests: Digests) -> Result<Value, AllocError> {
+    let mut hashes = Map::new(alloc);
+    if digests != Digests::Sha512 {
+        let text = sha256_text(alloc, bytes)?;
+        put(alloc, &mut hashes, "sha256", Value::String(text))?;
+    }
+    if digests != Digests::Sha256 {
+        let text = sha512_text(alloc, bytes)?;
+        put(alloc, &mut hashes, "sha512", Value::String(text))?;
+    }
+    Ok(Value::Object(hashes))
+}
+
+/// How a metadata file is listed (TUF 1.0 sections 4.4 and 4.6).
+pub fn listing_object(alloc: Global, bytes: &[u8], version: u64) -> Result<Value, AllocError> {
+    let hashes = hashes_object(alloc, bytes, Digests::Sha256)?;
+    let length = bytes.len();
+    json!(in alloc; { "hashes": hashes, "length": length, "version": version })
+}
+
+/// How a target is listed (TUF 1.0 section 4.5).
+pub fn target_object(alloc: Global, bytes: &[u8], digests: Digests) -> Result<Value, AllocError> {
+    let hashes = hashes_object(alloc, bytes, digests)?;
+    let length = bytes.len();
+    json!(in alloc; { "hashes": hashes, "length": length })
+}
+
+/// The members that files of all kinds have.
+pub fn common_members(
+    alloc: Global,
+    kind: &str,
+    expires: &str,
+    version: u64,
+) -> Result<Map<String, Value>, AllocError> {
+    let mut members = Map::new(alloc);
+    put(
+        alloc,
+        &mut members,
+        "_type",
+        Value::try_from_str(alloc, kind)?,
+    )?;
+    put(
+        alloc,
+        &mut members,
+        "expires",
+        Value::try_from_str(alloc, expires)?,
+    )?;
+    put(
+        alloc,
+        &mut members,
+        "spec_version",
+        Value::try_from_str(alloc, "1.0.0")?,
+    )?;
+    put(alloc, &mut members, "version", Value::from(version))?;
+    Ok(members)
+}
+
+/// The texts that commas join, as a list.
+pub fn list_object(alloc: Global, list: &str) -> Result<Value, AllocError> {
+    let mut items = Vec::new(alloc);
+    for item in list.split(',') {
+        items.push(Value::try_from_str(alloc, item)?)?;
+    }
+    Ok(Value::Array(items))
+}
+
+/// An entry of `delegations.roles` (TUF 1.0 section 4.5).
+pub fn delegation_object(
+    alloc: Global,
+    line: &DelegateLine<'_>,
+    ids: Vec<Value>,
+) -> Result<Value, AllocError> {
+    let list = list_object(alloc, line.list)?;
+    let matcher = if line.by_paths {
+        "paths"
+    } else {
+        "path_hash_prefixes"
+    };
+    json!(in alloc; {
+        "keyids": ids,
+        "name": line.to,
+        matcher: list,
+        "terminating": line.terminating,
+        "threshold": line.quorum.threshold
+    })
+}
+
+/// The file of a target: under consistent snapshots its name has the SHA-256 digest, or the SHA-512
+/// digest where that alone is listed.
+pub fn target_name(
+    alloc: Global,
+    consistent: bool,
+    line: &TargetLine<'_>,
+) -> Result<String, AllocError> {
+    if !consistent {
+        return format!(in alloc; "targets/{}", line.path);
+    }
+    let name = hashed_name(alloc, line)?;
+    format!(in alloc; "targets/{name}")
+}
+
+fn hashed_name(alloc: Global, line: &TargetLine<'_>) -> Result<String, AllocError> {
+    if line.digests == Digests::Sha512 {
+        let digest: [u8; 64] = Sha512::digest(&line.bytes);
+        return names::hashed(alloc, &digest, line.path);
+    }
+    let digest: [u8; 32] = Sha256::digest(&line.bytes);
+    names::hashed(alloc, &digest, line.path)
+}

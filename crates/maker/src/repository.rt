@@ -1,0 +1,335 @@
+//! What the lines of a script make.
+
+use crate::line::{DelegateLine, Line, Quorum, TargetLine, WriteLine};
+use crate::objects::{
+    common_members, delegation_object, listing_object, put, role_object, target_name, target_object,
+};
+use crate::refusal::Refusal;
+use crate::ring::{ids_of, new_signer, place_of, places_of, put_keys};
+use crate::sealing::seal;
+use crate::signer::Signer;
+use cjson::canonical;
+use lms::Height;
+use meta::names;
+use serde_json::{Map, Value, json};
+use std::alloc::{AllocError, Global};
+use std::collections::BTreeMap;
+
+/// What the file of `targets` or of a delegated role will say.
+#[derive(Drop)]
+struct Role {
+    targets: Map<String, Value>,
+    delegations: Vec<Value>,
+    /// The keys that the delegations name.
+    keys: Map<String, Value>,
+}
+
+impl Role {
+    fn new(alloc: Global) -> Role {
+        Role {
+            targets: Map::new(alloc),
+            delegations: Vec::new(alloc),
+            keys: Map::new(alloc),
+        }
+    }
+
+    /// The member `delegations`.
+    fn delegations(&self, alloc: Global) -> Result<Value, AllocError> {
+        let keys = Value::Object(self.keys.clone()?);
+        let roles = Value::Array(self.delegations.clone()?);
+        json!(in alloc; { "keys": keys, "roles": roles })
+    }
+}
+
+/// What a script has made so far.
+#[derive(Drop)]
+pub struct Repository {
+    alloc: Global,
+    signers: Vec<Signer>,
+    consistent: bool,
+    expires: String,
+    /// The top-level roles that have their `top` line.
+    tops: BTreeMap<String, Quorum>,
+    /// `targets` and the delegated roles.
+    roles: BTreeMap<String, Role>,
+    /// What the next snapshot lists.
+    listed: Map<String, Value>,
+    /// How the next timestamp lists the snapshot.
+    snapshot: Option<Value>,
+    files: BTreeMap<String, Vec<u8>>,
+}
+
+impl Repository {
+    pub fn new(alloc: Global) -> Result<Repository, AllocError> {
+        let expires = String::from_str(alloc, "2030-01-01T00:00:00Z")?;
+        Ok(Repository {
+            alloc,
+            signers: Vec::new(alloc),
+            consistent: false,
+            expires,
+            tops: BTreeMap::new(alloc),
+            roles: BTreeMap::new(alloc),
+            listed: Map::new(alloc),
+            snapshot: None,
+            files: BTreeMap::new(alloc),
+        })
+    }
+
+    /// Carries out a line.
+    pub fn follow(&mut self, line: Line<'_>) -> Result<(), Refusal> {
+        match line {
+            Line::Passed => Ok(()),
+            Line::Key { byte, height } => self.add_key(byte, height),
+            Line::Consistent(consistent) => {
+                self.consistent = consistent;
+                Ok(())
+            }
+            Line::Expires(text) => self.set_expires(text),
+            Line::Top { role, quorum } => self.set_top(role, quorum),
+            Line::Target(line) => self.add_target(&line),
+            Line::Delegate(line) => self.add_delegation(&line),
+            Line::Forget(role) => self.forget(role),
+            Line::Write(line) => self.write(&line),
+        }
+    }
+
+    /// The files, in the order of their names.
+    pub fn into_files(self) -> Result<Vec<(String, Vec<u8>)>, AllocError> {
+        self.files.into_iter().collect(self.alloc)
+    }
+
+    fn add_key(&mut self, byte: u8, height: Height) -> Result<(), Refusal> {
+        if place_of(&self.signers, byte).is_ok() {
+            return Err(Refusal::Line);
+        }
+        let signer = new_signer(self.alloc, byte, height)?;
+        self.signers.push(signer)?;
+        Ok(())
+    }
+
+    fn set_expires(&mut self, text: &str) -> Result<(), Refusal> {
+        self.expires = String::from_str(self.alloc, text)?;
+        Ok(())
+    }
+
+    /// Makes a role whose file lists nothing, where there is none yet.
+    fn make_role(&mut self, name: &str) -> Result<(), Refusal> {
+        if self.roles.contains_key(name) {
+            return Ok(());
+        }
+        let key = String::from_str(self.alloc, name)?;
+        let _ = self.roles.insert(key, Role::new(self.alloc))?;
+        Ok(())
+    }
+
+    fn set_top(&mut self, name: &str, quorum: Quorum) -> Result<(), Refusal> {
+        let _known = places_of(self.alloc, &self.signers, &quorum.keys)?;
+        if name == "targets" {
+            self.make_role(name)?;
+        }
+        let _ = self
+            .tops
+            .insert(String::from_str(self.alloc, name)?, quorum)?;
+        Ok(())
+    }
+
+    /// Whether a `top` line or a `delegate` line has made the role.
+    fn is_made(&self, name: &str) -> bool {
+        self.tops.contains_key(name) || self.is_listing(name)
+    }
+
+    /// Whether the role can list targets: a delegated role, or `targets` after its `top` line.
+    fn is_listing(&self, name: &str) -> bool {
+        if name == "targets" {
+            return self.tops.contains_key(name);
+        }
+        self.roles.contains_key(name)
+    }
+
+    fn forget(&mut self, name: &str) -> Result<(), Refusal> {
+        if !self.is_made(name) {
+            return Err(Refusal::Line);
+        }
+        let file = names::role_name(self.alloc, name)?;
+        let _ = self.listed.remove(file.as_str());
+        Ok(())
+    }
+
+    fn add_target(&mut self, line: &TargetLine<'_>) -> Result<(), Refusal> {
+        if !self.is_listing(line.role) {
+            return Err(Refusal::Line);
+        }
+        let Some(role) = self.roles.get_mut(line.role) else {
+            return Err(Refusal::Line);
+        };
+        let object = target_object(self.alloc, &line.bytes, line.digests)?;
+        put(self.alloc, &mut role.targets, line.path, object)?;
+        let name = target_name(self.alloc, self.consistent, line)?;
+        let _ = self.files.insert(name, line.bytes.clone()?)?;
+        Ok(())
+    }
+
+    fn add_delegation(&mut self, line: &DelegateLine<'_>) -> Result<(), Refusal> {
+        if !self.is_listing(line.from) {
+            return Err(Refusal::Line);
+        }
+        let Some(role) = self.roles.get_mut(line.from) else {
+            return Err(Refusal::Line);
+        };
+        let ids = ids_of(self.alloc, &self.signers, &line.quorum.keys)?;
+        put_keys(self.alloc, &mut role.keys, &self.signers, &line.quorum.keys)?;
+        role.delegations
+            .push(delegation_object(self.alloc, line, ids)?)?;
+        self.make_role(line.to)
+    }
+
+    fn write(&mut self, line: &WriteLine<'_>) -> Result<(), Refusal> {
+        match line.role {
+            "root" => self.write_root(line),
+            "timestamp" => self.write_timestamp(line),
+            "snapshot" => self.write_snapshot(line),
+            _ => self.write_role(line),
+        }
+    }
+
+    fn write_root(&mut self, line: &WriteLine<'_>) -> Result<(), Refusal> {
+        if self.tops.len() < 4 {
+            return Err(Refusal::Line);
+        }
+        let members = self.root_members(line.version)?;
+        let bytes = self.sealed(members, &line.keys)?;
+        let name = names::root_name(self.alloc, line.version)?;
+        self.put_metadata(name.as_str(), bytes)
+    }
+
+    fn write_timestamp(&mut self, line: &WriteLine<'_>) -> Result<(), Refusal> {
+        if !self.is_made(line.role) {
+            return Err(Refusal::Line);
+        }
+        let members = self.timestamp_members(line.version)?;
+        let bytes = self.sealed(members, &line.keys)?;
+        self.put_metadata("timestamp.json", bytes)
+    }
+
+    fn write_snapshot(&mut self, line: &WriteLine<'_>) -> Result<(), Refusal> {
+        if !self.is_made(line.role) {
+            return Err(Refusal::Line);
+        }
+        let members = self.snapshot_members(line.version)?;
+        let bytes = self.sealed(members, &line.keys)?;
+        self.snapshot = Some(listing_object(self.alloc, &bytes, line.version)?);
+        let name = names::versioned(self.alloc, self.consistent, line.version, "snapshot.json")?;
+        self.put_metadata(name.as_str(), bytes)
+    }
+
+    /// Writes the file of `targets` or of a delegated role.
+    fn write_role(&mut self, line: &WriteLine<'_>) -> Result<(), Refusal> {
+        if !self.is_listing(line.role) {
+            return Err(Refusal::Line);
+        }
+        let members = self.role_members(line.role, line.version)?;
+        let bytes = self.sealed(members, &line.keys)?;
+        let listed = names::role_name(self.alloc, line.role)?;
+        let listing = listing_object(self.alloc, &bytes, line.version)?;
+        put(self.alloc, &mut self.listed, listed.as_str(), listing)?;
+        let name = names::versioned(self.alloc, self.consistent, line.version, listed.as_str())?;
+        self.put_metadata(name.as_str(), bytes)
+    }
+
+    /// What a root file says (TUF 1.0 section 4.3).
+    fn root_members(&self, version: u64) -> Result<Map<String, Value>, Refusal> {
+        let mut members = common_members(self.alloc, "root", self.expires.as_str(), version)?;
+        let keys = self.root_keys()?;
+        let roles = self.root_roles()?;
+        put(
+            self.alloc,
+            &mut members,
+            "consistent_snapshot",
+            Value::Bool(self.consistent),
+        )?;
+        put(self.alloc, &mut members, "keys", Value::Object(keys))?;
+        put(self.alloc, &mut members, "roles", Value::Object(roles))?;
+        Ok(members)
+    }
+
+    /// The keys of the top-level roles.
+    fn root_keys(&self) -> Result<Map<String, Value>, Refusal> {
+        let mut keys = Map::new(self.alloc);
+        for quorum in self.tops.values() {
+            put_keys(self.alloc, &mut keys, &self.signers, &quorum.keys)?;
+        }
+        Ok(keys)
+    }
+
+    /// The top-level roles.
+    fn root_roles(&self) -> Result<Map<String, Value>, Refusal> {
+        let mut roles = Map::new(self.alloc);
+        for (name, quorum) in self.tops.iter() {
+            let ids = ids_of(self.alloc, &self.signers, &quorum.keys)?;
+            let object = role_object(self.alloc, ids, quorum.threshold)?;
+            put(self.alloc, &mut roles, name.as_str(), object)?;
+        }
+        Ok(roles)
+    }
+
+    /// What a timestamp file says (TUF 1.0 section 4.6).
+    fn timestamp_members(&self, version: u64) -> Result<Map<String, Value>, Refusal> {
+        let Some(snapshot) = &self.snapshot else {
+            return Err(Refusal::Line);
+        };
+        let mut members = common_members(self.alloc, "timestamp", self.expires.as_str(), version)?;
+        let meta = json!(in self.alloc; { "snapshot.json": snapshot })?;
+        put(self.alloc, &mut members, "meta", meta)?;
+        Ok(members)
+    }
+
+    /// What a snapshot file says (TUF 1.0 section 4.4).
+    fn snapshot_members(&self, version: u64) -> Result<Map<String, Value>, Refusal> {
+        let mut members = common_members(self.alloc, "snapshot", self.expires.as_str(), version)?;
+        put(
+            self.alloc,
+            &mut members,
+            "meta",
+            Value::Object(self.listed.clone()?),
+        )?;
+        Ok(members)
+    }
+
+    /// What the file of `targets` or of a delegated role says (TUF 1.0 section 4.5).
+    fn role_members(&self, name: &str, version: u64) -> Result<Map<String, Value>, Refusal> {
+        let Some(role) = self.roles.get(name) else {
+            return Err(Refusal::Line);
+        };
+        let mut members = common_members(self.alloc, "targets", self.expires.as_str(), version)?;
+        put(
+            self.alloc,
+            &mut members,
+            "targets",
+            Value::Object(role.targets.clone()?),
+        )?;
+        if !role.delegations.is_empty() {
+            put(
+                self.alloc,
+                &mut members,
+                "delegations",
+                role.delegations(self.alloc)?,
+            )?;
+        }
+        Ok(members)
+    }
+
+    /// The file that says this, signed by the keys.
+    fn sealed(&mut self, members: Map<String, Value>, keys: &[u8]) -> Result<Vec<u8>, Refusal> {
+        let by = places_of(self.alloc, &self.signers, keys)?;
+        let signed = Value::from(members);
+        // `seal` asks for a value that has a canonical text.
+        let _text = canonical(self.alloc, &signed)?;
+        Ok(seal(self.alloc, &signed, &mut self.signers, &by)?)
+    }
+
+    fn put_metadata(&mut self, name: &str, bytes: Vec<u8>) -> Result<(), Refusal> {
+        let name = format!(in self.alloc; "metadata/{name}")?;
+        let _ = self.files.insert(name, bytes)?;
+        Ok(())
+    }
+}

@@ -1,0 +1,111 @@
+ghost use Rattle.std.specs.Prelude.{◌≡◌, ◌≢◌, ◌+◌, ◌<◌, ℕ, List, Some, IsSome, IfOk, OnOk, OnErr, All, Any, fold, length, map, string_bytes};
+ghost use Rattle.std.specs.List.{AllZip};
+ghost use Rattle.serde_json.specs.Find.{as_object};
+ghost use Rattle.serde_json.specs.View.{view, items_view};
+ghost use Rattle.cjson.specs.Canon.{canon};
+ghost use Rattle.cjson.specs.Entry.{Entry};
+ghost use Rattle.maker.specs.Sealed.{IsOverspent, IsSealed, IsSignedAt, IsSignedBy, entry_object, entry_objects, holder, sealed, spend, used_of};
+
+use crate::fault::MakeFault;
+use crate::signer::Signer;
+use cjson::{Canon, canonical};
+use serde_json::{Value, json};
+use std::alloc::{AllocError, Global};
+
+/// A metadata file (TUF 1.0 section 4.2): `signed` is the value, and `signatures` has a signature
+/// of its canonical text by each of the signers at the places `by`, in order. The file is
+/// canonical text itself.
+///
+/// Each place takes one leaf. `Used` is answered where a signer has fewer leaves left than there
+/// are places that name it. After a refusal leaves may be gone, and nothing else has changed.
+pub fn seal(
+    alloc: Global,
+    value: &Value,
+    signers: &mut [Signer],
+    by: &[usize],
+) -> Result<Vec<u8>, MakeFault>
+    requires places { All (λ p. p < length signers.old) by.now }
+    requires object { IsSome (as_object (view value.now)) }
+    requires canonical { IsSome (canon (view value.now)) }
+    ensures file { IfOk result (λ file. IsSealed (view value.now) (map holder signers.old) by.now
+        file.items) }
+    ensures kept { map holder signers.new ≡ map holder signers.old }
+    ensures leaves { OnOk result (map used_of signers.new
+        ≡ fold spend (map used_of signers.old) by.now) }
+
+    // Some signer has fewer leaves left than it was asked for.
+    ensures used { result ≡ Err MakeFault.Used
+        → Any (IsOverspent signers.old by.now) by.now }
+    ensures no_script { (line : ℕ) → result ≢ Err (MakeFault.Script line) }
+{
+    let text = text_of(alloc, value)?;
+    let entries = entries(alloc, signers, by, &text)?;
+    let file = file_of(alloc, value, entries)?;
+    text_of(alloc, &file)
+}
+
+/// The canonical text of a value that has one.
+fn text_of(alloc: Global, value: &Value) -> Result<Vec<u8>, MakeFault>
+    requires { IsSome (canon (view value.now)) }
+    ensures text { IfOk result (λ text. canon (view value.now) ≡ Some text.items) }
+    ensures err { OnErr result (result ≡ Err MakeFault.NoMemory) }
+{
+    match canonical(alloc, value) {
+        Ok(text) => Ok(text),
+        Err(Canon::NoMemory) => Err(MakeFault::NoMemory),
+        Err(Canon::Float) => unreachable!(),
+    }
+}
+
+/// The entry of `signatures` that a signer makes for the text.
+fn entry(alloc: Global, signer: &mut Signer, text: &[u8]) -> Result<Value, MakeFault>
+    ensures entry { IfOk result (λ v. (e : Entry) × (view v ≡ entry_object e)
+        × IsSignedBy (holder signer.old) text.now e) }
+    ensures kept { holder signer.new ≡ holder signer.old }
+    ensures leaf { OnOk result (used_of signer.new ≡ used_of signer.old + 1) }
+    ensures used { result ≡ Err MakeFault.Used
+        → used_of signer.old ≡ (holder signer.old).leaves }
+    ensures no_script { (line : ℕ) → result ≢ Err (MakeFault.Script line) }
+{
+    let signature = signer.secret.sign(text)?;
+    let sig = hex::encode(alloc, &signature)?;
+    Ok(entry_of(alloc, signer.id.as_str(), sig)?)
+}
+
+fn entry_of(alloc: Global, id: &str, sig: String) -> Result<Value, AllocError>
+    ensures { IfOk result (λ v. view v ≡ entry_object (record { keyid = id.now; sig = string_bytes sig })) }
+{
+    json!(in alloc; { "keyid": id, "sig": sig })
+}
+
+/// The tree of a file with these entries.
+fn file_of(alloc: Global, value: &Value, entries: Vec<Value>) -> Result<Value, AllocError>
+    ensures { IfOk result (λ v. (es : List Entry) → items_view entries.items ≡ entry_objects es
+        → view v ≡ sealed (view value.now) es) }
+{
+    json!(in alloc; { "signatures": entries, "signed": value })
+}
+
+/// The entries of the signers at the places, in order.
+fn entries(
+    alloc: Global,
+    signers: &mut [Signer],
+    by: &[usize],
+    text: &[u8],
+) -> Result<Vec<Value>, MakeFault>
+    requires { All (λ p. p < length signers.old) by.now }
+    ensures entries { IfOk result (λ vs. (es : List Entry) × (items_view vs.items ≡ entry_objects es)
+        × AllZip (IsSignedAt (map holder signers.old) text.now) by.now es) }
+    ensures kept { map holder signers.new ≡ map holder signers.old }
+    ensures leaves { OnOk result (map used_of signers.new
+        ≡ fold spend (map used_of signers.old) by.now) }
+    ensures used { result ≡ Err MakeFault.Used
+        → Any (IsOverspent signers.old by.now) by.now }
+    ensures no_script { (line : ℕ) → result ≢ Err (MakeFault.Script line) }
+{
+    let mut entries = Vec::with_capacity(alloc, by.len())?;
+    for place in by {
+        entries.push(entry(alloc, &mut signers[*place], text)?)?;
+    }
+    Ok(entries)
+}

@@ -1,0 +1,28 @@
+ghost use Rattle.std.specs.Prelude.{◌≡◌, IfOk, replicate};
+ghost use Rattle.lms.specs.declared.kind.Width.TheVariants as width;
+
+use cjson::NoMemory;
+use lms::{Height, Secret};
+use std::alloc::Global;
+
+/// A key under an id.
+#[derive(Drop)]
+pub struct Signer {
+    /// What `keyid` says beside a signature of the key.
+    pub id: String,
+    /// The key.
+    pub secret: Secret,
+}
+
+/// The key of key byte `s`: its identifier is 16 bytes `s`, and it is made from 32 bytes `s` (RFC
+/// 8554 appendix A). No leaf is used. It takes 2 KiB at height 5 and 64 KiB at height 10.
+pub fn secret(alloc: Global, s: u8, h: Height) -> Result<Secret, NoMemory>
+    ensures { IfOk result (λ key. key ≡ record {
+      kind = record { width = width.W8; height = h };
+      id = replicate 16 s;
+      seed = replicate 32 s;
+      used = 0;
+    }) }
+{
+    Secret::new(alloc, [s; 16], [s; 32], h)
+}

@@ -1,0 +1,150 @@
+//! The words of a line.
+
+use crate::refusal::Refusal;
+use lms::Height;
+use std::alloc::Global;
+
+/// The greatest threshold and version of metadata.
+const MOST: u64 = 9_223_372_036_854_775_807;
+
+/// What stands for no keys and for no bytes.
+const NONE: &str = "-";
+
+/// The words of a line that are left, one space between two. No word is empty.
+#[derive(Drop)]
+pub struct Words<'a> {
+    rest: Option<&'a str>,
+}
+
+impl<'a> Words<'a> {
+    pub fn of(line: &'a str) -> Words<'a> {
+        Words { rest: Some(line) }
+    }
+
+    /// The next word, or a refusal where there is none or it is empty.
+    pub fn word(&mut self) -> Result<&'a str, Refusal> {
+        let Some(rest) = self.rest else {
+            return Err(Refusal::Line);
+        };
+        let (word, rest) = match rest.split_once(' ') {
+            Some((word, rest)) => (word, Some(rest)),
+            None => (rest, None),
+        };
+        self.rest = rest;
+        if word.is_empty() {
+            return Err(Refusal::Line);
+        }
+        Ok(word)
+    }
+
+    /// A refusal where a word is left.
+    pub fn end(&self) -> Result<(), Refusal> {
+        match self.rest {
+            Some(_) => Err(Refusal::Line),
+            None => Ok(()),
+        }
+    }
+
+    /// A threshold or a version: 1 to 9223372036854775807 in decimal digits.
+    pub fn whole(&mut self) -> Result<u64, Refusal> {
+        match decimal(self.word()?) {
+            Some(number) if 1 <= number && number <= MOST => Ok(number),
+            _ => Err(Refusal::Line),
+        }
+    }
+
+    /// A key byte: 0 to 255 in decimal digits.
+    pub fn key_byte(&mut self) -> Result<u8, Refusal> {
+        byte(self.word()?)
+    }
+
+    /// The height of a key: 5 or 10.
+    pub fn height(&mut self) -> Result<Height, Refusal> {
+        match self.word()? {
+            "5" => Ok(Height::H5),
+            "10" => Ok(Height::H10),
+            _ => Err(Refusal::Line),
+        }
+    }
+
+    /// Key bytes joined by `,`, or `-` for none.
+    pub fn keys(&mut self, alloc: Global) -> Result<Vec<u8>, Refusal> {
+        let word = self.word()?;
+        let mut keys = Vec::new(alloc);
+        if word == NONE {
+            return Ok(keys);
+        }
+        for part in word.split(',') {
+            keys.push(byte(part)?)?;
+        }
+        Ok(keys)
+    }
+
+    /// The bytes of a word in hexadecimal, in either case, or `-` for none.
+    pub fn bytes(&mut self, alloc: Global) -> Result<Vec<u8>, Refusal> {
+        let word = self.word()?;
+        if word == NONE {
+            return Ok(Vec::new(alloc));
+        }
+        match hex::decode(alloc, word) {
+            Ok(bytes) => Ok(bytes),
+            Err(hex::FromHexError::OutOfMemory) => Err(Refusal::NoMemory),
+            Err(_) => Err(Refusal::Line),
+        }
+    }
+
+    /// `true` at the word `yes`, `false` at the word `no`.
+    pub fn choice(&mut self, yes: &str, no: &str) -> Result<bool, Refusal> {
+        let word = self.word()?;
+        if word == yes {
+            return Ok(true);
+        }
+        if word == no {
+            return Ok(false);
+        }
+        Err(Refusal::Line)
+    }
+
+    /// A role's name, which has no `/`.
+    pub fn role(&mut self) -> Result<&'a str, Refusal> {
+        let word = self.word()?;
+        if word.contains('/') {
+            return Err(Refusal::Line);
+        }
+        Ok(word)
+    }
+
+    /// A target's path, none of whose parts is empty, `.` or `..`.
+    pub fn path(&mut self) -> Result<&'a str, Refusal> {
+        let word = self.word()?;
+        if word.split('/').all(is_part) {
+            Ok(word)
+        } else {
+            Err(Refusal::Line)
+        }
+    }
+}
+
+/// Whether a path may have the part.
+fn is_part(part: &str) -> bool {
+    !matches!(part, "" | "." | "..")
+}
+
+/// The number that decimal digits write.
+fn decimal(word: &str) -> Option<u64> {
+    if word.bytes().all(|digit| digit.is_ascii_digit()) {
+        word.parse().ok()
+    } else {
+        None
+    }
+}
+
+fn byte(word: &str) -> Result<u8, Refusal> {
+    let Some(number) = decimal(word) else {
+        return Err(Refusal::Line);
+    };
+    match u8::try_from(number) {
+        Ok(byte) => Ok(byte),
+        Err(_) => Err(Refusal::Line),
+    }
+}

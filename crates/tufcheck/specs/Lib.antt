@@ -1,0 +1,4 @@
+pub mod Failures
+pub mod Folders
+pub mod Quote
+pub mod Status

@@ -1,0 +1,49 @@
+//! Repositories that a script makes.
+
+use crate::disk::joined;
+use crate::failure::{Failure, of_io};
+use std::alloc::Global;
+use std::fs;
+use std::rt::Files;
+
+/// Writes what a script makes below a folder. Where the script is refused, nothing is written.
+pub fn make<R: Files + AllocGlobal>(
+    rt: &R,
+    alloc: Global,
+    script: &[u8],
+    folder: &str,
+) -> Result<u8, Failure> {
+    let Ok(text) = std::str::from_utf8(script) else {
+        return Err(Failure::Input);
+    };
+    for (name, bytes) in maker::make(alloc, text)? {
+        write_below(rt, alloc, folder, name.as_str(), bytes.as_slice())?;
+    }
+    Ok(0)
+}
+
+/// Writes the file of that name below the folder, and makes the folders in which it lies.
+fn write_below<R: Files>(
+    rt: &R,
+    alloc: Global,
+    folder: &str,
+    name: &str,
+    bytes: &[u8],
+) -> Result<(), Failure> {
+    let path = joined(alloc, folder, name)?;
+    make_folders_of(rt, path.as_str())?;
+    match fs::write(rt, path.as_str(), bytes) {
+        Ok(()) => Ok(()),
+        Err(error) => Err(of_io(&error, Failure::Output)),
+    }
+}
+
+fn make_folders_of<R: Files>(rt: &R, path: &str) -> Result<(), Failure> {
+    let Some((folders, _)) = path.rsplit_once('/') else {
+        return Ok(());
+    };
+    match fs::create_dir_all(rt, folders) {
+        Ok(()) => Ok(()),
+        Err(error) => Err(of_io(&error, Failure::Output)),
+    }
+}
