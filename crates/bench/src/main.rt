@@ -38,6 +38,8 @@ fn measured<R: Env + Clock + AllocGlobal, W: Write>(
     writeln!(out, "chain step: {step} ns")?;
     let speed = parts::canonical_speed(rt, alloc)?;
     writeln!(out, "canonical: {speed} MB/s")?;
+    let stars = parts::pattern_time(rt, alloc)?;
+    writeln!(out, "5,000 stars: {stars} us")?;
     Ok(())
 }
 

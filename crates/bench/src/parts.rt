@@ -2,6 +2,7 @@
 
 use crate::trouble::Trouble;
 use cjson::{canonical, read_tree};
+use deleg::matches;
 use lms::{Height, Public, Secret, verify};
 use std::alloc::Global;
 use std::rt::Clock;
@@ -15,6 +16,9 @@ const STEPS_OF_A_KEY: u64 = 32 * 34 * 255;
 
 /// How many members the tree has whose text is made.
 const MEMBERS: u64 = 50_000;
+
+/// How many characters the pattern and the path have.
+const CHARACTERS: u32 = 5000;
 
 /// How often the tree's text is made.
 const TEXTS: u64 = 10;
@@ -64,6 +68,28 @@ pub fn canonical_speed<R: Clock>(rt: &R, alloc: Global) -> Result<u64, Trouble> 
     }
     let took = nanoseconds(rt, start)?;
     Ok(per_second(written, took) / 1_000_000)
+}
+
+/// How many microseconds a pattern of 5,000 times `*` and then `b` takes against 5,000 times `a`.
+pub fn pattern_time<R: Clock>(rt: &R, alloc: Global) -> Result<u64, Trouble> {
+    let mut pattern = repeated(alloc, '*')?;
+    pattern.push('b')?;
+    let path = repeated(alloc, 'a')?;
+    let start = Instant::now(rt)?;
+    let matched = matches(pattern.as_str(), path.as_str());
+    let took = nanoseconds(rt, start)?;
+    if matched {
+        return Err(Trouble::Part);
+    }
+    Ok(took / 1000)
+}
+
+fn repeated(alloc: Global, c: char) -> Result<String, Trouble> {
+    let mut text = String::new(alloc);
+    for _ in 0..CHARACTERS {
+        text.push(c)?;
+    }
+    Ok(text)
 }
 
 /// A list of targets as JSON.

@@ -1,0 +1,20 @@
+# Completions of tufcheck for bash: source this file.
+_tufcheck() {
+    local word=${COMP_WORDS[COMP_CWORD]} before=${COMP_WORDS[COMP_CWORD - 1]}
+    case $before in
+    --state | --out) mapfile -t COMPREPLY < <(compgen -f -- "$word"); return ;;
+    --metadata | --targets) mapfile -t COMPREPLY < <(compgen -d -- "$word"); return ;;
+    --now | --limit) return ;;
+    esac
+    if ((COMP_CWORD == 1)); then
+        mapfile -t COMPREPLY < <(compgen -W "init verify make help --help -h" -- "$word")
+        return
+    fi
+    case ${COMP_WORDS[1]} in
+    init) mapfile -t COMPREPLY < <(compgen -W "--out --help -h" -f -- "$word") ;;
+    verify) mapfile -t COMPREPLY < <(compgen -W "--state --metadata --targets --now --limit --out --help -h" -- "$word") ;;
+    make) mapfile -t COMPREPLY < <(compgen -W "--help -h" -f -- "$word") ;;
+    help) mapfile -t COMPREPLY < <(compgen -W "init verify make" -- "$word") ;;
+    esac
+}
+complete -o filenames -F _tufcheck tufcheck

@@ -1,0 +1,16 @@
+# Completions of tufcheck for fish: put this file into ~/.config/fish/completions.
+set -l commands init verify make help
+complete -c tufcheck -f
+complete -c tufcheck -s h -l help -d 'Print help'
+complete -c tufcheck -n "not __fish_seen_subcommand_from $commands" -a init -d 'Trust a root file'
+complete -c tufcheck -n "not __fish_seen_subcommand_from $commands" -a verify -d 'Verify a repository'
+complete -c tufcheck -n "not __fish_seen_subcommand_from $commands" -a make -d 'Make a repository from a script'
+complete -c tufcheck -n "not __fish_seen_subcommand_from $commands" -a help -d 'Print help'
+complete -c tufcheck -n '__fish_seen_subcommand_from help' -a 'init verify make'
+complete -c tufcheck -n '__fish_seen_subcommand_from init make' -F
+complete -c tufcheck -n '__fish_seen_subcommand_from init verify' -l out -r -F -d 'Where the state is written'
+complete -c tufcheck -n '__fish_seen_subcommand_from verify' -l state -r -F -d 'The trusted state'
+complete -c tufcheck -n '__fish_seen_subcommand_from verify' -l metadata -x -a '(__fish_complete_directories)' -d 'The folder of metadata files'
+complete -c tufcheck -n '__fish_seen_subcommand_from verify' -l targets -x -a '(__fish_complete_directories)' -d 'The folder of target files'
+complete -c tufcheck -n '__fish_seen_subcommand_from verify' -l now -x -d 'The moment in place of the clock'
+complete -c tufcheck -n '__fish_seen_subcommand_from verify' -l limit -x -d 'How many roles a search visits at most'
