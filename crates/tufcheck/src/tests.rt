@@ -269,7 +269,7 @@ fn writers_refuse(rt: HostRuntime) -> Result<(), Fail> {
     );
     assert_eq!(rt; err.as_slice(), b"tufcheck: output\n".as_slice());
     let mut out = Vec::new(alloc);
-    let none = words(alloc, "")?;
+    let none = words(alloc, "bogus")?;
     assert_eq!(rt;
         command(&rt, alloc, none.as_slice(), &mut out, &mut Refuses),
         3

@@ -505,3 +505,23 @@ fn consistent_names_are_looked_up(rt: HostRuntime) -> Result<(), Fail> {
     assert!(rt; run.gave(1, "root 1\nend ready\nno \"d/e\" Missing\n", ""));
     place.leave()
 }
+
+#[test]
+fn roles_and_digests_stand_in_names(rt: HostRuntime) -> Result<(), Fail> {
+    let alloc = rt.alloc();
+    let place = Place::new(&rt, alloc, "roles_and_digests_stand_in_names")?;
+    let script = format!(in alloc;
+        "{KEYS}key 5 5\nconsistent yes\ndelegate targets a 1 5 go paths r\ntarget a r 72 sha512\ntarget targets b 62 both\nwrite a 3 5\nwrite root 1 1\n{FILES}"
+    )?;
+    place.make(script.as_str())?;
+    let _ = place.init("1", "old")?;
+    assert!(rt; place.has("metadata/3.a.json")?);
+    let run = place.verify("old", "new", "r b")?;
+    let lines = "root 1\nend ready\nrole \"a\" 3\nok \"r\" 1 \"a\"\nok \"b\" 1 \"targets\"\n";
+    assert!(rt; run.gave(0, lines, ""));
+    let name = "targets/3e23e8160039594a33894f6564e1b1348bbd7a0088d42c4acb73eeaed59c009d.b";
+    place.write(name, b"c")?;
+    let run = place.verify("old", "new", "b")?;
+    assert!(rt; run.gave(1, "root 1\nend ready\nno \"b\" HashWrong\n", ""));
+    place.leave()
+}

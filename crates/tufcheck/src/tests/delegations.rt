@@ -9,7 +9,7 @@ const TOP: &str = "write root 1 1\nwrite targets 1 4\nwrite snapshot 1 3\nwrite 
 
 /// Delegations and their roles, by the lines between the keys and the top-level files; the words of the search, and
 /// what is told of it.
-const SEARCHES: [(&str, &str, &str); 11] = [
+const SEARCHES: [(&str, &str, &str); 13] = [
     (
         "target targets p 31 sha256\n",
         "p",
@@ -64,6 +64,16 @@ const SEARCHES: [(&str, &str, &str); 11] = [
         "delegate targets a 1 5 go paths p\n",
         "p",
         "no \"p\" NotListed \"a\"\n",
+    ),
+    (
+        "target targets p 31 sha256\ndelegate targets a 1 5 stop paths p\nwrite a 1 5\n",
+        "p",
+        "ok \"p\" 1 \"targets\"\n",
+    ),
+    (
+        "delegate targets a 1 5 go paths p\ndelegate a targets 1 5 stop paths p\ndelegate targets c 1 5 go paths p\ntarget c p 31 sha256\nwrite a 1 5\nwrite c 1 5\n",
+        "p",
+        "role \"a\" 1\nno \"p\" NotFound\n",
     ),
 ];
 
