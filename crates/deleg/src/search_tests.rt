@@ -27,7 +27,7 @@ const TIMESTAMP: &str =
 
 const SNAPSHOT: &str =
     "{\"signatures\":[],\"signed\":{\"_type\":\"snapshot\",\"expires\":\"2030-01-01T00:00:00Z\",\
-\"meta\":{\"a.json\":{\"version\":1},\"b.json\":{\"version\":1},\"c.json\":{\"version\":1},\
+\"meta\":{\"...json\":{\"version\":1},\".json\":{\"version\":1},\"../b.json\":{\"version\":1},\"a.json\":{\"version\":1},\"b.json\":{\"version\":1},\"c.json\":{\"version\":1},\
 \"targets.json\":{\"version\":1}},\"spec_version\":\"1.0.31\",\"version\":1}}";
 
 const DIGEST: &str = "ba7816bf8f01cfea414140de5dae2223b00361a396177a9cb410ff61f20015ad";
@@ -181,8 +181,13 @@ const FILES: &[File] = &[("a", 0, "x/2"), ("b", 0, "x/3"), ("c", 0, "x/1")];
 
 const BY_TWO: &[File] = &[("a", 0, "x/2"), ("c", 1, "x/1")];
 
+/// Names that would lead elsewhere, were they opened as paths.
+const ODD: &[Delegated] = &[("../b", 0, false), ("..", 0, false), ("", 0, false)];
+
+const ODD_FILES: &[File] = &[("../b", 0, "x/2"), ("..", 0, "x/3"), ("", 0, "x/1")];
+
 /// A path, the limit, the delegations, the files, and what the search tells.
-const CASES: [(&str, usize, &[Delegated], &[File], &str); 9] = [
+const CASES: [(&str, usize, &[Delegated], &[File], &str); 11] = [
     ("y", 1, THREE, &[], "3 bytes in targets, 1 visited"),
     ("z", 1, THREE, &[], "not found"),
     ("x/1", 1, THREE, FILES, "limit reached"),
@@ -192,6 +197,14 @@ const CASES: [(&str, usize, &[Delegated], &[File], &str); 9] = [
     ("x/1", 3, CUT, BY_TWO, "a 1, not found"),
     ("x/1", 3, TWICE, FILES, "a 1, c refused: unsigned"),
     ("x/1", 3, THREE, &[], "a refused: missing"),
+    (
+        "x/1",
+        4,
+        ODD,
+        ODD_FILES,
+        "../b 1, .. 1,  1, 3 bytes in , 4 visited",
+    ),
+    ("x/1", 4, ODD, &[], "../b refused: missing"),
 ];
 
 #[test]

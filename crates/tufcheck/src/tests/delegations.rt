@@ -9,7 +9,7 @@ const TOP: &str = "write root 1 1\nwrite targets 1 4\nwrite snapshot 1 3\nwrite 
 
 /// Delegations and their roles, by the lines between the keys and the top-level files; the words of the search, and
 /// what is told of it.
-const SEARCHES: [(&str, &str, &str); 13] = [
+const SEARCHES: [(&str, &str, &str); 15] = [
     (
         "target targets p 31 sha256\n",
         "p",
@@ -64,6 +64,16 @@ const SEARCHES: [(&str, &str, &str); 13] = [
         "delegate targets a 1 5 go paths p\n",
         "p",
         "no \"p\" NotListed \"a\"\n",
+    ),
+    (
+        "delegate targets root 1 5 go paths p\n",
+        "p",
+        "no \"p\" NotListed \"root\"\n",
+    ),
+    (
+        "delegate targets .. 1 5 go paths p\ntarget .. p 31 sha256\nwrite .. 1 5\n",
+        "p",
+        "role \"..\" 1\nok \"p\" 1 \"..\"\n",
     ),
     (
         "target targets p 31 sha256\ndelegate targets a 1 5 stop paths p\nwrite a 1 5\n",
