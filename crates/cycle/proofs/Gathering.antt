@@ -2,7 +2,7 @@
 use Rattle.std.proofs.Common.{◌≡◌, ℕ, List, [], ◌∷◌, ◌++◌, map, Option, refl, sym, ap, ◌∙◌}
 use Rattle.std.specs.List.{flat_map}
 use Rattle.meta.specs.Checks.{Files}
-use Rattle.meta.specs.Moment.{Moment}
+use Rattle.moment.specs.Moment.{Moment}
 use Rattle.rolechain.specs.Advance.{Advanced, advanced}
 use Rattle.rolechain.specs.State.{State}
 use Rattle.rolechain.specs.declared.end.End.{End}

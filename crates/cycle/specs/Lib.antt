@@ -1,6 +1,6 @@
 pub use Rattle.meta.specs.Checks
 pub use Rattle.meta.specs.Expecting
-pub use Rattle.meta.specs.Moment
+pub use Rattle.moment.specs.Moment
 pub use Rattle.rolechain.specs.Advance
 pub use Rattle.rolechain.specs.State
 pub use Rattle.deleg.specs.Accepted

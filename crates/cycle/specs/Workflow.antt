@@ -5,7 +5,7 @@ use Rattle.std.specs.List.{list_any, flat_map, insert, prefix_len}
 use Rattle.std.specs.Ordering.{nat_cmp, is_lt}
 use Rattle.std.specs.Cmp.Lexicographic.{slice_cmp}
 use Rattle.cjson.specs.Checks.{◌>>=◌, or_refuse}
-use Rattle.meta.specs.Moment.{Moment}
+use Rattle.moment.specs.Moment.{Moment}
 use Rattle.meta.specs.Metadata.{Target}
 use Rattle.meta.specs.Checks.{Files, content}
 use Rattle.meta.specs.Names.{target_names}

@@ -2,7 +2,7 @@
 use Rattle.std.proofs.Common.{◌≡◌, ℕ, true, false, Bool, List, [], ◌∷◌, codes, Option, Some, None, refl}
 use Rattle.std.specs.Str.{chars}
 use Rattle.keys.specs.Keys.{RoleKeys}
-use Rattle.meta.specs.Moment.{Moment}
+use Rattle.moment.specs.Moment.{Moment}
 use Rattle.meta.specs.Metadata.{Hashes, Target, Delegation, Delegations, Header, Root, Snapshot, Targets, patterns}
 use Rattle.meta.specs.Checks.{Files}
 use Rattle.meta.specs.declared.fault.Fault.TheVariants.{NotListed}

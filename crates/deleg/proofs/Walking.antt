@@ -2,7 +2,7 @@
 use Rattle.std.proofs.Common.{◌≡◌, ℕ, zero, suc, ◌+◌, ◌≤◌, ◌<◌, Bool, true, false, cond, nat_le, List, [], ◌∷◌, ◌++◌, length, Option, Some, None, Result, Ok, Err, refl, sym, ap, ◌∙◌, arith, length-append, append-nil}
 use Rattle.std.specs.Option.{option_map_or}
 use Rattle.std.proofs.lemmas.Bool.{le-leb, lt-leb}
-use Rattle.meta.specs.Moment.{Moment}
+use Rattle.moment.specs.Moment.{Moment}
 use Rattle.meta.specs.Metadata.{Root, Snapshot, Targets, Target}
 use Rattle.meta.specs.Checks.{Files}
 use Rattle.meta.specs.Part.{Part}

@@ -1,6 +1,6 @@
 -- A search that is under way.
 use Rattle.std.specs.Prelude.{◌≡◌, ℕ, ◌+◌, ◌<◌, ◌&&◌, ◌||◌, not, if◌then◌else◌, List, [], ◌∷◌, ◌++◌, length, filter, Bool, true, false}
-use Rattle.meta.specs.Moment.{Moment}
+use Rattle.moment.specs.Moment.{Moment}
 use Rattle.meta.specs.Metadata.{Root, Snapshot}
 use Rattle.meta.specs.Checks.{Files}
 use Rattle.deleg.specs.Accepted.{Accepted, Searched}

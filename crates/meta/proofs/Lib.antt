@@ -1,3 +1,2 @@
 pub mod Hashed
 mod Rows
-pub mod Stamps

@@ -8,7 +8,7 @@ use Rattle.keys.specs.Truth.{digest_by}
 use Rattle.keys.specs.declared.judge.Algorithm.TheVariants.{Sha256, Sha512}
 use Rattle.cjson.specs.Checks.{◌>>=◌, refuse_if, or_refuse}
 use Rattle.cjson.specs.Document.{Document}
-use Rattle.meta.specs.Moment.{Moment, is_before}
+use Rattle.moment.specs.Moment.{Moment, is_before}
 use Rattle.meta.specs.Metadata.{Hashes, Listing, Header, Root, Timestamp, Named, Snapshot, Targets}
 use Rattle.meta.specs.Part.{Part, root_limit, timestamp_limit, snapshot_limit, targets_limit}
 use Rattle.meta.specs.Reads.{document_of, root_of, timestamp_of, snapshot_of, targets_of}

@@ -1,7 +1,7 @@
 pub use Rattle.keys.specs.Keys
 pub use Rattle.keys.specs.Signers
 pub use Rattle.keys.specs.Truth
-pub mod Moment
+pub use Rattle.moment.specs.Moment
 pub mod Names
 pub mod Metadata
 pub mod Matcher

@@ -6,7 +6,7 @@ use Rattle.serde_json.specs.Find.{get, as_str, as_bool, as_object}
 use Rattle.cjson.specs.Option.{◌>>=◌}
 use Rattle.cjson.specs.Form.{Form, guard, all_members, has_text, needed, optional, list, members, text, whole, hex_bytes}
 use Rattle.keys.specs.Keys.{Key, RoleKeys, ring, role_keys}
-use Rattle.meta.specs.Moment.{Moment, moment_of, is_digit}
+use Rattle.moment.specs.Moment.{Moment, moment_of, is_digit}
 
 -- the listed digests of the known algorithms (section 4.4)
 pub record Hashes : Type 0 where

@@ -8,7 +8,6 @@ ghost use Rattle.meta.specs.Fetching.{fetched_of};
 use crate::content::{Content, refuse_if};
 use crate::expect::{Expect, Listed};
 use crate::fault::{Fault, Stop};
-use crate::moment::Moment;
 use crate::part::{Part, Reading, read_document};
 use crate::root::Root;
 use crate::snapshot::Snapshot;
@@ -17,6 +16,7 @@ use crate::timestamp::Timestamp;
 use crate::timing::{falls_short, is_again, is_earlier, is_expired, is_version_wrong};
 use cjson::{Doc, NoMemory};
 use keys::{Judge, KeyRing, RoleKeys, enough};
+use moment::Moment;
 use std::alloc::Global;
 use std::collections::BTreeMap;
 

@@ -4,11 +4,11 @@ ghost use Rattle.cjson.specs.Form as form_of;
 ghost use Rattle.meta.specs.Metadata as spec;
 ghost use Rattle.cjson.specs.Reads.{Reads};
 
-use crate::moment::Moment;
 use cjson::Misread;
 use cjson::form::needed;
 use cjson::number::Positive;
 use cjson::text::is_text;
+use moment::Moment;
 use serde_json::Value;
 use std::alloc::Global;
 use std::marker::Model;

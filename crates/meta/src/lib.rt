@@ -9,7 +9,6 @@ mod fault;
 mod hashes;
 mod header;
 mod listing;
-mod moment;
 pub mod names;
 mod part;
 mod repo;

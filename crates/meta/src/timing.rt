@@ -3,9 +3,9 @@ ghost use Rattle.std.specs.Option.{option_map_or};
 ghost use Rattle.meta.specs.Checks as spec;
 
 use crate::header::Header;
-use crate::moment::Moment;
 use crate::snapshot::{Named, Snapshot};
 use crate::timestamp::Timestamp;
+use moment::Moment;
 
 /// Whether the file has another version than the one that is due.
 pub(crate) fn is_version_wrong(due: Option<u64>, header: &Header) -> bool

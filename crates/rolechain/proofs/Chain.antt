@@ -1,6 +1,6 @@
 -- A step of the chain of roots.
 use Rattle.std.proofs.Common.{◌≡◌, ℕ, zero, suc, Option, Some, None, Result, Ok, Err, IfOk, subst, ◌<◌, ◌+◌, refl, sym, ap, ◌∙◌, arith}
-use Rattle.meta.specs.Moment.{Moment}
+use Rattle.moment.specs.Moment.{Moment}
 use Rattle.meta.specs.Metadata.{Root}
 use Rattle.meta.specs.Part.{Part}
 use Rattle.meta.specs.Checks.{Files}

@@ -1,7 +1,7 @@
 -- A cycle that ends ready leaves a ready state.
 use Rattle.std.proofs.Common.{◌≡◌, ℕ, zero, suc, Bool, true, false, ◌&&◌, Option, Some, None, Result, Ok, Err, IfOk, is_some, refl, sym, ap, subst}
 use Rattle.std.specs.Prelude.{if◌then◌else◌}
-use Rattle.meta.specs.Moment.{Moment}
+use Rattle.moment.specs.Moment.{Moment}
 use Rattle.meta.specs.Metadata.{Listing, Root, Timestamp, Snapshot, Targets}
 use Rattle.meta.specs.Part.{Part}
 use Rattle.meta.specs.Checks.{Files, is_expired, first_timestamp, next_timestamp, snapshot_part}

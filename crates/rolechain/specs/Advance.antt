@@ -2,7 +2,7 @@
 use Rattle.std.specs.Prelude.{ℕ, zero, suc, ◌+◌, nat_le, ◌||◌, ◌&&◌, not, if◌then◌else◌, List, Bool, Option, Some, None, option_map, Result, Ok, Err, bytes_eq}
 use Rattle.std.specs.List.{list_all, list_any}
 use Rattle.keys.specs.Keys.{RoleKeys}
-use Rattle.meta.specs.Moment.{Moment}
+use Rattle.moment.specs.Moment.{Moment}
 use Rattle.meta.specs.Metadata.{Listing, Root, Timestamp, Snapshot, Targets}
 use Rattle.meta.specs.Part.{Part}
 use Rattle.meta.specs.Checks.{Files, is_expired, root_part, first_timestamp, next_timestamp, snapshot_part, targets_part}

@@ -1,6 +1,6 @@
 pub use Rattle.meta.specs.Checks
 pub use Rattle.meta.specs.Metadata
-pub use Rattle.meta.specs.Moment
+pub use Rattle.moment.specs.Moment
 pub use Rattle.meta.specs.Names
 pub use Rattle.meta.specs.Part
 pub mod State

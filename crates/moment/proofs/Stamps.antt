@@ -4,7 +4,7 @@ use Rattle.std.proofs.lemmas.Bool.Decides.{nat_tests}
 use Rattle.std.proofs.lemmas.Bool.{and_parts, and_from, false_from_ne_true, eqb-true}
 use Rattle.std.proofs.lemmas.Slice.Eq.{text_from_reads}
 use Rattle.jiff_core.specs.Calendar.{IsDate}
-use Rattle.meta.specs.Moment.{Moment, Stamp, IsStamp, IsMomentText, moment_of, stamp_text, moment_at, stamp_at, is_digit, is_laid_out, is_stamp, has, has_digits}
+use Rattle.moment.specs.Moment.{Moment, Stamp, IsStamp, IsMomentText, moment_of, stamp_text, moment_at, stamp_at, is_digit, is_laid_out, is_stamp, has, has_digits}
 
 -- the two digits that are written of a number are digits, and are read as that number
 ones_stand : (n : ℕ) → is_digit (48 + n % 10) ≡ true

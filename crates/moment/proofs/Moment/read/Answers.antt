@@ -1,8 +1,8 @@
 use Rattle.std.proofs.Common.{rules, ◌≡◌, ◌+◌, ◌*◌, sym, ◌∙◌, None}
 use Rattle.std.proofs.lemmas.Slice.Eq.{text_from_reads}
-use Rattle.meta.specs.Moment.{Stamp, stamp_text}
-use Rattle.meta.proofs.Stamps.{date_of_same, no_moment, the_moment}
-use Rattle.meta.proofs.moment.Moment.read.Goals as goal
+use Rattle.moment.specs.Moment.{Stamp, stamp_text}
+use Rattle.moment.proofs.Stamps.{date_of_same, no_moment, the_moment}
+use Rattle.moment.proofs.Moment.read.Goals as goal
 
 pub returns-in_err-day-clause-value : goal.returns-in_err-day-clause-value
 returns-in_err-day-clause-value c = let none : c.from_residual-in_err-day.result ≡ None = search rules in none ∙ sym (no_moment _ (search rules))

@@ -1,7 +1,9 @@
 //! Moments of the calendar, and the text that `expires` has (TUF 1.0 section 4.2.1).
+#![tactic(auto)]
+
 ghost use Rattle.std.specs.Prelude.{◌≡◌, ◌+◌, ◌*◌, ◌/◌, ◌%◌, ◌<◌, ◌≤◌, pos, IfSome, IsNone, IsSome, ◌↔◌, [], ◌∷◌, ℕ};
 ghost use Rattle.jiff_core.specs.Calendar.{IsDate, days_from_civil};
-ghost use Rattle.meta.specs.Moment as spec;
+ghost use Rattle.moment.specs.Moment as spec;
 
 use jiff::civil::Date;
 use std::marker::Model;
@@ -19,7 +21,7 @@ pub struct Moment {
 }
 
 impl Model for Moment {
-    ghost use Rattle.meta.specs.Moment as spec;
+    ghost use Rattle.moment.specs.Moment as spec;
 
     ghost Value = { spec.Moment };
 
