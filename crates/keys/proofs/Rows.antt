@@ -1,5 +1,5 @@
 -- Worked values of the definitions.
-use Rattle.std.proofs.Common.{◌≡◌, ℕ, List, [], ◌∷◌, Bool, true, false, Some, None, codes, refl}
+use Rattle.std.proofs.Common.{◌≡◌, ℕ, List, [], ◌∷◌, true, false, Some, None, codes, refl}
 use Rattle.serde_json.specs.Data.{Data, number, string, array, object, item, no_items, member, no_members, unsigned}
 use Rattle.hex.specs.Hex.{decode_pairs}
 use Rattle.keys.specs.Keys.{is_lms, listed_key, ring, role_keys}

@@ -1,5 +1,5 @@
 -- The set of those who signed, along a list of keys.
-use Rattle.std.proofs.Common.{◌≡◌, ℕ, ◌+◌, ◌<◌, ◌≤◌, Bool, true, false, cond, ◌||◌, List, [], ◌∷◌, ◌++◌, length, get_or, take, drop, map, filter, Equal, nat_cmp, refl, sym, ap, ◌∙◌, subst, append_assoc, append-nil, arith, rules, tests, nat_le}
+use Rattle.std.proofs.Common.{◌≡◌, ℕ, ◌+◌, ◌<◌, ◌≤◌, Bool, true, false, cond, ◌||◌, List, [], ◌∷◌, ◌++◌, length, get_or, take, drop, map, filter, nat_cmp, refl, sym, ap, ◌∙◌, subst, append_assoc, append-nil, arith, rules, tests, nat_le}
 use Rattle.std.proofs.lemmas.List.{take_more, take-append-drop, map-append}
 use Rattle.std.proofs.lemmas.List.Elements.{filter-append}
 use Rattle.std.specs.Cmp.{Equal-is}

@@ -1,5 +1,5 @@
 -- Keys, and the roles that list them (TUF 1.0 sections 4.2 and 4.3).
-use Rattle.std.specs.Prelude.{ℕ, ◌&&◌, if◌then◌else◌, List, filter_map, Bool, Option, Some, None, option_map, is_some, bytes_eq, codes}
+use Rattle.std.specs.Prelude.{ℕ, ◌&&◌, List, filter_map, Bool, Option, Some, option_map, is_some, bytes_eq, codes}
 use Rattle.serde_json.specs.Data.{Data}
 use Rattle.serde_json.specs.Find.{as_object}
 use Rattle.hex.specs.Hex.{encode_lower}

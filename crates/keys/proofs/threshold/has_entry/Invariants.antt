@@ -1,5 +1,4 @@
 use Rattle.std.proofs.Common.{◌≡◌, drop}
-use Rattle.std.specs.List.{list_any}
 use Rattle.cjson.specs.DocOf.{doc_of}
 use Rattle.keys.specs.Signers.{has_entry}
 use Rattle.keys.proofs.threshold.has_entry.Given as goal

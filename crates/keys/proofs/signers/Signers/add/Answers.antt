@@ -1,4 +1,4 @@
-use Rattle.std.proofs.Common.{◌≡◌, ap, sym, ◌∙◌, false, true}
+use Rattle.std.proofs.Common.{◌≡◌, ap, sym, ◌∙◌, false}
 use Rattle.std.specs.FinSet as set
 use Rattle.keys.proofs.Sets.{values, values_push, added_len, insert_again}
 use Rattle.keys.proofs.signers.Signers.add.Goals as goal
