@@ -1,5 +1,5 @@
 -- The checks of one file, in order (TUF 1.0 sections 5.3 to 5.6): the first that fails is the answer.
-use Rattle.std.specs.Prelude.{ℕ, ◌&&◌, ◌||◌, ◌==◌, nat_lt, nat_le, not, if◌then◌else◌, List, length, Bool, true, false, Option, Some, None, is_none, Result, Ok, Err, bytes_eq, ⊤}
+use Rattle.std.specs.Prelude.{ℕ, ◌&&◌, ◌||◌, ◌==◌, nat_lt, nat_le, not, if◌then◌else◌, List, length, Bool, true, false, Option, Some, None, is_none, Result, Ok, bytes_eq, ⊤}
 use Rattle.std.specs.List.{list_any, list_all}
 use Rattle.std.specs.Option.{option_map_or}
 use Rattle.keys.specs.Keys.{Key, RoleKeys}

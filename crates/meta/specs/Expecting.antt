@@ -1,8 +1,7 @@
 -- What the values of the program stand for.
-use Rattle.std.specs.Prelude.{ℕ, List, Option, option_map, String, Vec}
+use Rattle.std.specs.Prelude.{ℕ, option_map, String, Vec}
 use Rattle.std.specs.declared.alloc.Global.{Global}
 use Rattle.std.specs.BTreeMap.{BTreeMap, get_by_text}
-use Rattle.cjson.specs.DocOf.{doc_of}
 use Rattle.meta.specs.Checks as spec
 use Rattle.meta.specs.declared.expect.Expect.{Expect}
 use Rattle.meta.specs.declared.expect.Listed.{Listed}

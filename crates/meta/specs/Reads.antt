@@ -1,5 +1,5 @@
 -- What a document is read as (TUF 1.0 section 4), and what the reading calls answer.
-use Rattle.std.specs.Prelude.{◌≡◌, ℕ, List, Option, Some, None, Result, Ok, Err}
+use Rattle.std.specs.Prelude.{◌≡◌, ℕ, List, Result, Ok, Err}
 use Rattle.cjson.specs.Checks.{◌>>=◌, refuse_if, or_refuse}
 use Rattle.cjson.specs.Document.{Document, document}
 use Rattle.cjson.specs.declared.fault.DocFault.{DocFault}

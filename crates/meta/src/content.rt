@@ -1,4 +1,4 @@
-ghost use Rattle.std.specs.Prelude.{◌≡◌, IfOk, Result, not, bytes_eq};
+ghost use Rattle.std.specs.Prelude.{◌≡◌, IfOk, not, bytes_eq};
 ghost use Rattle.cjson.specs.Checks.{refuse_if};
 ghost use Rattle.keys.specs.Truth.{digest_by};
 ghost use Rattle.meta.specs.Checks as spec;

@@ -1,7 +1,6 @@
 ghost use Rattle.std.specs.Prelude.{◌≡◌};
 ghost use Rattle.std.specs.List.{list_all};
 ghost use Rattle.serde_json.specs.View.{view};
-ghost use Rattle.cjson.specs.Form as form_of;
 ghost use Rattle.meta.specs.Metadata as spec;
 ghost use Rattle.cjson.specs.Reads.{Reads};
 ghost use Rattle.meta.specs.Matcher.{ReadsMatcher, matcher_of};

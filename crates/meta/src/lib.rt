@@ -15,6 +15,8 @@ mod repo;
 mod root;
 mod snapshot;
 mod targets;
+#[cfg(test)]
+mod tests;
 mod timestamp;
 mod timing;
 

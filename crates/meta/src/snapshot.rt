@@ -1,7 +1,7 @@
 ghost use Rattle.std.specs.Prelude.{◌≡◌};
 ghost use Rattle.serde_json.specs.View.{view};
 ghost use Rattle.meta.specs.Metadata as spec;
-ghost use Rattle.meta.specs.Reads.{ReadsFile, root_of, timestamp_of, snapshot_of, targets_of};
+ghost use Rattle.meta.specs.Reads.{ReadsFile, snapshot_of};
 ghost use Rattle.cjson.specs.Reads.{Reads};
 ghost use Rattle.cjson.specs.DocOf.{doc_of};
 
