@@ -1,19 +1,16 @@
-ghost use Rattle.std.specs.Prelude.{◌≡◌, IfOk, bytes_eq, find, option_map, string_bytes};
+ghost use Rattle.std.specs.Prelude.{◌≡◌, bytes_eq, option_map};
 ghost use Rattle.std.specs.List.{list_any};
 ghost use Rattle.meta.specs.Answers.{Answers};
-ghost use Rattle.meta.specs.Expecting.{expectation, file_in, listed_of};
-ghost use Rattle.rolechain.specs.Expected.{listing_of, file_name};
+ghost use Rattle.meta.specs.Expecting.{file_in};
 ghost use Rattle.deleg.specs.Search as spec;
 ghost use Rattle.deleg.specs.Values.{edge_of};
 
 use crate::accepted::Accepted;
 use crate::edge::Edge;
 use keys::Judge;
-use meta::names::{role_name, versioned};
-use meta::{
-    Expect, Listed, Moment, Named, Part, Root, Snapshot, Stop, Target, Targets, examine_targets,
-};
-use std::alloc::{AllocError, Global};
+use meta::{Expect, Moment, Part, Root, Snapshot, Stop, Target, Targets, examine_targets};
+use rolechain::place_of;
+use std::alloc::Global;
 use std::collections::BTreeMap;
 
 /// What a search looks for, and where: a path, in the repository's metadata files by their names, at
@@ -46,33 +43,6 @@ pub(crate) fn examine<J: Judge>(
         role: edge.to.keys(),
     };
     examine_targets(quest.alloc, &expect, quest.files, quest.moment, judge)
-}
-
-/// How a role's file is listed, and the name under which it lies (TUF 1.0 section 5.6.1).
-fn place_of<'a>(
-    alloc: Global,
-    root: &Root,
-    snapshot: &'a Snapshot,
-    role: &str,
-) -> Result<(Listed<'a>, String), AllocError>
-    ensures listed { IfOk result (λ p. listed_of p.0 ≡ listing_of role.now snapshot.now) }
-    ensures name { IfOk result (λ p. string_bytes p.1 ≡ file_name root.now role.now (listing_of role.now snapshot.now)) }
-{
-    let plain = role_name(alloc, role)?;
-    match find_name(snapshot.files(), plain.as_str()) {
-        Some(named) => {
-            let listing = named.listing();
-            let name = versioned(alloc, root.consistent(), listing.version(), plain.as_str())?;
-            Ok((Listed::As(listing), name))
-        }
-        None => Ok((Listed::Absent, plain)),
-    }
-}
-
-fn find_name<'a>(files: &'a [Named], name: &str) -> Option<&'a Named>
-    ensures { option_map (λ n. n.now) result ≡ find (λ n. bytes_eq n.name name.now) files.now }
-{
-    files.iter().find(|named| named.name() == name)
 }
 
 /// The target that is listed under the path.

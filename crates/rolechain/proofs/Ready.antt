@@ -2,7 +2,7 @@
 use Rattle.std.proofs.Common.{◌≡◌, ℕ, zero, suc, Bool, true, false, ◌&&◌, Option, Some, None, Result, Ok, Err, IfOk, is_some, refl, sym, ap, subst}
 use Rattle.std.specs.Prelude.{if◌then◌else◌}
 use Rattle.moment.specs.Moment.{Moment}
-use Rattle.meta.specs.Metadata.{Listing, Root, Timestamp, Snapshot, Targets}
+use Rattle.meta.specs.Metadata.{Root, Timestamp, Snapshot, Targets}
 use Rattle.meta.specs.Part.{Part}
 use Rattle.meta.specs.Checks.{Files, is_expired, first_timestamp, next_timestamp, snapshot_part}
 use Rattle.meta.specs.declared.fault.Fault.{Fault}
@@ -11,8 +11,8 @@ use Rattle.rolechain.specs.State.{State, is_ready}
 use Rattle.rolechain.specs.Expected.{due_timestamp, next_snapshot}
 use Rattle.rolechain.specs.declared.end.Step.{Step}
 use Rattle.rolechain.specs.declared.end.Step.TheVariants as step
-use Rattle.rolechain.specs.declared.end.End.TheVariants.{Ready, Stopped}
-use Rattle.rolechain.specs.Advance.{Advanced, stops, with_root, with_timestamp, with_snapshot, with_targets, reading_in, targeted, snapshotted, snapshot_step, timestamped, timestamped_again, timestamp_step, rooted, chained, successor, followed}
+use Rattle.rolechain.specs.declared.end.End.TheVariants.{Ready}
+use Rattle.rolechain.specs.Advance.{Advanced, stops, with_root, with_timestamp, with_snapshot, reading_in, targeted, snapshotted, snapshot_step, timestamped, timestamped_again, timestamp_step, rooted, chained, successor, followed}
 use Rattle.rolechain.specs.Answers.{advanced_of}
 use Rattle.rolechain.specs.declared.end.End.{End}
 use Rattle.cjson.specs.declared.fault.NoMemory.{NoMemory}

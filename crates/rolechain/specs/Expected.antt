@@ -1,5 +1,5 @@
 -- What each file of the workflow is expected to be (TUF 1.0 sections 5.3 to 5.7).
-use Rattle.std.specs.Prelude.{ℕ, ◌+◌, List, Option, Some, None, find, bytes_eq, codes}
+use Rattle.std.specs.Prelude.{ℕ, ◌+◌, List, find, bytes_eq, codes}
 use Rattle.std.specs.Option.{option_map_or}
 use Rattle.keys.specs.Keys.{Key, RoleKeys}
 use Rattle.meta.specs.Metadata.{Listing, Root, Snapshot}

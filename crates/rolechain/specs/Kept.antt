@@ -1,5 +1,5 @@
 -- The files that a state file keeps.
-use Rattle.std.specs.Prelude.{ℕ, ◌||◌, nat_lt, List, [], ◌∷◌, ◌++◌, length, Bool, false, Option, Some, None, option_map, codes}
+use Rattle.std.specs.Prelude.{ℕ, ◌||◌, nat_lt, List, [], ◌∷◌, ◌++◌, length, Bool, false, Option, Some, None, codes}
 use Rattle.std.specs.Option.{option_map_or}
 use Rattle.serde_json.specs.Find.{as_str}
 use Rattle.hex.specs.Hex.{encode_lower, decode_of}

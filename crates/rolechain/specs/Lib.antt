@@ -4,8 +4,10 @@ pub use Rattle.moment.specs.Moment
 pub use Rattle.meta.specs.Names
 pub use Rattle.meta.specs.Part
 pub mod State
+pub mod Parts
 pub mod Expected
 pub mod Advance
+pub mod Roots
 pub mod Answers
 pub mod Kept
 pub mod Text

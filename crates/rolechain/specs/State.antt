@@ -1,5 +1,5 @@
 -- What is trusted (TUF 1.0 section 5).
-use Rattle.std.specs.Prelude.{ℕ, ◌&&◌, List, Bool, Option, None, is_some}
+use Rattle.std.specs.Prelude.{◌&&◌, Bool, Option, None, is_some}
 use Rattle.meta.specs.Metadata.{Root, Timestamp, Snapshot, Targets}
 use Rattle.meta.specs.Part.{Part}
 

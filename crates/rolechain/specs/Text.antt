@@ -8,7 +8,7 @@ use Rattle.meta.specs.Metadata.{Root, Snapshot, Targets}
 use Rattle.meta.specs.declared.fault.Fault.{Fault}
 use Rattle.meta.specs.declared.fault.Fault.TheVariants as fault
 use Rattle.rolechain.specs.State.{State, first}
-use Rattle.rolechain.specs.Kept.{Kept, kept, kept_of, kept_text, has_long}
+use Rattle.rolechain.specs.Kept.{Kept, kept, kept_text, has_long}
 use Rattle.rolechain.specs.declared.fault.StateFault.{StateFault}
 use Rattle.rolechain.specs.declared.fault.StateFault.TheVariants.{TooLong, Malformed, NoMemory}
 

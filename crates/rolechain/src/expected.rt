@@ -57,8 +57,10 @@ pub(crate) fn due_snapshot<'a>(root: &'a Root, listing: &'a Listing, name: &'a s
     }
 }
 
-/// Where a role's targets file lies (TUF 1.0 sections 5.6 and 5.7).
-pub(crate) fn place_of<'a>(
+/// How the snapshot lists a role's targets file, and the name under which the file lies: where it is
+/// listed and the root asks for consistent snapshots, with its listed version in front (TUF 1.0
+/// sections 5.6 and 5.6.7). Only memory can be refused.
+pub fn place_of<'a>(
     alloc: Global,
     root: &Root,
     snapshot: &'a Snapshot,

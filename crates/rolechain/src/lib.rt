@@ -12,6 +12,10 @@ mod steps;
 mod text;
 
 pub use end::{End, Step};
+pub use expected::place_of;
 pub use fault::StateFault;
 pub use roots::advance;
 pub use state::Trusted;
+
+#[cfg(test)]
+mod tests;

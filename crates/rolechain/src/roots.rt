@@ -4,6 +4,9 @@ ghost use Rattle.meta.specs.Checks.{root_part};
 ghost use Rattle.meta.specs.Expecting.{file_in};
 ghost use Rattle.meta.specs.Names.{root_name as file_name};
 ghost use Rattle.rolechain.specs.Advance as spec;
+ghost use Rattle.rolechain.specs.Advance.{most_roots};
+ghost use Rattle.rolechain.specs.Roots.{IsLongestChain};
+ghost use Rattle.rolechain.specs.Parts.{AreRead};
 ghost use Rattle.rolechain.specs.Expected.{next_root};
 ghost use Rattle.rolechain.specs.State.{is_ready};
 ghost use Rattle.rolechain.specs.Answers.{advanced_of, Follows};
@@ -26,7 +29,8 @@ const LAST_VERSION: u64 = i64::MAX as u64;
 
 /// One cycle of the client workflow, from the trusted state up to the top-level targets file (TUF
 /// 1.0 sections 5.3 to 5.6): the new trusted state, and how the cycle ended. A stop leaves what was
-/// trusted before it. At most 256 roots are accepted.
+/// trusted before it. The new root ends the longest chain of at most 256 roots that follow the
+/// trusted one.
 pub fn advance<J: Judge>(
     alloc: Global,
     trusted: &Trusted,
@@ -37,13 +41,26 @@ pub fn advance<J: Judge>(
     ensures workflow { IfOk result (λ r. advanced_of r
         ≡ spec.advanced (file_in repo.now.metadata) now trusted.now) }
     ensures ready { IfOk result (λ r. r.1 ≡ End.Ready → is_ready r.0 ≡ true) }
+    ensures parts { IfOk result (λ r. AreRead r.0) }
+    ensures roots { IfOk result (λ r. IsLongestChain (file_in repo.now.metadata) now most_roots trusted.now.root r.0.root) }
 {
     let round = Round {
         alloc,
         files: &repo.metadata,
         moment: now,
     };
-    follow(&round, trusted.copy(alloc)?, judge)
+    let answer = follow(&round, trusted.copy(alloc)?, judge);
+    note_answer_read(&answer);
+    answer
+}
+
+/// Notes for the proof that each file of the state is what its bytes are read as; nothing is done.
+fn note_answer_read(answer: &Result<(Trusted, End), NoMemory>)
+    ensures { IfOk answer.now (λ r. AreRead r.0) }
+{
+    if let Ok((state, _)) = answer {
+        state.note_read();
+    }
 }
 
 /// The chain of roots, and what follows it.

@@ -1,5 +1,6 @@
-ghost use Rattle.std.specs.Prelude.{◌≡◌, IfOk, option_map};
+ghost use Rattle.std.specs.Prelude.{◌≡◌, IfOk, IfSome, option_map};
 ghost use Rattle.rolechain.specs.State as spec;
+ghost use Rattle.rolechain.specs.Parts.{AreRead, IsRead};
 ghost use Rattle.rolechain.specs.Advance.{with_root, with_timestamp, with_snapshot, with_targets, reading_in};
 
 use crate::rotation::is_rotated;
@@ -30,6 +31,15 @@ impl Model for Trusted {
       snapshot = t.snapshot;
       targets = t.targets;
     } };
+
+    ghost use Rattle.rolechain.specs.Parts.{AreRead};
+
+    ghost invariant = { λ t. AreRead (record {
+      root = t.root;
+      timestamp = t.timestamp;
+      snapshot = t.snapshot;
+      targets = t.targets;
+    }) };
 }
 
 impl Trusted {
@@ -46,6 +56,10 @@ impl Trusted {
           targets = targets;
         } }
     {
+        note_read(&root);
+        note_each_read(&timestamp);
+        note_each_read(&snapshot);
+        note_each_read(&targets);
         Trusted {
             root,
             timestamp,
@@ -89,6 +103,13 @@ impl Trusted {
         self.timestamp.is_some() && self.snapshot.is_some() && self.targets.is_some()
     }
 
+    /// Notes for the proof that each file is what its bytes are read as; nothing is done.
+    pub(crate) fn note_read(&self)
+        ensures { AreRead self.now }
+    {
+        let _root = &self.root;
+    }
+
     /// An equal state.
     pub fn copy(&self, alloc: Global) -> Result<Trusted, NoMemory>
         ensures { IfOk result (λ t. t ≡ self.now) }
@@ -122,6 +143,7 @@ impl Trusted {
     pub(crate) fn trust_root(&mut self, next: Part<Root>)
         ensures { self.new ≡ with_root self.old next }
     {
+        note_read(&next);
         let rotates = is_rotated(self.root.reading(), next.reading());
         self.root = next;
         if rotates {
@@ -133,18 +155,21 @@ impl Trusted {
     pub(crate) fn trust_timestamp(&mut self, next: Part<Timestamp>)
         ensures { self.new ≡ with_timestamp self.old next }
     {
+        note_read(&next);
         self.timestamp = Some(next);
     }
 
     pub(crate) fn trust_snapshot(&mut self, next: Part<Snapshot>)
         ensures { self.new ≡ with_snapshot self.old next }
     {
+        note_read(&next);
         self.snapshot = Some(next);
     }
 
     pub(crate) fn trust_targets(&mut self, next: Part<Targets>)
         ensures { self.new ≡ with_targets self.old next }
     {
+        note_read(&next);
         self.targets = Some(next);
     }
 }
@@ -158,5 +183,21 @@ fn copy_of<A: Reading + Drop>(
     match part {
         Some(part) => Ok(Some(part.copy(alloc)?)),
         None => Ok(None),
+    }
+}
+
+/// Notes for the proof that a file is what its bytes are read as; nothing is done.
+fn note_read<A: Reading + Drop>(part: &Part<A>)
+    ensures { IsRead A.of_document A.limit part.now }
+{
+    let _bytes = part.bytes();
+    let _reading = part.reading();
+}
+
+fn note_each_read<A: Reading + Drop>(part: &Option<Part<A>>)
+    ensures { IfSome part.now (IsRead A.of_document A.limit) }
+{
+    if let Some(part) = part {
+        note_read(part);
     }
 }

@@ -1,4 +1,4 @@
-ghost use Rattle.std.specs.Prelude.{◌≡◌, ◌≢◌, ◌++◌, Some, None, IfOk, IfErr, OnOk, option_map};
+ghost use Rattle.std.specs.Prelude.{◌≡◌, ◌≢◌, ◌++◌, Ok, Some, None, IfOk, IfErr, OnOk, option_map};
 ghost use Rattle.serde_json.specs.View.{view};
 ghost use Rattle.cjson.specs.Document.{tree_of};
 ghost use Rattle.meta.specs.Part.{part_of};
@@ -92,20 +92,27 @@ impl Trusted {
 
     /// The state of a state file's text. `Malformed` where the text isn't spelled as `to_text`
     /// spells it; then `TooLong` where a file is over the limit of its kind; else `Malformed`
-    /// where a file hasn't the form of its kind.
+    /// where a file hasn't the form of its kind. No other text is read as the same state.
     pub fn from_text(alloc: Global, text: &[u8]) -> Result<Trusted, StateFault>
-        ensures { ReadsState (state_of text.now) result }
+        ensures state { ReadsState (state_of text.now) result }
+        ensures own { IfOk result (λ t. text.now ≡ spec.kept_text (spec.kept_of t)) }
     {
-        let kept = kept_in(alloc, text)?;
-        if has_long(&kept) {
-            return Err(StateFault::TooLong);
-        }
-        state_in(alloc, kept)
+        read_state(alloc, text)
     }
 
     /// The text of a state file: the canonical JSON of an object whose members `root` and, where
     /// trusted, `snapshot`, `targets` and `timestamp` are the files in lower-case hexadecimal.
+    /// `from_text` reads it as this state, so no other state has this text.
     pub fn to_text(&self, alloc: Global) -> Result<Vec<u8>, NoMemory>
+        ensures text { IfOk result (λ text. text.items ≡ spec.kept_text (spec.kept_of self.now)) }
+        ensures read { IfOk result (λ text. state_of text.items ≡ Ok self.now) }
+    {
+        self.note_read();
+        self.text(alloc)
+    }
+
+    /// The text of a state file.
+    fn text(&self, alloc: Global) -> Result<Vec<u8>, NoMemory>
         ensures { IfOk result (λ text. text.items ≡ spec.kept_text (spec.kept_of self.now)) }
     {
         let root = self.root().bytes();
@@ -114,6 +121,17 @@ impl Trusted {
         let timestamp = self.timestamp().map(|part| part.bytes());
         text_of(alloc, root, snapshot, targets, timestamp)
     }
+}
+
+/// The state that a text is, asked in order: its spelling, the limits, the files' forms.
+fn read_state(alloc: Global, text: &[u8]) -> Result<Trusted, StateFault>
+    ensures { ReadsState (state_of text.now) result }
+{
+    let kept = kept_in(alloc, text)?;
+    if has_long(&kept) {
+        return Err(StateFault::TooLong);
+    }
+    state_in(alloc, kept)
 }
 
 /// The files of a text that is spelled as a state's.

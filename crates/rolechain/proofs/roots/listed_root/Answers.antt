@@ -1,6 +1,6 @@
 use Rattle.std.proofs.Common.{◌≡◌, ◌+◌, ap, ◌∙◌}
 use Rattle.meta.specs.Checks.{root_part}
-use Rattle.meta.specs.Expecting.{expectation, file_in}
+use Rattle.meta.specs.Expecting.{file_in}
 use Rattle.rolechain.specs.Expected.{next_root}
 use Rattle.rolechain.proofs.Along.{gives}
 use Rattle.rolechain.proofs.roots.listed_root.Goals as goal

@@ -1,4 +1,4 @@
-use Rattle.std.proofs.Common.{◌≡◌, ap, sym, ◌∙◌, codes}
+use Rattle.std.proofs.Common.{◌≡◌, ap, ◌∙◌, codes}
 use Rattle.meta.specs.Checks.{targets_part}
 use Rattle.meta.specs.Expecting.{expectation, file_in}
 use Rattle.rolechain.specs.Expected.{listing_of, file_name, top_targets}
