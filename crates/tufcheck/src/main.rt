@@ -1,19 +1,18 @@
 //! Verifies an update repository of TUF 1.0 that lies in two folders, one of metadata files and one of target files.
 #![tactic(auto)]
 
+mod clock;
 mod command;
-mod disk;
-mod failure;
-mod folder;
 mod making;
-mod quote;
-mod report;
 mod sample;
+mod state;
+mod storage;
 #[cfg(test)]
 mod tests;
+mod update;
 mod words;
 
-use failure::{Failure, of_io};
+use report::{Failure, of_io, told};
 use std::alloc::Global;
 use std::env;
 use std::process::ExitCode;
@@ -24,7 +23,7 @@ fn main(rt: HostRuntime) -> ExitCode {
     let mut err = rt.stderr();
     ExitCode::from(match words_of(&rt, rt.alloc()) {
         Ok(words) => command::command(&rt, rt.alloc(), words.as_slice(), &mut out, &mut err),
-        Err(failure) => command::told(failure, &mut err),
+        Err(failure) => told(failure, &mut err),
     })
 }
 

@@ -1,7 +1,9 @@
 //! Repositories that a script makes.
+ghost use Rattle.std.specs.Prelude.{◌≡◌, IfOk};
 
-use crate::disk::joined;
-use crate::failure::{Failure, of_io};
+use crate::storage::write_file;
+use folder::joined;
+use report::{Failure, of_io};
 use std::alloc::Global;
 use std::fs;
 use std::rt::Files;
@@ -12,7 +14,9 @@ pub fn make<R: Files + AllocGlobal>(
     alloc: Global,
     script: &[u8],
     folder: &str,
-) -> Result<u8, Failure> {
+) -> Result<u8, Failure>
+    ensures status { IfOk result (λ status. status ≡ 0) }
+{
     let Ok(text) = std::str::from_utf8(script) else {
         return Err(Failure::Input);
     };
@@ -32,10 +36,7 @@ fn write_below<R: Files>(
 ) -> Result<(), Failure> {
     let path = joined(alloc, folder, name)?;
     make_folders_of(rt, path.as_str())?;
-    match fs::write(rt, path.as_str(), bytes) {
-        Ok(()) => Ok(()),
-        Err(error) => Err(of_io(&error, Failure::Output)),
-    }
+    write_file(rt, path.as_str(), bytes)
 }
 
 fn make_folders_of<R: Files>(rt: &R, path: &str) -> Result<(), Failure> {

@@ -1,8 +1,8 @@
 //! A small repository, made in memory: one key for each role, and one target, `abc.txt`.
+ghost use Rattle.std.specs.Prelude.{◌≤◌, IfOk};
 
-use crate::failure::Failure;
-use crate::report;
 use cycle::{Limits, Moment, Outcome, Repo, Trusted, run_alone};
+use report::{Failure, tell};
 use std::alloc::Global;
 use std::collections::BTreeMap;
 use std::io::Write;
@@ -65,18 +65,24 @@ fn first_state(alloc: Global, repo: &Repo) -> Result<Trusted, Failure> {
 }
 
 /// Makes the repository, verifies its target and prints the lines.
-pub fn run<W: Write>(alloc: Global, out: &mut W) -> Result<u8, Failure> {
+pub fn run<W: Write>(alloc: Global, out: &mut W) -> Result<u8, Failure>
+    ensures known { IfOk result (λ status. status ≤ 2) }
+{
     let repo = repository(alloc, SCRIPT)?;
+    verified(alloc, &repo, out)
+}
+
+fn verified<W: Write>(alloc: Global, repo: &Repo, out: &mut W) -> Result<u8, Failure>
+    ensures known { IfOk result (λ status. status ≤ 2) }
+{
     let wanted = [String::from_str(alloc, "abc.txt")?];
-    let outcome = outcome_of(alloc, &repo, &wanted)?;
-    let text = report::text_of(alloc, &outcome, &wanted)?;
-    report::put(out, text.as_str())?;
-    Ok(report::status_of(outcome.end(), outcome.verdicts()))
+    let outcome = outcome_of(alloc, repo, &wanted)?;
+    tell(alloc, &outcome, &wanted, out)
 }
 
 fn outcome_of(alloc: Global, repo: &Repo, wanted: &[String]) -> Result<Outcome, Failure> {
-    let trusted = first_state(alloc, repo)?;
     let now = Moment::read(MOMENT).ok_or(Failure::Now)?;
     let limits = Limits::new(32, 4096).ok_or(Failure::Words)?;
+    let trusted = first_state(alloc, repo)?;
     Ok(run_alone(alloc, &trusted, repo, now, wanted, &limits)?)
 }

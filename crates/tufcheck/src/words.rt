@@ -61,7 +61,7 @@ EXIT STATUS:
   4  the script can't be read, or the output or memory failed";
 
 /// What the words ask for.
-#[derive(Clone, Copy, Debug, Drop)]
+#[derive(Clone, Copy, Drop)]
 pub enum Task<'a> {
     Init { root: &'a str, out: &'a str },
     Make { script: &'a str, folder: &'a str },
@@ -69,7 +69,7 @@ pub enum Task<'a> {
 }
 
 /// The words of `verify`, but for the wanted paths.
-#[derive(Clone, Copy, Debug, Drop)]
+#[derive(Clone, Copy, Drop)]
 pub struct Verify<'a> {
     pub state: &'a str,
     pub metadata: &'a str,

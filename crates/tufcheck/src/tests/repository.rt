@@ -1,10 +1,10 @@
 //! Runs over folders that have the sample repository.
 
-use super::memory::Memory;
+use super::failing::Failing;
 use super::place::{GOOD, NOW, Place};
-use super::{Refuses, Run, words};
-use crate::command::{Start, command, verify_from};
+use super::{Run, words};
 use crate::sample;
+use crate::update::{Start, verify_from};
 use cycle::{Moment, Trusted};
 use std::alloc::Global;
 use std::fs;
@@ -161,60 +161,6 @@ fn missing_files_are_told(rt: HostRuntime) -> Result<(), Fail> {
     place.leave()
 }
 
-/// Texts that spell a good state in other ways, out of the digits of its root and the text itself.
-fn other_spellings(alloc: Global, good: &str) -> Result<Vec<String>, Fail> {
-    let (_, hex) = good.split_once("\":\"").ok_or("a member")?;
-    let mut texts = Vec::new(alloc);
-    texts.push(format!(in alloc; "{good}\n")?)?;
-    texts.push(format!(in alloc; "{{\"root\":\"0{hex}")?)?;
-    texts.push(format!(in alloc; "{{\"root\":\"7B{}", hex.get(2..).ok_or("digits")?)?)?;
-    texts.push(format!(in alloc; "{{\"other\":1,\"root\":\"{hex}")?)?;
-    texts.push(format!(in alloc; "{{ \"root\":\"{hex}")?)?;
-    texts.push(String::new(alloc))?;
-    texts.push(String::from_str(alloc, "{}")?)?;
-    Ok(texts)
-}
-
-#[test]
-fn state_files_are_refused(rt: HostRuntime) -> Result<(), Fail> {
-    let alloc = rt.alloc();
-    let place = Place::new(&rt, alloc, "state_files_are_refused")?;
-    place.make(sample::SCRIPT)?;
-    let _ = place.init("1", "good")?;
-    let good = place.read("good")?;
-    let texts = other_spellings(alloc, std::str::from_utf8(good.as_slice())?)?;
-    for text in texts.iter() {
-        place.write("old", text.as_bytes())?;
-        let run = place.verify("old", "new", "abc.txt")?;
-        assert!(rt; run.gave(3, "", "tufcheck: state file\n"), "{text}");
-        assert!(rt; !place.has("new")?);
-    }
-    place.leave()
-}
-
-#[test]
-fn outputs_are_refused(rt: HostRuntime) -> Result<(), Fail> {
-    let alloc = rt.alloc();
-    let place = Place::new(&rt, alloc, "outputs_are_refused")?;
-    place.make(sample::SCRIPT)?;
-    assert!(rt;
-        place
-            .init("1", "none/old")?
-            .gave(4, "", "tufcheck: output\n")
-    );
-    let good = words(
-        alloc,
-        "init outputs_are_refused/metadata/1.root.json --out outputs_are_refused/old",
-    )?;
-    let mut err = Vec::new(alloc);
-    let status = command(&rt, alloc, good.as_slice(), &mut Refuses, &mut err);
-    assert_eq!(rt; status, 4);
-    assert_eq!(rt; err.as_slice(), b"tufcheck: output\n".as_slice());
-    let run = place.verify("old", "none/new", "abc.txt")?;
-    assert!(rt; run.gave(4, "", "tufcheck: output\n"));
-    place.leave()
-}
-
 /// The names of the metadata and targets folders, one of which isn't a folder.
 const NO_FOLDERS: [(&str, &str); 3] = [
     ("none", "targets"),
@@ -258,10 +204,9 @@ fn a_folder_that_fails_leaves_no_state(rt: HostRuntime) -> Result<(), Fail> {
     let state = "a_folder_that_fails_leaves_no_state";
     let wanted = words(alloc, "p")?;
     let start = start_of(alloc, wanted.as_slice(), state)?;
-    let files = [("timestamp.json", "{}"), ("a", "b")];
     for (first, second) in [(0, 3), (1, 3), (2, 3), (3, 0), (3, 1), (3, 2)] {
-        let mut metadata = Memory::of(alloc, &files, first)?;
-        let mut targets = Memory::of(alloc, &files, second)?;
+        let mut metadata = Failing::after(first);
+        let mut targets = Failing::after(second);
         let mut out = Vec::new(alloc);
         let mut err = Vec::new(alloc);
         let status = verify_from(

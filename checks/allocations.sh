@@ -1,0 +1,82 @@
+#!/bin/bash
+# Refuses memory to the program, one allocation a run: for N from FIRST on, in steps of STEP, the Nth allocation fails.
+#
+#   checks/allocations.sh [FIRST [LAST [STEP]]]      1, 100000 and 1 unless given
+#
+# A run that meets the refusal must print nothing, tell `tufcheck: memory` and end with status 4, or else print all that
+# it prints with ample memory, tell nothing and end with status 0 (a sort that is refused its buffer does without). The
+# sweep ends with the run that asks for memory fewer than N times. Swept are a run without a word, and `make`, `init`,
+# `verify` and `--help` over examples/first.script. The script ends with status 1 at the first run that does otherwise.
+#
+# `rt run` proves and builds the program, once. A small library, made with `cc`, stands before the C library's `malloc`
+# and `realloc` and refuses the Nth call. (`rt try --fail-alloc N` gives the same answers, and builds the program for
+# each N, which takes a minute or two.) All five sweeps are some 2,500 runs, seven minutes in all.
+set -u
+first=${1:-1} last=${2:-100000} step=${3:-1}
+top=$(cd "$(dirname "$0")/.." && pwd) || exit 2
+work=$(mktemp -d) || exit 2
+trap 'rm -rf "$work"' EXIT
+
+cat > "$work/refuse.c" <<'END'
+#define _GNU_SOURCE
+#include <dlfcn.h>
+#include <fcntl.h>
+#include <stdlib.h>
+#include <unistd.h>
+
+static unsigned long calls, refused;
+
+static int is_refused(void) {
+    if (!calls) refused = strtoul(getenv("REFUSED"), 0, 10);
+    if (++calls != refused) return 0;
+    close(creat("met", 0600));
+    return 1;
+}
+
+void *malloc(size_t size) {
+    void *(*next)(size_t) = (void *(*)(size_t))dlsym(RTLD_NEXT, "malloc");
+    return is_refused() ? 0 : next(size);
+}
+
+void *realloc(void *old, size_t size) {
+    void *(*next)(void *, size_t) = (void *(*)(void *, size_t))dlsym(RTLD_NEXT, "realloc");
+    return is_refused() ? 0 : next(old, size);
+}
+END
+cc -shared -fPIC -O1 -o "$work/refuse.so" "$work/refuse.c" -ldl || exit 2
+(cd "$top/crates/tufcheck" && rt run) > "$work/built" 2>&1 || { tail -5 "$work/built"; exit 2; }
+cp "$top/crates/tufcheck/out/tufcheck" "$top/examples/first.script" "$work" && cd "$work" || exit 2
+
+# sweep NAME FILE WORD..: sweeps the run with those words, which prints that file with ample memory.
+sweep() {
+    local name=$1 wanted=$2 whole=0 n status
+    shift 2
+    for ((n = first; n <= last; n += step)); do
+        rm -f met
+        REFUSED=$n LD_PRELOAD="$work/refuse.so" ./tufcheck "$@" > printed 2> told
+        status=$?
+        if [ $status = 0 ] && [ ! -s told ] && cmp -s printed "$wanted"; then
+            [ -e met ] || break
+            whole=$((whole + 1))
+        elif [ $status != 4 ] || [ -s printed ] || [ "$(cat told)" != "tufcheck: memory" ]; then
+            echo "$name: allocation $n: status $status"
+            cat printed told
+            exit 1
+        fi
+    done
+    echo "$name: allocations $first to $((n - step)) in steps of $step, $whole of them done without"
+}
+
+printf 'root 1\nend ready\nok "abc.txt" 3 "targets"\n' > lines
+printf 'root 1\n' > root
+: > nothing
+./tufcheck --help > help || exit 2
+./tufcheck make first.script repo || exit 2
+./tufcheck init repo/metadata/1.root.json --out old > /dev/null || exit 2
+
+sweep sample lines
+sweep make nothing make first.script again
+sweep init root init repo/metadata/1.root.json --out new
+sweep verify lines verify --state old --metadata repo/metadata --targets repo/targets \
+    --now 2026-01-01T00:00:00Z --out new abc.txt
+sweep help help --help

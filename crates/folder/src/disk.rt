@@ -1,0 +1,146 @@
+//! Folders of the file system.
+ghost use Rattle.std.specs.Prelude.{◌≡◌, ◌↔◌, true, List, ℕ, Bool};
+ghost use Rattle.std.specs.IoError.{error_kind};
+
+use crate::files::{Folder, LoadFault};
+use std::alloc::{AllocError, Global};
+use std::fs;
+use std::io::{self, ErrorKind};
+use std::rt::Files;
+
+/// Whether the folders below a folder are read too.
+#[derive(Clone, Copy, Debug, PartialEq, Eq)]
+pub enum Depth {
+    /// The files that stand directly in the folder, and no others.
+    Here,
+    /// All files below the folder, by their paths below it, with `/` between the parts.
+    Below,
+}
+
+/// The plain files of a folder of the file system. The folder itself may be a link; links, pipes and devices in it are
+/// passed over, and a name that isn't UTF-8 is a fault. Any list and any bytes may be given, since others write there too.
+#[derive(Drop)]
+pub struct Disk<'a, R> {
+    rt: &'a R,
+    path: &'a str,
+    depth: Depth,
+    faults: u64,
+}
+
+impl<'a, R> Disk<'a, R> {
+    pub fn new(rt: &'a R, path: &'a str, depth: Depth) -> Disk<'a, R> {
+        Disk {
+            rt,
+            path,
+            depth,
+            faults: 0,
+        }
+    }
+}
+
+impl<'a, R: Files + AllocGlobal + Clone + Drop> Folder for Disk<'a, R> {
+    ghost lists = { λ _ _. true };
+
+    ghost holds = { λ _ _ _. true };
+
+    ghost failures = { λ s. s.faults };
+
+    fn names(&mut self, alloc: Global) -> Result<Vec<String>, LoadFault> {
+        match all_names(self.rt, alloc, self.path, self.depth) {
+            Ok(names) => Ok(names),
+            Err(error) => {
+                self.faults = self.faults.saturating_add(1);
+                Err(fault_of(&error))
+            }
+        }
+    }
+
+    fn read(&mut self, alloc: Global, name: &str) -> Result<Vec<u8>, LoadFault> {
+        let path = joined(alloc, self.path, name)?;
+        match fs::read(self.rt, path.as_str()) {
+            Ok(bytes) => Ok(bytes),
+            Err(error) => {
+                self.faults = self.faults.saturating_add(1);
+                Err(fault_of(&error))
+            }
+        }
+    }
+
+    fn failed(&self) -> u64 {
+        self.faults
+    }
+}
+
+fn fault_of(error: &io::Error) -> LoadFault
+    ensures { (result ≡ LoadFault.NoMemory) ↔ (error_kind error.now ≡ ErrorKind.OutOfMemory) }
+{
+    if error.kind() == ErrorKind::OutOfMemory {
+        LoadFault::NoMemory
+    } else {
+        LoadFault::Folder
+    }
+}
+
+/// The name below the folder, with `/` between them unless the folder's path is empty.
+pub fn joined(alloc: Global, folder: &str, name: &str) -> Result<String, AllocError> {
+    let mut path = String::from_str(alloc, folder)?;
+    if !folder.is_empty() {
+        path.push('/')?;
+    }
+    path.push_str(name)?;
+    Ok(path)
+}
+
+/// Plain files and folders, by their paths below the first folder.
+#[derive(Drop)]
+struct Found {
+    files: Vec<String>,
+    folders: Vec<String>,
+}
+
+impl Found {
+    /// Adds what stands directly in one folder.
+    fn read<R: Files + AllocGlobal + Clone + Drop>(
+        &mut self,
+        rt: &R,
+        top: &str,
+        below: &str,
+    ) -> io::Result<()> {
+        let alloc: Global = rt.alloc();
+        let path = joined(alloc, top, below)?;
+        for entry in fs::read_dir(rt, path.as_str())? {
+            let entry = entry?;
+            let kind = entry.file_type()?;
+            let name = joined(alloc, below, entry.file_name())?;
+            if kind.is_file() {
+                self.files.push(name)?;
+            } else if kind.is_dir() {
+                self.folders.push(name)?;
+            }
+        }
+        Ok(())
+    }
+}
+
+fn all_names<R: Files + AllocGlobal + Clone + Drop>(
+    rt: &R,
+    alloc: Global,
+    top: &str,
+    depth: Depth,
+) -> io::Result<Vec<String>> {
+    let mut found = Found {
+        files: Vec::new(alloc),
+        folders: Vec::new(alloc),
+    };
+    found.read(rt, top, "")?;
+    if depth == Depth::Here {
+        return Ok(found.files);
+    }
+    for _ in 0..u64::MAX {
+        let Some(folder) = found.folders.pop() else {
+            return Ok(found.files);
+        };
+        found.read(rt, top, folder.as_str())?;
+    }
+    Err(io::Error::from(ErrorKind::Other))
+}

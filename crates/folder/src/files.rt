@@ -1,0 +1,108 @@
+//! Folders of files, and what is read from them.
+ghost use Rattle.std.specs.Prelude.{◌≡◌, ◌≤◌, ◌<◌, ◌⊎◌, ◌^◌, ◌-◌, List, ℕ, Bool, IsTrue, true, IfOk, IfErr, OnOk, map, string_bytes};
+ghost use Rattle.folder.specs.Folders.{AddsFile, HasFailed, IsLoaded};
+ghost use Rattle.folder.specs.declared.files.LoadFault.TheVariants as fault;
+
+use std::alloc::{AllocError, AllocFailed, Global};
+use std::collections::BTreeMap;
+use thiserror::Error;
+
+/// Why a folder was not read.
+#[derive(Clone, Copy, Debug, PartialEq, Eq, Error)]
+pub enum LoadFault {
+    /// A call of the folder failed.
+    #[error("the folder can't be read")]
+    Folder,
+    /// Memory was refused.
+    #[error("out of memory")]
+    NoMemory,
+}
+
+impl From<AllocError> for LoadFault {
+    ghost from_gives = { λ _ e. e ≡ fault.NoMemory };
+
+    fn from(_error: AllocError) -> LoadFault {
+        LoadFault::NoMemory
+    }
+}
+
+impl<T: Drop> From<AllocFailed<T>> for LoadFault {
+    ghost from_gives = { λ _ e. e ≡ fault.NoMemory };
+
+    fn from(_error: AllocFailed<T>) -> LoadFault {
+        LoadFault::NoMemory
+    }
+}
+
+/// Files by name. What may be listed and read is the folder's meaning, which no call changes.
+pub trait Folder {
+    /// Whether `names` may give the list.
+    ghost lists: { Self → List (List ℕ) → Bool };
+
+    /// Whether `read` may give the bytes for the name.
+    ghost holds: { Self → List ℕ → List ℕ → Bool };
+
+    /// How many calls have failed, up to 2^64 - 1.
+    ghost failures: { Self → ℕ };
+
+    /// The names of all files. A refusal as `Folder` is one of a call that failed.
+    fn names(&mut self, alloc: Global) -> Result<Vec<String>, LoadFault>
+        ensures given { IfOk result (λ names. lists self.old (map string_bytes names.items) ≡ true) }
+        ensures failed { IfErr result (λ e. e ≡ fault.Folder → HasFailed (failures self.old) (failures self.new)) }
+        ensures counts { failures self.old ≤ failures self.new }
+        ensures same_lists { lists self.new ≡ lists self.old }
+        ensures same_bytes { holds self.new ≡ holds self.old };
+
+    /// The bytes of the file of that name. A refusal as `Folder` is one of a call that failed.
+    fn read(&mut self, alloc: Global, name: &str) -> Result<Vec<u8>, LoadFault>
+        ensures given { IfOk result (λ bytes. holds self.old name.now bytes.items ≡ true) }
+        ensures failed { IfErr result (λ e. e ≡ fault.Folder → HasFailed (failures self.old) (failures self.new)) }
+        ensures counts { failures self.old ≤ failures self.new }
+        ensures same_lists { lists self.new ≡ lists self.old }
+        ensures same_bytes { holds self.new ≡ holds self.old };
+
+    /// How many calls have failed, up to 2^64 - 1.
+    fn failed(&self) -> u64
+        ensures { result ≡ failures self.now };
+}
+
+/// All files of a folder, by name: each name of one list that `names` may give, with bytes that `read` may give for it.
+/// The names come from the folder alone. `Folder` is answered only where a call of the folder failed.
+#[tactic(auto, using(crate::proofs::Loading::one_more))]
+pub fn load<F: Folder>(
+    alloc: Global,
+    folder: &mut F,
+) -> Result<BTreeMap<String, Vec<u8>>, LoadFault>
+    ensures files { IfOk result (IsLoaded (F.lists folder.old) (F.holds folder.old)) }
+    ensures failed { IfErr result (λ e. e ≡ fault.Folder
+        → HasFailed (F.failures folder.old) (F.failures folder.new)) }
+    ensures same_lists { F.lists folder.new ≡ F.lists folder.old }
+    ensures same_bytes { F.holds folder.new ≡ F.holds folder.old }
+{
+    let names = folder.names(alloc)?;
+    let mut files = BTreeMap::new(alloc);
+    for name in names {
+        add_file(alloc, folder, name, &mut files)?;
+    }
+    Ok(files)
+}
+
+/// Reads the file of that name, and stores its bytes under the name.
+#[tactic(auto, using(std::proofs::lemmas::Map::Text::text_keys))]
+fn add_file<F: Folder>(
+    alloc: Global,
+    folder: &mut F,
+    name: String,
+    files: &mut BTreeMap<String, Vec<u8>>,
+) -> Result<(), LoadFault>
+    ensures added { OnOk result (AddsFile (F.holds folder.old) (string_bytes name) files.old files.new) }
+    ensures failed { IfErr result (λ e. e ≡ fault.Folder
+        → HasFailed (F.failures folder.old) (F.failures folder.new)) }
+    ensures counts { F.failures folder.old ≤ F.failures folder.new }
+    ensures same_lists { F.lists folder.new ≡ F.lists folder.old }
+    ensures same_bytes { F.holds folder.new ≡ F.holds folder.old }
+{
+    let bytes = folder.read(alloc, name.as_str())?;
+    files.insert(name, bytes)?;
+    Ok(())
+}

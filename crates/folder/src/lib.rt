@@ -1,0 +1,13 @@
+//! Folders of files, and the maps of bytes by name that are read from them.
+//!
+//! - [`Folder`] is what may be listed and read, and [`load`] reads all of it.
+//! - [`Disk`] is a folder of the file system.
+#![tactic(auto)]
+
+mod disk;
+mod files;
+#[cfg(test)]
+mod tests;
+
+pub use disk::{Depth, Disk, joined};
+pub use files::{Folder, LoadFault, load};

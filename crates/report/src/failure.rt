@@ -1,0 +1,139 @@
+//! What ends a run early.
+ghost use Rattle.std.specs.Prelude.{◌≡◌, ◌≢◌, ◌↔◌, ◌⊎◌, true};
+ghost use Rattle.report.specs.Failures.{is_callers, failure_of};
+ghost use Rattle.std.specs.IoError.{error_kind};
+ghost use Rattle.report.specs.declared.failure.Failure.TheVariants as failure;
+ghost use Rattle.folder.specs.declared.files.LoadFault.TheVariants as fault;
+ghost use Rattle.rolechain.specs.declared.fault.StateFault.TheVariants as state;
+
+use cycle::{NoMemory, StateFault};
+use folder::LoadFault;
+use maker::MakeFault;
+use std::alloc::{AllocError, AllocFailed};
+use std::io::{self, ErrorKind, Write};
+use thiserror::Error;
+
+/// Why a run ended early. [`told`] writes the text behind `tufcheck: `.
+#[derive(Clone, Copy, Debug, PartialEq, Eq, Error)]
+pub enum Failure {
+    /// A word of the command line isn't UTF-8, or is none that the program knows.
+    #[error("words")]
+    Words,
+    /// The text of `--now` isn't of the form of `expires`.
+    #[error("now")]
+    Now,
+    /// The state file can't be read, or isn't one.
+    #[error("state file")]
+    State,
+    /// The script can't be followed at this line, counted from 1.
+    #[error("script {0}")]
+    Script(usize),
+    /// The root file or the script can't be read, or the script isn't UTF-8.
+    #[error("input")]
+    Input,
+    /// A folder, or a file in it, can't be read, or a name in it isn't UTF-8.
+    #[error("folder")]
+    Folder,
+    /// The clock can't be read, or is before 1970 or past the year 9999.
+    #[error("clock")]
+    Clock,
+    /// The state or the lines can't be written.
+    #[error("output")]
+    Output,
+    /// Memory was refused.
+    #[error("memory")]
+    Memory,
+}
+
+impl Failure {
+    /// The exit status: 3 for what the caller said, 4 for what the system refused.
+    pub fn status(self) -> u8
+        ensures caller { (result ≡ 3) ↔ (is_callers self ≡ true) }
+        ensures known { (result ≡ 3) ⊎ (result ≡ 4) }
+    {
+        match self {
+            Failure::Words | Failure::Now | Failure::State | Failure::Script(_) => 3,
+            Failure::Input | Failure::Folder | Failure::Clock | Failure::Output | Failure::Memory =>
+                4,
+        }
+    }
+}
+
+impl From<AllocError> for Failure {
+    ghost from_gives = { λ _ f. f ≡ failure.Memory };
+
+    fn from(_error: AllocError) -> Failure {
+        Failure::Memory
+    }
+}
+
+impl<T: Drop> From<AllocFailed<T>> for Failure {
+    ghost from_gives = { λ _ f. f ≡ failure.Memory };
+
+    fn from(_error: AllocFailed<T>) -> Failure {
+        Failure::Memory
+    }
+}
+
+impl From<NoMemory> for Failure {
+    ghost from_gives = { λ _ f. f ≡ failure.Memory };
+
+    fn from(_error: NoMemory) -> Failure {
+        Failure::Memory
+    }
+}
+
+impl From<StateFault> for Failure {
+    ghost from_gives = { λ e f. (e ≡ state.NoMemory → f ≡ failure.Memory) × (e ≢ state.NoMemory → f ≡ failure.State) };
+
+    fn from(error: StateFault) -> Failure {
+        match error {
+            StateFault::TooLong | StateFault::Malformed => Failure::State,
+            StateFault::NoMemory => Failure::Memory,
+        }
+    }
+}
+
+impl From<MakeFault> for Failure {
+    ghost from_gives = { λ e f. f ≡ failure_of e };
+
+    fn from(error: MakeFault) -> Failure {
+        match error {
+            MakeFault::Script(line) => Failure::Script(line),
+            MakeFault::Used | MakeFault::NoMemory => Failure::Memory,
+        }
+    }
+}
+
+impl From<LoadFault> for Failure {
+    ghost from_gives = { λ e f. (e ≡ fault.Folder → f ≡ failure.Folder) × (e ≡ fault.NoMemory → f ≡ failure.Memory) };
+
+    fn from(error: LoadFault) -> Failure {
+        match error {
+            LoadFault::Folder => Failure::Folder,
+            LoadFault::NoMemory => Failure::Memory,
+        }
+    }
+}
+
+/// The failure that an error of a file is: want of memory, or else `other`.
+pub fn of_io(error: &io::Error, other: Failure) -> Failure
+    ensures memory { error_kind error.now ≡ ErrorKind.OutOfMemory → result ≡ Failure.Memory }
+    ensures other { error_kind error.now ≢ ErrorKind.OutOfMemory → result ≡ other }
+{
+    if error.kind() == ErrorKind::OutOfMemory {
+        Failure::Memory
+    } else {
+        other
+    }
+}
+
+/// Writes the failure's line, `tufcheck: ` and its text, and answers its status, which is the same where the line can't
+/// be written.
+pub fn told<E: Write>(failure: Failure, err: &mut E) -> u8
+    ensures caller { (result ≡ 3) ↔ (is_callers failure ≡ true) }
+    ensures known { (result ≡ 3) ⊎ (result ≡ 4) }
+{
+    let _ = writeln!(err, "tufcheck: {failure}");
+    failure.status()
+}

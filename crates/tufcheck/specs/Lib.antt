@@ -1,4 +1,0 @@
-pub mod Failures
-pub mod Folders
-pub mod Quote
-pub mod Status
