@@ -1,6 +1,6 @@
 //! Readers of one JSON value, and of an object's members.
 
-ghost use Rattle.std.specs.Prelude.{◌≡◌, Option, IfOk};
+ghost use Rattle.std.specs.Prelude.{◌≡◌, Option, Err, IfOk, IfErr};
 ghost use Rattle.serde_json.specs.Data.{Data};
 ghost use Rattle.serde_json.specs.View.{view};
 ghost use Rattle.cjson.specs.Form as form_of;
@@ -43,9 +43,11 @@ pub fn optional<T: FromJson>(alloc: Global, value: &Value, name: &str) -> Result
     }
 }
 
-/// What was read, or None where the value hasn't the form.
+/// What was read, or None where the value hasn't the form. Only where memory was refused to the
+/// reader, it is refused here.
 pub fn if_formed<T>(read: Result<T, Misread>) -> Result<Option<T>, NoMemory>
-    ensures { (o : Option T) → Reads o read → IfOk result (λ x. x ≡ o) }
+    ensures value { (o : Option T) → Reads o read → IfOk result (λ x. x ≡ o) }
+    ensures memory { IfErr result (λ _. read ≡ Err Misread.NoMemory) }
 {
     match read {
         Ok(x) => Ok(Some(x)),

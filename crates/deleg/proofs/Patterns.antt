@@ -1,9 +1,9 @@
 -- A pattern's runs may be settled one after the other.
-use Rattle.std.proofs.Common.{◌≡◌, ◌≢◌, ℕ, zero, suc, ◌+◌, ◌≤◌, ◌<◌, Bool, true, false, cond, not, ◌&&◌, ◌||◌, ◌↔◌, ◌⊎◌, inl, inr, IsTrue, eqb, List, [], ◌∷◌, drop, length, refl, sym, ap, ◌∙◌, subst, arith}
+use Rattle.std.proofs.Common.{◌≡◌, ◌≢◌, Option, None, Some, ℕ, zero, suc, ◌+◌, ◌≤◌, ◌<◌, Bool, true, false, cond, not, ◌&&◌, ◌||◌, ◌↔◌, ◌⊎◌, inl, inr, IsTrue, eqb, List, [], ◌∷◌, drop, length, refl, sym, ap, ◌∙◌, subst, arith}
 use Rattle.std.proofs.lemmas.Bool.{false≢true, true≢false, cases_Bool, or_cases, or_left, or_right, or_from, and_parts, and_from, eqb-true, eqb-false, eq-eqb, ne_eqb, not-true}
 use Rattle.std.proofs.lemmas.List.{drop-drop}
 use Rattle.deleg.specs.Pattern.{Matches, both_end, itself, any_one, run_ends, run_goes_on, stands_for, behind_run, behind_one, is_match}
-use Rattle.deleg.specs.Lead.{Lead, at_run, whole, fails, lead_one, lead}
+use Rattle.deleg.specs.Lead.{Lead, at_run, whole, fails, lead_one, lead, past_one}
 
 -- ---- what the first comparison means
 
@@ -272,14 +272,27 @@ is_match-Matches b cs ds e = (λ h. Matches-from cs ds (sym e ∙ h), λ m. e �
 
 -- ---- one step behind a run
 
-pub ends : (cs ds : List ℕ) → fails ≡ lead cs ds → ds ≡ [] → behind_run (is_match cs) ds ≡ false
-ends cs ds h e = ap (behind_run (is_match cs)) e ∙ fails_at_end cs (ap (lead cs) (sym e) ∙ sym h)
+pub ends : (cs ds : List ℕ) → fails ≡ lead cs ds → None ≡ past_one ds → behind_run (is_match cs) ds ≡ false
+ends cs [] h k = fails_at_end cs (sym h)
+ends cs (d ∷ ds) h k = fails_on cs d ds (sym h) ∙ stuck (eqb d 47) (behind_run (is_match cs) ds) ds k
+  where
+    stuck : (b x : Bool) (es : List ℕ) → None ≡ cond b None (Some es) → (not b && x) ≡ false
+    stuck true x es k = refl
+    stuck false x es k = absurd (cc)
 
-steps : (cs ds : List ℕ) (d : ℕ) (es : List ℕ) → fails ≡ lead cs ds → ds ≡ d ∷ es → behind_run (is_match cs) ds ≡ (not (eqb d 47) && behind_run (is_match cs) es)
-steps cs ds d es h e = ap (behind_run (is_match cs)) e ∙ fails_on cs d es (ap (lead cs) (sym e) ∙ sym h)
+past_slash : (b : Bool) (es : List ℕ) (f : List ℕ → Bool) (ds : List ℕ) → Some es ≡ cond b None (Some ds) → ((not b && f ds) ≡ f es) × (ds ≡ es)
+past_slash true es f ds k = absurd (cc)
+past_slash false es f ds k = (cc, cc)
 
-pub stops : (cs ds : List ℕ) (d : ℕ) (es : List ℕ) → fails ≡ lead cs ds → ds ≡ d ∷ es → true ≡ eqb d 47 → behind_run (is_match cs) ds ≡ false
-stops cs ds d es h e slash = steps cs ds d es h e ∙ ap (λ (b : Bool). not b && behind_run (is_match cs) es) (sym slash)
+no_more : (es : List ℕ) → Some es ≡ None → ⊥
+no_more es k = cc
 
-pub goes_on : (cs ds : List ℕ) (d : ℕ) (es : List ℕ) → fails ≡ lead cs ds → ds ≡ d ∷ es → false ≡ eqb d 47 → behind_run (is_match cs) ds ≡ behind_run (is_match cs) es
-goes_on cs ds d es h e slash = steps cs ds d es h e ∙ ap (λ (b : Bool). not b && behind_run (is_match cs) es) (sym slash)
+pub goes_on : (cs ds es : List ℕ) → fails ≡ lead cs ds → Some es ≡ past_one ds → behind_run (is_match cs) ds ≡ behind_run (is_match cs) es
+goes_on cs [] es h k = absurd (no_more es k)
+goes_on cs (d ∷ ds) es h k = fails_on cs d ds (sym h) ∙ (past_slash (eqb d 47) es (behind_run (is_match cs)) ds k).0
+
+pub past_one-shorter : (ds es : List ℕ) → Some es ≡ past_one ds → length es < length ds
+past_one-shorter [] es k = absurd (no_more es k)
+past_one-shorter (d ∷ ds) es k =
+    let same : length ds ≡ length es = ap length (past_slash (eqb d 47) es (λ _. true) ds k).1 in
+    omega arith

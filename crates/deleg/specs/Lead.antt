@@ -1,5 +1,5 @@
 -- What comparing the characters before a pattern's first `*` leaves.
-use Rattle.std.specs.Prelude.{ℕ, ◌==◌, if◌then◌else◌, List, [], ◌∷◌}
+use Rattle.std.specs.Prelude.{ℕ, ◌==◌, if◌then◌else◌, List, [], ◌∷◌, Option, None, Some}
 use Rattle.std.specs.Str.{chars}
 use Rattle.deleg.specs.Pattern.{stands_for}
 use Rattle.deleg.specs.declared.pattern.Compared.{Compared}
@@ -24,3 +24,8 @@ abbrev pub lead_of : Compared → Lead
 lead_of (compared.AtRun pattern path) = at_run (chars pattern.now) (chars path.now)
 lead_of compared.Whole = whole
 lead_of compared.Fails = fails
+
+-- the path behind one more character of a run, where the run may go on
+abbrev pub past_one : List ℕ → Option (List ℕ)
+past_one [] = None
+past_one (d ∷ ds) = if d == 47 then None else Some ds

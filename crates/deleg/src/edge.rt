@@ -65,5 +65,5 @@ fn is_any_prefix(prefixes: &[HashPrefix], path: &str) -> bool
 {
     prefixes
         .iter()
-        .any(|prefix| prefix_matches(prefix.as_str(), path))
+        .any(|prefix| prefix_matches(prefix.digits(), path))
 }

@@ -1,7 +1,7 @@
-ghost use Rattle.std.specs.Prelude.{◌≡◌, ◌==◌, ◌↔◌, ◌∷◌, [], IsTrue, MatchOption};
+ghost use Rattle.std.specs.Prelude.{◌≡◌, ◌==◌, ◌↔◌, ◌∷◌, [], IsTrue, MatchOption, option_map};
 ghost use Rattle.std.specs.Str.{chars};
 ghost use Rattle.deleg.specs.Pattern as spec;
-ghost use Rattle.deleg.specs.Lead.{lead, lead_of};
+ghost use Rattle.deleg.specs.Lead.{lead, lead_of, past_one};
 
 /// Whether the pattern matches the whole path (TUF 1.0 section 4.5): `*` is a run of characters
 /// without `/`, also the empty one, `?` is one character that isn't `/`, and any other character is
@@ -71,16 +71,21 @@ fn matches_behind_run(pattern: &str, path: &str) -> bool
             }
             Compared::Whole => return true,
             Compared::Fails => {
-                let Some((c, after)) = split_first(rest) else {
+                let Some(after) = past_one(rest) else {
                     return false;
                 };
-                if is_separator(c) {
-                    return false;
-                }
                 rest = after;
             }
         }
     }
+}
+
+/// The path behind one more character of a run, where the run may go on.
+fn past_one(path: &str) -> Option<&str>
+    ensures { option_map (λ p. chars p.now) result ≡ past_one (chars path.now) }
+{
+    let (c, after) = split_first(path)?;
+    if is_separator(c) { None } else { Some(after) }
 }
 
 fn stands_for(c: char, d: char) -> bool

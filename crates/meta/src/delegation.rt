@@ -71,7 +71,7 @@ impl Model for HashPrefix {
 
 impl HashPrefix {
     /// The first digits of the digest, 1 to 64.
-    pub fn as_str(&self) -> &str
+    pub fn digits(&self) -> &str
         ensures { result.now ≡ self.now }
     {
         self.text.as_str()

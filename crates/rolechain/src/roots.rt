@@ -90,11 +90,10 @@ fn successor<J: Judge>(
 ) -> Result<Option<Part<Root>>, Stop>
     ensures { Follows (spec.successor (file_in round.now.files.now) round.now.moment root.now) result }
 {
-    let version = root.header().version();
-    if version >= LAST_VERSION {
+    if root.header().version() >= LAST_VERSION {
         return Ok(None);
     }
-    let name = root_name(round.alloc, version + 1)?;
+    let name = root_name(round.alloc, due_version(root))?;
     if !round.files.contains_key(name.as_str()) {
         return Ok(None);
     }
@@ -112,6 +111,19 @@ fn listed_root<J: Judge>(
     requires name { name.now ≡ file_name (root.now.header.version + 1) }
     ensures { Answers (root_part (next_root root.now) (root.now.header.version + 1) (file_in round.now.files.now)) result (λ p. p) }
 {
-    let due = root.header().version() + 1;
-    examine_root(round.alloc, &due_root(root, name), due, round.files, judge)
+    examine_root(
+        round.alloc,
+        &due_root(root, name),
+        due_version(root),
+        round.files,
+        judge,
+    )
+}
+
+/// The version that a root's successor has (TUF 1.0 section 5.3).
+fn due_version(root: &Root) -> u64
+    requires last { root.now.header.version < 2 ^ 63 - 1 }
+    ensures { result ≡ root.now.header.version + 1 }
+{
+    root.header().version() + 1
 }

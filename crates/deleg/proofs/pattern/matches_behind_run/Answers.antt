@@ -1,6 +1,6 @@
 use Rattle.std.proofs.Common.{rules, sym, ◌∙◌, arith}
 use Rattle.std.specs.Str.{chars}
-use Rattle.deleg.proofs.Patterns.{settles, matches_whole, ends, stops, goes_on, lead-shorter}
+use Rattle.deleg.proofs.Patterns.{settles, matches_whole, ends, goes_on, past_one-shorter, lead-shorter}
 use Rattle.deleg.proofs.pattern.matches_behind_run.Goals as goal
 
 pub loop-pattern-smaller-in-AtRun : goal.loop-pattern-smaller-in-AtRun
@@ -18,13 +18,14 @@ returns-in-Whole c = sym (c.loop-pattern.invariant.2 ∙ matches_whole (chars c.
 pub returns-in_default : goal.returns-in_default
 returns-in_default c = sym (c.loop-pattern.invariant.2 ∙ ends (chars c.loop-pattern.left.now) (chars c.loop-pattern.rest.now) c.in-Fails.ensures c.in_default.ensures)
 
-pub returns-then-is_separator : goal.returns-then-is_separator
-returns-then-is_separator c =
-    sym (c.loop-pattern.invariant.2 ∙ stops (chars c.loop-pattern.left.now) (chars c.loop-pattern.rest.now) c.in-Some.c (chars c.in-Some.after.now) c.in-Fails.ensures c.in-Some.ensures c.if-is_separator.ensures)
+pub loop-pattern-smaller : goal.loop-pattern-smaller
+loop-pattern-smaller c =
+    let less = past_one-shorter (chars c.loop-pattern.rest.now) (chars c.in-Some.after.now) c.in-Some.ensures in
+    omega (arith, less)
 
 pub loop-pattern-preserved : goal.loop-pattern-preserved
 loop-pattern-preserved c = (
   search rules,
   search rules,
-  c.loop-pattern.invariant.2 ∙ goes_on (chars c.loop-pattern.left.now) (chars c.loop-pattern.rest.now) c.in-Some.c (chars c.in-Some.after.now) c.in-Fails.ensures c.in-Some.ensures c.if-is_separator.ensures,
+  c.loop-pattern.invariant.2 ∙ goes_on (chars c.loop-pattern.left.now) (chars c.loop-pattern.rest.now) (chars c.in-Some.after.now) c.in-Fails.ensures c.in-Some.ensures,
 )

@@ -14,7 +14,7 @@ returns-in-Ok-None g c =
     let now = c.args.round.now.moment in
     let root : c.reading.result.now ≡ c.loop-done.state.root.reading = c.reading.ensures.value ∙ ap (λ p. p.reading) c.root.ensures in
     let none = follows-along _ _ _ (c.in-Ok-None.is ∙ ap Ok c.in-Ok-None.field-0-is) c.successor.ensures in
-    IfOk-along _ _ _ (ends files now 256 _ _ _ c.loop-done-test.true (sym (ap (successor files now) root) ∙ none) c.loop-done.invariant) c.rooted.ensures
+    IfOk-along _ _ _ (ends files now 256 _ _ _ (omega (arith, c.loop-done-test.true)) (sym (ap (successor files now) root) ∙ none) c.loop-done.invariant) c.rooted.ensures
 
 pub returns-in-Err : goal.returns-in-Err
 returns-in-Err g c =
@@ -22,7 +22,7 @@ returns-in-Err g c =
     let now = c.args.round.now.moment in
     let root : c.reading.result.now ≡ c.loop-done.state.root.reading = c.reading.ensures.value ∙ ap (λ p. p.reading) c.root.ensures in
     IfOk-stopped _ c.loop-done.state step.Root c.in-Err.stop _ _ (follows-along _ _ _ c.in-Err.is c.successor.ensures)
-    (λ fault f. refused files now 256 _ _ _ fault c.loop-done-test.true (sym (ap (successor files now) root) ∙ f) c.loop-done.invariant) c.stopped.ensures
+    (λ fault f. refused files now 256 _ _ _ fault (omega (arith, c.loop-done-test.true)) (sym (ap (successor files now) root) ∙ f) c.loop-done.invariant) c.stopped.ensures
 
 pub loop-done-preserved : goal.loop-done-preserved
 loop-done-preserved g c =
@@ -30,7 +30,7 @@ loop-done-preserved g c =
     let now = c.args.round.now.moment in
     let root : c.reading.result.now ≡ c.loop-done.state.root.reading = c.reading.ensures.value ∙ ap (λ p. p.reading) c.root.ensures in
     let found = follows-along _ _ _ (c.in-Ok-Some.is ∙ ap Ok c.in-Ok-Some.field-0-is) c.successor.ensures in
-    rw c.trust_root.ensures (more files now 256 _ _ _ c.in-Ok-Some.next c.loop-done-test.true (sym (ap (successor files now) root) ∙ found) c.loop-done.invariant)
+    rw c.trust_root.ensures (more files now 256 _ _ _ c.in-Ok-Some.next (omega (arith, c.loop-done-test.true)) (sym (ap (successor files now) root) ∙ found) c.loop-done.invariant)
 
 pub returns : goal.returns
 returns g c =

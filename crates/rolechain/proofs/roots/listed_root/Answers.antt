@@ -9,7 +9,6 @@ pub returns : goal.returns
 returns g c =
     let files = file_in c.args.round.now.files.now in
     let root = c.args.root.now in
-    let version : c.version-due.result ≡ root.header.version = cc in
     gives _ (root_part (next_root root) (root.header.version + 1) files) _
-    (ap (λ e. root_part e (c.version-due.result + 1) files) c.due_root.ensures ∙ ap (λ n. root_part (next_root root) (n + 1) files) version)
+    (ap (λ e. root_part e c.due_version.result files) c.due_root.ensures ∙ ap (λ n. root_part (next_root root) n files) c.due_version.ensures)
     c.examine_root.ensures
