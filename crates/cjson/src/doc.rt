@@ -32,14 +32,14 @@ impl Model for Entry {
 impl Entry {
     /// The id of the key that is said to have signed.
     pub fn keyid(&self) -> &str
-        ensures { result.now ≡ self.now.keyid }
+        ensures value { result.now ≡ self.now.keyid }
     {
         self.keyid.as_str()
     }
 
     /// The signature, which should be hexadecimal text.
     pub fn sig(&self) -> &str
-        ensures { result.now ≡ self.now.sig }
+        ensures value { result.now ≡ self.now.sig }
     {
         self.sig.as_str()
     }
@@ -72,7 +72,7 @@ impl Doc {
 
     /// The tree of `signed`.
     pub fn tree(&self) -> &Value
-        ensures { view result.now ≡ (doc_of self.now).signed }
+        ensures value { view result.now ≡ (doc_of self.now).signed }
     {
         &self.tree
     }
@@ -87,7 +87,7 @@ impl Doc {
 
     /// The entries of `signatures`, in the file's order.
     pub fn entries(&self) -> &[Entry]
-        ensures { result.now ≡ (doc_of self.now).entries }
+        ensures value { result.now ≡ (doc_of self.now).entries }
     {
         self.listed.as_slice()
     }

@@ -16,7 +16,7 @@ pub trait FromJson: Sized {
 
     /// What `value` is read as; `Malformed` where it hasn't the form.
     fn from_json(alloc: Global, value: &Value) -> Result<Self, Misread>
-        ensures { Reads (form (view value.now)) result };
+        ensures read { Reads (form (view value.now)) result };
 }
 
 /// A member that has to be there.
@@ -24,7 +24,7 @@ pub trait FromJson: Sized {
 /// `Malformed` is answered where `value` is no object, has no member of that name, or has one of
 /// another form.
 pub fn needed<T: FromJson>(alloc: Global, value: &Value, name: &str) -> Result<T, Misread>
-    ensures { Reads (form_of.needed name.now T.form (view value.now)) result }
+    ensures read { Reads (form_of.needed name.now T.form (view value.now)) result }
 {
     let member = value.get(name).ok_or(Misread::Malformed)?;
     T::from_json(alloc, member)
@@ -35,7 +35,7 @@ pub fn needed<T: FromJson>(alloc: Global, value: &Value, name: &str) -> Result<T
 /// `None` is answered where `value` has no member of that name, also where it is no object, and
 /// `Malformed` where the member has another form. A member that is `null` isn't absent.
 pub fn optional<T: FromJson>(alloc: Global, value: &Value, name: &str) -> Result<Option<T>, Misread>
-    ensures { Reads (form_of.optional name.now T.form (view value.now)) result }
+    ensures read { Reads (form_of.optional name.now T.form (view value.now)) result }
 {
     match value.get(name) {
         Some(member) => Ok(Some(T::from_json(alloc, member)?)),

@@ -28,21 +28,21 @@ impl<T> Model for Items<T> {
 impl<T> Items<T> {
     /// The items of a vector.
     pub fn new(items: Vec<T>) -> Items<T>
-        ensures { result ≡ items.items }
+        ensures value { result ≡ items.items }
     {
         Items { items }
     }
 
     /// The items, taken out.
     pub fn into_vec(self) -> Vec<T>
-        ensures { result.items ≡ self }
+        ensures value { result.items ≡ self }
     {
         self.items
     }
 
     /// The items, lent.
     pub fn as_slice(&self) -> &[T]
-        ensures { result.now ≡ self.now }
+        ensures value { result.now ≡ self.now }
     {
         self.items.as_slice()
     }

@@ -17,14 +17,14 @@ pub trait FromMember: Sized {
 
     /// What the member `name` with this value is read as; `Malformed` where it hasn't the form.
     fn from_member(alloc: Global, name: &str, value: &Value) -> Result<Self, Misread>
-        ensures { Reads (member_form name.now (view value.now)) result };
+        ensures read { Reads (member_form name.now (view value.now)) result };
 }
 
 /// What the members of an object are read as, in the order of their names' bytes.
 ///
 /// `Malformed` is answered where `value` is no object, or some member hasn't the form.
 pub fn read_members<T: FromMember + Drop>(alloc: Global, value: &Value) -> Result<Items<T>, Misread>
-    ensures { Reads (form_of.members T.member_form (view value.now)) result }
+    ensures read { Reads (form_of.members T.member_form (view value.now)) result }
 {
     let found = value.as_object().ok_or(Misread::Malformed)?;
     read_each_member(alloc, found)

@@ -45,7 +45,7 @@ impl<const LEAST: u64> Model for AtLeast<LEAST> {
 impl<const LEAST: u64> AtLeast<LEAST> {
     /// The number.
     pub fn get(&self) -> u64
-        ensures { result ≡ self.now }
+        ensures value { result ≡ self.now }
     {
         self.number
     }

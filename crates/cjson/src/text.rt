@@ -27,14 +27,14 @@ impl Model for Text {
 impl Text {
     /// The text of a `String`.
     pub fn new(text: String) -> Text
-        ensures { result ≡ string_bytes text }
+        ensures value { result ≡ string_bytes text }
     {
         Text { text }
     }
 
     /// The text, lent.
     pub fn as_str(&self) -> &str
-        ensures { result.now ≡ self.now }
+        ensures value { result.now ≡ self.now }
     {
         self.text.as_str()
     }
@@ -51,7 +51,7 @@ impl FromJson for Text {
 
 /// Whether a member is this text.
 pub fn is_text(value: &Value, name: &str, text: &str) -> bool
-    ensures { result ≡ form_of.has_text name.now (bytes_eq text.now) (view value.now) }
+    ensures test { result ≡ form_of.has_text name.now (bytes_eq text.now) (view value.now) }
 {
     match value.get(name).and_then(Value::as_str) {
         Some(found) => text == found,

@@ -8,7 +8,7 @@ use std::alloc::Global;
 /// The tree of bytes that are JSON in UTF-8, of at most 127 levels; `Malformed` where they aren't.
 /// Of members named twice the last one counts.
 pub fn read_tree(alloc: Global, bytes: &[u8]) -> Result<Value, Misread>
-    ensures { ReadsTree (tree_of bytes.now) result }
+    ensures tree { ReadsTree (tree_of bytes.now) result }
 {
     match Value::from_slice(alloc, bytes) {
         Ok(tree) => Ok(tree),

@@ -52,28 +52,28 @@ impl Outcome {
 
     /// The new trusted state.
     pub fn trusted(&self) -> &Trusted
-        ensures { result.now ≡ self.now.trusted }
+        ensures value { result.now ≡ self.now.trusted }
     {
         &self.trusted
     }
 
     /// How the cycle ended.
     pub fn end(&self) -> End
-        ensures { result ≡ self.now.end }
+        ensures value { result ≡ self.now.end }
     {
         self.end
     }
 
     /// A verdict for each wanted path, by position.
     pub fn verdicts(&self) -> &[Verdict]
-        ensures { result.now ≡ self.now.verdicts }
+        ensures value { result.now ≡ self.now.verdicts }
     {
         self.verdicts.as_slice()
     }
 
     /// The delegated roles that were accepted.
     pub fn accepted(&self) -> &[Accepted]
-        ensures { result.now ≡ self.now.accepted }
+        ensures value { result.now ≡ self.now.accepted }
     {
         self.accepted.as_slice()
     }

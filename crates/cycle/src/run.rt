@@ -25,7 +25,7 @@ pub fn run_alone(
     wanted: &[String],
     limits: &Limits,
 ) -> Result<Outcome, NoMemory>
-    ensures { IfOk result (λ o. o ≡ spec.workflow (file_in repo.now.metadata) (file_in repo.now.targets)
+    ensures workflow { IfOk result (λ o. o ≡ spec.workflow (file_in repo.now.metadata) (file_in repo.now.targets)
         now trusted.now (map string_bytes wanted.now) limits.now.roles) }
 {
     let mut judge = Direct;

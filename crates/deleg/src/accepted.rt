@@ -30,14 +30,14 @@ impl Accepted {
 
     /// The role's name.
     pub fn role(&self) -> &str
-        ensures { result.now ≡ self.now.role }
+        ensures value { result.now ≡ self.now.role }
     {
         self.role.as_str()
     }
 
     /// An equal role.
     pub fn copy(&self, alloc: Global) -> Result<Accepted, NoMemory>
-        ensures { IfOk result (λ a. a ≡ self.now) }
+        ensures equal { IfOk result (λ a. a ≡ self.now) }
     {
         let role = Text::new(String::from_str(alloc, self.role())?);
         Ok(Accepted {
@@ -48,7 +48,7 @@ impl Accepted {
 
     /// The version of its file.
     pub fn version(&self) -> u64
-        ensures { result ≡ self.now.version }
+        ensures value { result ≡ self.now.version }
     {
         self.version
     }
@@ -79,14 +79,14 @@ impl Searched {
 
     /// What was found of the path.
     pub fn found(&self) -> &Found
-        ensures { result.now ≡ self.now.found }
+        ensures value { result.now ≡ self.now.found }
     {
         &self.found
     }
 
     /// The delegated roles that were accepted, in the order of their visits.
     pub fn accepted(&self) -> &[Accepted]
-        ensures { result.now ≡ self.now.accepted }
+        ensures value { result.now ≡ self.now.accepted }
     {
         self.accepted.as_slice()
     }

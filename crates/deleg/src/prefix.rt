@@ -8,7 +8,7 @@ use sha2::{Digest, Sha256};
 /// Whether the path's SHA-256 digest, in lower-case hexadecimal, begins with the prefix (TUF 1.0
 /// section 4.5). Takes no memory.
 pub fn prefix_matches(prefix: &str, path: &str) -> bool
-    ensures { result ≡ begins prefix.now (path_digest path.now) }
+    ensures test { result ≡ begins prefix.now (path_digest path.now) }
 {
     let digest: [u8; 32] = Sha256::digest(path.as_bytes());
     begins_with(&digest, prefix.as_bytes())

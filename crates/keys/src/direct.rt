@@ -13,7 +13,7 @@ pub struct Direct;
 
 impl Judge for Direct {
     fn valid(&mut self, ask: &Ask) -> Result<bool, NoMemory>
-        ensures { result ≡ Ok (truth ask.now) }
+        ensures always { result ≡ Ok (truth ask.now) }
     {
         Ok(match *ask {
             Ask::Signature {

@@ -103,5 +103,5 @@ pub trait Judge {
     /// Whether the answer is yes. The only refusal is want of memory, after which the question may be
     /// asked again.
     fn valid(&mut self, ask: &Ask) -> Result<bool, NoMemory>
-        ensures { IfOk result (λ b. b ≡ truth ask.now) };
+        ensures truth { IfOk result (λ b. b ≡ truth ask.now) };
 }

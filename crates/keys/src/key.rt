@@ -31,14 +31,14 @@ impl Model for Key {
 impl Key {
     /// The key's id: 64 lower-case hexadecimal digits.
     pub fn id(&self) -> &str
-        ensures { result.now ≡ self.now.id }
+        ensures value { result.now ≡ self.now.id }
     {
         self.id.as_str()
     }
 
     /// The public value, of 56 bytes.
     pub fn public(&self) -> &Public
-        ensures { result.now ≡ self.now.public }
+        ensures value { result.now ≡ self.now.public }
     {
         &self.public
     }
@@ -47,7 +47,7 @@ impl Key {
 /// The id of a key object as it stands: the SHA-256 of its canonical text, in 64 lower-case hexadecimal
 /// digits (TUF 1.0 section 4.2). An object with a number that isn't whole has no canonical text, so no id.
 pub fn key_id(alloc: Global, key: &Value) -> Result<String, Canon>
-    ensures { GivesText (spec.key_id (view key.now)) result string_bytes }
+    ensures digest { GivesText (spec.key_id (view key.now)) result string_bytes }
 {
     let text = canonical(alloc, key)?;
     let digest: [u8; 32] = Sha256::digest(text.as_slice());

@@ -33,14 +33,14 @@ impl KeyRing {
     /// The ring of an object of keys, or None where the value isn't an object or one of its members isn't
     /// one.
     pub fn read(alloc: Global, value: &Value) -> Result<Option<KeyRing>, NoMemory>
-        ensures { IfOk result (λ o. o ≡ spec.ring (view value.now)) }
+        ensures read { IfOk result (λ o. o ≡ spec.ring (view value.now)) }
     {
         if_formed(KeyRing::from_json(alloc, value))
     }
 
     /// The keys, in the order of their ids.
     pub fn keys(&self) -> &[Key]
-        ensures { result.now ≡ self.now }
+        ensures value { result.now ≡ self.now }
     {
         self.keys.as_slice()
     }

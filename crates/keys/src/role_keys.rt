@@ -30,21 +30,21 @@ impl RoleKeys {
     /// The role of an object, or None where `keyids` isn't a list of texts or `threshold` isn't a whole
     /// number of 1 to 9223372036854775807. Other members are ignored.
     pub fn read(alloc: Global, value: &Value) -> Result<Option<RoleKeys>, NoMemory>
-        ensures { IfOk result (λ o. o ≡ spec.role_keys (view value.now)) }
+        ensures read { IfOk result (λ o. o ≡ spec.role_keys (view value.now)) }
     {
         if_formed(RoleKeys::from_json(alloc, value))
     }
 
     /// The listed ids, as the file lists them: some may be repeated or unknown.
     pub fn ids(&self) -> &[Text]
-        ensures { result.now ≡ self.now.ids }
+        ensures value { result.now ≡ self.now.ids }
     {
         self.ids.as_slice()
     }
 
     /// How many keys must sign, 1 to 9223372036854775807.
     pub fn threshold(&self) -> u64
-        ensures { result ≡ self.now.threshold }
+        ensures value { result ≡ self.now.threshold }
     {
         self.threshold.get()
     }

@@ -30,7 +30,7 @@ impl Model for Signers {
 
 impl Signers {
     pub fn new(alloc: Global) -> Signers
-        ensures { result ≡ set.empty }
+        ensures value { result ≡ set.empty }
     {
         Signers {
             publics: Vec::new(alloc),
@@ -38,13 +38,13 @@ impl Signers {
     }
 
     pub fn len(&self) -> usize
-        ensures { result ≡ set.len self.now }
+        ensures value { result ≡ set.len self.now }
     {
         self.publics.len()
     }
 
     pub fn has(&self, public: &Public) -> bool
-        ensures { result ≡ set.contains self.now public.now }
+        ensures value { result ≡ set.contains self.now public.now }
     {
         is_among(&self.publics, public)
     }

@@ -25,7 +25,7 @@ pub fn enough<J: Judge>(
     role: &RoleKeys,
     judge: &mut J,
 ) -> Result<bool, NoMemory>
-    ensures { IfOk result (λ b. b ≡ spec.is_met (doc_of doc.now).text (doc_of doc.now).entries
+    ensures met { IfOk result (λ b. b ≡ spec.is_met (doc_of doc.now).text (doc_of doc.now).entries
         ring.now role.now) }
 {
     let mut signers = Signers::new(alloc);

@@ -139,7 +139,7 @@ impl Secret {
     /// The key of height `h` whose identifier is `i` and whose one-time keys are made from `secret` (RFC 8554 sections
     /// 4.2, 5.2 and appendix A).
     pub fn new(alloc: Global, i: [u8; 16], secret: [u8; 32], h: Height) -> Result<Secret, NoMemory>
-        ensures { IfOk result (λ s. s ≡ record {
+        ensures key { IfOk result (λ s. s ≡ record {
           kind = record { width = Width.W8; height = h };
           id = i;
           seed = secret;
@@ -165,7 +165,7 @@ impl Secret {
 
     /// The public key (RFC 8554 section 5.3), which no call changes.
     pub fn public(&self) -> Public
-        ensures { result ≡ public_of self.now }
+        ensures value { result ≡ public_of self.now }
     {
         Public::from_parts(self.kind, &self.id, &self.nodes[1])
     }

@@ -16,7 +16,7 @@ pub enum Refusal {
 impl Refusal {
     /// What the maker says of it at a line, counted from 1.
     pub fn at(self, line: usize) -> MakeFault
-        ensures { result ≢ MakeFault.Used }
+        ensures not_used { result ≢ MakeFault.Used }
     {
         match self {
             Refusal::Line => MakeFault::Script(line),

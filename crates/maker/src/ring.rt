@@ -25,7 +25,7 @@ fn is_of_byte(signer: &Signer, byte: u8) -> bool {
 
 /// The place of the key of the byte.
 pub fn place_of(signers: &[Signer], byte: u8) -> Result<usize, Refusal>
-    ensures { IfOk result (λ p. p < length signers.now) }
+    ensures place { IfOk result (λ p. p < length signers.now) }
 {
     match signers.iter().position(|signer| is_of_byte(signer, byte)) {
         Some(place) => Ok(place),
@@ -35,7 +35,7 @@ pub fn place_of(signers: &[Signer], byte: u8) -> Result<usize, Refusal>
 
 /// The places of the keys of the bytes, in order.
 pub fn places_of(alloc: Global, signers: &[Signer], keys: &[u8]) -> Result<Vec<usize>, Refusal>
-    ensures { IfOk result (λ by. All (λ p. p < length signers.now) by.items) }
+    ensures places { IfOk result (λ by. All (λ p. p < length signers.now) by.items) }
 {
     let mut places = Vec::new(alloc);
     for byte in keys {

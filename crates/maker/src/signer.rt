@@ -17,7 +17,7 @@ pub struct Signer {
 /// The key of key byte `s`: its identifier is 16 bytes `s`, and it is made from 32 bytes `s` (RFC
 /// 8554 appendix A). No leaf is used. It takes 2 KiB at height 5 and 64 KiB at height 10.
 pub fn secret(alloc: Global, s: u8, h: Height) -> Result<Secret, NoMemory>
-    ensures { IfOk result (λ key. key ≡ record {
+    ensures key { IfOk result (λ key. key ≡ record {
       kind = record { width = width.W8; height = h };
       id = replicate 16 s;
       seed = replicate 32 s;

@@ -31,7 +31,7 @@ impl Model for PathPattern {
 impl PathPattern {
     /// The pattern's text.
     pub fn as_str(&self) -> &str
-        ensures { result.now ≡ self.now }
+        ensures value { result.now ≡ self.now }
     {
         self.text.as_str()
     }
@@ -72,7 +72,7 @@ impl Model for HashPrefix {
 impl HashPrefix {
     /// The first digits of the digest, 1 to 64.
     pub fn digits(&self) -> &str
-        ensures { result.now ≡ self.now }
+        ensures value { result.now ≡ self.now }
     {
         self.text.as_str()
     }
@@ -141,28 +141,28 @@ impl Model for Delegation {
 impl Delegation {
     /// The role's name.
     pub fn name(&self) -> &str
-        ensures { result.now ≡ self.now.name }
+        ensures value { result.now ≡ self.now.name }
     {
         self.name.as_str()
     }
 
     /// Which keys must sign the role's file, and how many.
     pub fn keys(&self) -> &RoleKeys
-        ensures { result.now ≡ self.now.keys }
+        ensures value { result.now ≡ self.now.keys }
     {
         &self.keys
     }
 
     /// Whether a search that comes to the delegation tries none that follow it.
     pub fn is_terminating(&self) -> bool
-        ensures { result ≡ self.now.terminating }
+        ensures value { result ≡ self.now.terminating }
     {
         self.terminating
     }
 
     /// Which paths it is for.
     pub fn paths(&self) -> &Paths
-        ensures { matcher_of result.now ≡ self.now.matcher }
+        ensures value { matcher_of result.now ≡ self.now.matcher }
     {
         &self.paths
     }
@@ -221,14 +221,14 @@ impl Model for Delegations {
 impl Delegations {
     /// The keys of the file, for the roles that it delegates to.
     pub fn ring(&self) -> &KeyRing
-        ensures { result.now ≡ self.now.ring }
+        ensures value { result.now ≡ self.now.ring }
     {
         &self.ring
     }
 
     /// The delegations, in order.
     pub fn roles(&self) -> &[Delegation]
-        ensures { result.now ≡ self.now.roles }
+        ensures value { result.now ≡ self.now.roles }
     {
         self.roles.as_slice()
     }

@@ -30,14 +30,14 @@ impl Model for Hashes {
 impl Hashes {
     /// The SHA-256 digest, 32 bytes, where it is listed.
     pub fn sha256(&self) -> Option<[u8; 32]>
-        ensures { result ≡ self.now.sha256 }
+        ensures value { result ≡ self.now.sha256 }
     {
         self.sha256
     }
 
     /// The SHA-512 digest, 64 bytes, where it is listed.
     pub fn sha512(&self) -> Option<[u8; 64]>
-        ensures { result ≡ self.now.sha512 }
+        ensures value { result ≡ self.now.sha512 }
     {
         self.sha512
     }

@@ -33,14 +33,14 @@ impl Model for Header {
 impl Header {
     /// The version, 1 to 9223372036854775807.
     pub fn version(&self) -> u64
-        ensures { result ≡ self.now.version }
+        ensures value { result ≡ self.now.version }
     {
         self.version.get()
     }
 
     /// The first moment at which the file is expired.
     pub fn expires(&self) -> Moment
-        ensures { result ≡ self.now.expires }
+        ensures value { result ≡ self.now.expires }
     {
         self.expires
     }

@@ -35,14 +35,14 @@ impl Model for Listing {
 impl Listing {
     /// The version of the file, 1 to 9223372036854775807.
     pub fn version(&self) -> u64
-        ensures { result ≡ self.now.version }
+        ensures value { result ≡ self.now.version }
     {
         self.version.get()
     }
 
     /// The length in bytes, where it is listed.
     pub fn length(&self) -> Option<u64>
-        ensures { result ≡ self.now.length }
+        ensures value { result ≡ self.now.length }
     {
         match &self.length {
             Some(length) => Some(length.get()),
@@ -52,7 +52,7 @@ impl Listing {
 
     /// The listed digests, where they are listed.
     pub fn hashes(&self) -> Option<Hashes>
-        ensures { result ≡ self.now.hashes }
+        ensures value { result ≡ self.now.hashes }
     {
         self.hashes
     }
@@ -66,7 +66,7 @@ impl Listing {
         limit: Option<u64>,
         judge: &mut J,
     ) -> Result<(), Stop>
-        ensures { Answers (content limit self.now.length self.now.hashes bytes.now) result (λ x. x) }
+        ensures answer { Answers (content limit self.now.length self.now.hashes bytes.now) result (λ x. x) }
     {
         let listed = Content {
             limit,

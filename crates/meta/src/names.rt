@@ -7,14 +7,14 @@ use std::alloc::{AllocError, Global};
 
 /// The file of the root of that version: `VERSION.root.json`.
 pub fn root_name(alloc: Global, version: u64) -> Result<String, AllocError>
-    ensures { IfOk result (λ s. string_bytes s ≡ spec.root_name version) }
+    ensures name { IfOk result (λ s. string_bytes s ≡ spec.root_name version) }
 {
     format!(in alloc; "{version}.root.json")
 }
 
 /// The name of a role's file, as the snapshot lists it: `ROLE.json`.
 pub fn role_name(alloc: Global, role: &str) -> Result<String, AllocError>
-    ensures { IfOk result (λ s. string_bytes s ≡ spec.role_name role.now) }
+    ensures name { IfOk result (λ s. string_bytes s ≡ spec.role_name role.now) }
 {
     format!(in alloc; "{role}.json")
 }
@@ -26,7 +26,7 @@ pub fn versioned(
     version: u64,
     name: &str,
 ) -> Result<String, AllocError>
-    ensures { IfOk result (λ s. string_bytes s ≡ spec.versioned consistent version name.now) }
+    ensures name { IfOk result (λ s. string_bytes s ≡ spec.versioned consistent version name.now) }
 {
     if consistent {
         format!(in alloc; "{version}.{name}")
@@ -39,7 +39,7 @@ pub fn versioned(
 /// is what follows the last `/` of the path and `HASH` the digest in lower-case hexadecimal.
 #[tactic(auto, using(crate::proofs::Hashed::in_folder, crate::proofs::Hashed::no_folder))]
 pub fn hashed(alloc: Global, digest: &[u8], path: &str) -> Result<String, AllocError>
-    ensures { IfOk result (λ s. string_bytes s ≡ spec.hashed (encode_lower digest.now) path.now) }
+    ensures name { IfOk result (λ s. string_bytes s ≡ spec.hashed (encode_lower digest.now) path.now) }
 {
     let hash = hex::encode(alloc, digest)?;
     match path.rsplit_once('/') {

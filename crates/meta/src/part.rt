@@ -26,11 +26,11 @@ pub trait Reading: Sized {
 
     /// Reads a document as a file of this kind.
     fn read(alloc: Global, doc: &Doc) -> Result<Self, ReadFault>
-        ensures { ReadsFile (of_document (doc_of doc.now)) result };
+        ensures read { ReadsFile (of_document (doc_of doc.now)) result };
 
     /// The most bytes of a file of this kind.
     fn limit() -> u64
-        ensures { result ≡ limit };
+        ensures value { result ≡ limit };
 }
 
 impl Reading for Root {
@@ -120,7 +120,7 @@ impl<A: Reading + Drop> Part<A> {
 
     /// The file of these bytes: `TooLong` over the limit of its kind, else what its reading answers.
     pub fn read(alloc: Global, bytes: Vec<u8>) -> Result<Part<A>, Stop>
-        ensures { Answers (spec.part_of A.of_document A.limit bytes.items) result (λ p. p) }
+        ensures answer { Answers (spec.part_of A.of_document A.limit bytes.items) result (λ p. p) }
     {
         refuse_if(bytes.len() as u64 > A::limit(), Fault::TooLong)?;
         let doc = read_document(alloc, &bytes)?;
@@ -130,7 +130,7 @@ impl<A: Reading + Drop> Part<A> {
 
     /// An equal file, made by reading the bytes again.
     pub fn copy(&self, alloc: Global) -> Result<Part<A>, NoMemory>
-        ensures { IfOk result (λ p. p ≡ self.now) }
+        ensures equal { IfOk result (λ p. p ≡ self.now) }
     {
         match Part::read(alloc, self.bytes.clone()?) {
             Ok(part) => Ok(part),

@@ -46,49 +46,49 @@ impl Model for Root {
 impl Root {
     /// The version, and when the file expires.
     pub fn header(&self) -> &Header
-        ensures { result.now ≡ self.now.header }
+        ensures value { result.now ≡ self.now.header }
     {
         &self.header
     }
 
     /// The usable keys.
     pub fn ring(&self) -> &KeyRing
-        ensures { result.now ≡ self.now.ring }
+        ensures value { result.now ≡ self.now.ring }
     {
         &self.ring
     }
 
     /// The keys of the root role.
     pub fn root(&self) -> &RoleKeys
-        ensures { result.now ≡ self.now.root }
+        ensures value { result.now ≡ self.now.root }
     {
         &self.root
     }
 
     /// The keys of the timestamp role.
     pub fn timestamp(&self) -> &RoleKeys
-        ensures { result.now ≡ self.now.timestamp }
+        ensures value { result.now ≡ self.now.timestamp }
     {
         &self.timestamp
     }
 
     /// The keys of the snapshot role.
     pub fn snapshot(&self) -> &RoleKeys
-        ensures { result.now ≡ self.now.snapshot }
+        ensures value { result.now ≡ self.now.snapshot }
     {
         &self.snapshot
     }
 
     /// The keys of the top-level targets role.
     pub fn targets(&self) -> &RoleKeys
-        ensures { result.now ≡ self.now.targets }
+        ensures value { result.now ≡ self.now.targets }
     {
         &self.targets
     }
 
     /// Whether names carry versions and digests (consistent snapshots).
     pub fn consistent(&self) -> bool
-        ensures { result ≡ self.now.consistent }
+        ensures value { result ≡ self.now.consistent }
     {
         self.consistent
     }
@@ -96,7 +96,7 @@ impl Root {
 
 /// Reads a document as a root file (TUF 1.0 section 4.3).
 pub fn read_root(alloc: Global, doc: &Doc) -> Result<Root, ReadFault>
-    ensures { ReadsFile (root_of (doc_of doc.now)) result }
+    ensures read { ReadsFile (root_of (doc_of doc.now)) result }
 {
     Ok(parse(alloc, doc.tree())?)
 }

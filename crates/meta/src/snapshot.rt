@@ -35,14 +35,14 @@ impl Model for Named {
 impl Named {
     /// The name of the file, without its version.
     pub fn name(&self) -> &str
-        ensures { result.now ≡ self.now.name }
+        ensures value { result.now ≡ self.now.name }
     {
         self.name.as_str()
     }
 
     /// How the file is listed.
     pub fn listing(&self) -> &Listing
-        ensures { result.now ≡ self.now.listing }
+        ensures value { result.now ≡ self.now.listing }
     {
         &self.listing
     }
@@ -76,14 +76,14 @@ impl Model for Snapshot {
 impl Snapshot {
     /// The version, and when the file expires.
     pub fn header(&self) -> &Header
-        ensures { result.now ≡ self.now.header }
+        ensures value { result.now ≡ self.now.header }
     {
         &self.header
     }
 
     /// The listed files, in byte order of their names.
     pub fn files(&self) -> &[Named]
-        ensures { result.now ≡ self.now.files }
+        ensures value { result.now ≡ self.now.files }
     {
         self.files.as_slice()
     }
@@ -91,7 +91,7 @@ impl Snapshot {
 
 /// Reads a document as a snapshot file (TUF 1.0 section 4.4).
 pub fn read_snapshot(alloc: Global, doc: &Doc) -> Result<Snapshot, ReadFault>
-    ensures { ReadsFile (snapshot_of (doc_of doc.now)) result }
+    ensures read { ReadsFile (snapshot_of (doc_of doc.now)) result }
 {
     Ok(parse(alloc, doc.tree())?)
 }

@@ -42,28 +42,28 @@ impl Model for Target {
 impl Target {
     /// The target's path.
     pub fn path(&self) -> &str
-        ensures { result.now ≡ self.now.path }
+        ensures value { result.now ≡ self.now.path }
     {
         self.path.as_str()
     }
 
     /// The file's length in bytes.
     pub fn length(&self) -> u64
-        ensures { result ≡ self.now.length }
+        ensures value { result ≡ self.now.length }
     {
         self.length.get()
     }
 
     /// The file's digests.
     pub fn hashes(&self) -> Hashes
-        ensures { result ≡ self.now.hashes }
+        ensures value { result ≡ self.now.hashes }
     {
         self.hashes
     }
 
     /// An equal target.
     pub fn copy(&self, alloc: Global) -> Result<Target, NoMemory>
-        ensures { IfOk result (λ t. t ≡ self.now) }
+        ensures equal { IfOk result (λ t. t ≡ self.now) }
     {
         let path = Text::new(String::from_str(alloc, self.path())?);
         Ok(Target {
@@ -81,7 +81,7 @@ impl Target {
         limit: Option<u64>,
         judge: &mut J,
     ) -> Result<(), Stop>
-        ensures { Answers (content limit (Some self.now.length) (Some self.now.hashes) bytes.now) result (λ x. x) }
+        ensures answer { Answers (content limit (Some self.now.length) (Some self.now.hashes) bytes.now) result (λ x. x) }
     {
         let listed = Content {
             limit,
@@ -126,21 +126,21 @@ impl Model for Targets {
 impl Targets {
     /// The version, and when the file expires.
     pub fn header(&self) -> &Header
-        ensures { result.now ≡ self.now.header }
+        ensures value { result.now ≡ self.now.header }
     {
         &self.header
     }
 
     /// The listed targets, in byte order of their paths.
     pub fn targets(&self) -> &[Target]
-        ensures { result.now ≡ self.now.targets }
+        ensures value { result.now ≡ self.now.targets }
     {
         self.targets.as_slice()
     }
 
     /// The delegations, where the file has any.
     pub fn delegations(&self) -> Option<&Delegations>
-        ensures { option_map (λ d. d.now) result ≡ self.now.delegations }
+        ensures value { option_map (λ d. d.now) result ≡ self.now.delegations }
     {
         self.delegations.as_ref()
     }
@@ -148,7 +148,7 @@ impl Targets {
 
 /// Reads a document as a targets file (TUF 1.0 section 4.5); succinct roles are asked first.
 pub fn read_targets(alloc: Global, doc: &Doc) -> Result<Targets, ReadFault>
-    ensures { ReadsFile (targets_of (doc_of doc.now)) result }
+    ensures read { ReadsFile (targets_of (doc_of doc.now)) result }
 {
     let signed = doc.tree();
     if has_succinct_roles(signed) {

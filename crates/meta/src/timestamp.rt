@@ -32,14 +32,14 @@ impl Model for Timestamp {
 impl Timestamp {
     /// The version, and when the file expires.
     pub fn header(&self) -> &Header
-        ensures { result.now ≡ self.now.header }
+        ensures value { result.now ≡ self.now.header }
     {
         &self.header
     }
 
     /// How the snapshot file is listed.
     pub fn snapshot(&self) -> &Listing
-        ensures { result.now ≡ self.now.snapshot }
+        ensures value { result.now ≡ self.now.snapshot }
     {
         &self.snapshot
     }
@@ -47,7 +47,7 @@ impl Timestamp {
 
 /// Reads a document as a timestamp file (TUF 1.0 section 4.6).
 pub fn read_timestamp(alloc: Global, doc: &Doc) -> Result<Timestamp, ReadFault>
-    ensures { ReadsFile (timestamp_of (doc_of doc.now)) result }
+    ensures read { ReadsFile (timestamp_of (doc_of doc.now)) result }
 {
     Ok(parse(alloc, doc.tree())?)
 }

@@ -93,21 +93,21 @@ impl Moment {
 
     /// The days since 1970-01-01, negative before it.
     pub fn day(&self) -> i32
-        ensures { result ≡ self.now.day }
+        ensures value { result ≡ self.now.day }
     {
         self.day
     }
 
     /// The seconds since midnight.
     pub fn second(&self) -> u32
-        ensures { result ≡ self.now.second }
+        ensures value { result ≡ self.now.second }
     {
         self.second
     }
 
     /// Whether this moment comes before the other; no moment comes before itself.
     pub fn is_before(self, other: Moment) -> bool
-        ensures { result ≡ spec.is_before self other }
+        ensures order { result ≡ spec.is_before self other }
     {
         self < other
     }

@@ -70,35 +70,35 @@ impl Trusted {
 
     /// The root file.
     pub fn root(&self) -> &Part<Root>
-        ensures { result.now ≡ self.now.root }
+        ensures value { result.now ≡ self.now.root }
     {
         &self.root
     }
 
     /// The timestamp file, where one is trusted.
     pub fn timestamp(&self) -> Option<&Part<Timestamp>>
-        ensures { option_map (λ p. p.now) result ≡ self.now.timestamp }
+        ensures value { option_map (λ p. p.now) result ≡ self.now.timestamp }
     {
         self.timestamp.as_ref()
     }
 
     /// The snapshot file, where one is trusted.
     pub fn snapshot(&self) -> Option<&Part<Snapshot>>
-        ensures { option_map (λ p. p.now) result ≡ self.now.snapshot }
+        ensures value { option_map (λ p. p.now) result ≡ self.now.snapshot }
     {
         self.snapshot.as_ref()
     }
 
     /// The top-level targets file, where one is trusted.
     pub fn targets(&self) -> Option<&Part<Targets>>
-        ensures { option_map (λ p. p.now) result ≡ self.now.targets }
+        ensures value { option_map (λ p. p.now) result ≡ self.now.targets }
     {
         self.targets.as_ref()
     }
 
     /// Whether all four files are there.
     pub fn is_ready(&self) -> bool
-        ensures { result ≡ spec.is_ready self.now }
+        ensures test { result ≡ spec.is_ready self.now }
     {
         self.timestamp.is_some() && self.snapshot.is_some() && self.targets.is_some()
     }
@@ -112,7 +112,7 @@ impl Trusted {
 
     /// An equal state.
     pub fn copy(&self, alloc: Global) -> Result<Trusted, NoMemory>
-        ensures { IfOk result (λ t. t ≡ self.now) }
+        ensures equal { IfOk result (λ t. t ≡ self.now) }
     {
         Ok(Trusted {
             root: self.root.copy(alloc)?,
@@ -124,7 +124,7 @@ impl Trusted {
 
     /// The version of the root.
     pub fn root_version(&self) -> u64
-        ensures { result ≡ self.now.root.reading.header.version }
+        ensures value { result ≡ self.now.root.reading.header.version }
     {
         self.root.reading().header().version()
     }

@@ -84,7 +84,7 @@ impl Trusted {
     /// A root file alone, trusted because it was handed in: no signature is asked. `TooLong` over
     /// 512,000 bytes, else `Malformed` where it isn't a root file.
     pub fn from_root(alloc: Global, bytes: &[u8]) -> Result<Trusted, StateFault>
-        ensures { ReadsState (root_state bytes.now) result }
+        ensures state { ReadsState (root_state bytes.now) result }
     {
         let root = read_part(alloc, Vec::from_slice(alloc, bytes)?)?;
         Ok(Trusted::of(root, None, None, None))

@@ -4,6 +4,7 @@ mod cycles;
 mod delegations;
 mod examples;
 mod failing;
+mod limits;
 mod outputs;
 mod place;
 mod repository;

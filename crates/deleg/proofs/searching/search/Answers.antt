@@ -10,4 +10,4 @@ returns-clause-preorder g c = λ snap. preorder (file_in c.args.repo.now.metadat
 pub returns-clause-searched : goal.returns-clause-searched
 returns-clause-searched g c =
     starts_in (file_in c.args.repo.now.metadata) c.args.now c.args.trusted.now c.args.path.now c.args.limit c.reading.result.now c.in-Some.snapshot.now c.in-Some-targets.targets.now c.reading-2.result.now c.reading-3.result.now c.search_from.result
-    (c.reading.ensures.value ∙ ap (λ p. p.reading) c.root.ensures) c.in-Some.ensures c.in-Some-targets.ensures c.reading-2.ensures.value c.reading-3.ensures.value c.search_from.ensures
+    (c.reading.ensures.value ∙ ap (λ p. p.reading) c.root.ensures.value) c.in-Some.ensures.value c.in-Some-targets.ensures.value c.reading-2.ensures.value c.reading-3.ensures.value c.search_from.ensures

@@ -11,11 +11,11 @@ pub returns-then-is_visited-clause-none : goal.returns-then-is_visited-clause-no
 returns-then-is_visited-clause-none c =
     c.loop-frame.invariant
     ∙ taken_over (quest_of c.args.quest.now) c.args.seen.now c.loop-frame.stack.items c.pop.new.self.items c.in-Some.frame c.pass.new.self (edge_of c.in-Some-next.edge) c.name.result.now c.in-Some.ensures.items c.pass.ensures c.in-Some-next.ensures
-    c.name.ensures c.if-is_visited.ensures
+    c.name.ensures.value c.if-is_visited.ensures
 
 pub returns-in-Some-clause-next : goal.returns-in-Some-clause-next
 returns-in-Some-clause-next c =
-    taken_next (quest_of c.args.quest.now) c.args.seen.now c.in-Some.frame c.pass.new.self (edge_of c.in-Some-next.edge) c.name.result.now c.pass.ensures c.in-Some-next.ensures c.name.ensures c.if-is_visited.ensures
+    taken_next (quest_of c.args.quest.now) c.args.seen.now c.in-Some.frame c.pass.new.self (edge_of c.in-Some-next.edge) c.name.result.now c.pass.ensures c.in-Some-next.ensures c.name.ensures.value c.if-is_visited.ensures
 
 pub returns-in-Some-clause-same : goal.returns-in-Some-clause-same
 returns-in-Some-clause-same c =

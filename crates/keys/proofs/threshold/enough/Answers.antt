@@ -7,13 +7,13 @@ use Rattle.keys.proofs.threshold.enough.Goals.{then-branch+in_ok-add, else-branc
 pub returns-then-len-threshold : goal.returns-then-len-threshold
 returns-then-len-threshold g c =
     let d = doc_of c.args.doc.now in
-    met_early (has_signed d.text d.entries c.args.role.now) c.keys-key-items.result.now c.args.ring.now c.loop-key.key-index _ _ _ _ c.keys-key-items.ensures c.loop-key.invariant c.len.ensures c.threshold.ensures c.if-len-threshold.true
+    record { met = met_early (has_signed d.text d.entries c.args.role.now) c.keys-key-items.result.now c.args.ring.now c.loop-key.key-index _ _ _ _ c.keys-key-items.ensures.value c.loop-key.invariant c.len.ensures.value c.threshold.ensures.value c.if-len-threshold.true }
 
 pub loop-key-preserved : goal.loop-key-preserved
 loop-key-preserved g c =
     let d = doc_of c.args.doc.now in
     signed_more (has_signed d.text d.entries c.args.role.now) c.keys-key-items.result.now c.loop-key.key-index c.key-item.result c.in_ok-has_signed.field-0 _ _ c.loop-key-test.true c.key-item.is c.in_ok-has_signed.ensures c.loop-key.invariant
     (elim c.if-branch.branch [
-      | then-branch+in_ok-add w ↦ rw w.if-branch.true (added_to c.loop-key.signers _ _ _ _ w.signers-is w.in_ok-add.ensures.ok w.public.ensures)
+      | then-branch+in_ok-add w ↦ rw w.if-branch.true (added_to c.loop-key.signers _ _ _ _ w.signers-is w.in_ok-add.ensures.ok w.public.ensures.value)
       | else-branch w ↦ rw w.if-branch.false w.signers-is
     ])

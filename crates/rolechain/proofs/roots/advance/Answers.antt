@@ -6,4 +6,4 @@ pub returns-clause-ready : goal.returns-clause-ready
 returns-clause-ready g c = IfOk-ready _ _ 256 _ c.follow-answer.result c.follow-answer.ensures
 
 pub returns-clause-roots : goal.returns-clause-roots
-returns-clause-roots g c = IfOk-longest _ _ 256 _ _ c.follow-answer.result c.in_ok-copy.ensures c.follow-answer.ensures
+returns-clause-roots g c = IfOk-longest _ _ 256 _ _ c.follow-answer.result c.in_ok-copy.ensures.equal c.follow-answer.ensures

@@ -7,7 +7,7 @@ use Rattle.rolechain.proofs.steps.top_targets.Goals as goal
 
 pub returns : goal.returns
 returns g c =
-    let root : c.reading-root.result.now ≡ c.args.state.now.root.reading = c.reading-root.ensures.value ∙ ap (λ p. p.reading) c.root.ensures in
+    let root : c.reading-root.result.now ≡ c.args.state.now.root.reading = c.reading-root.ensures.value ∙ ap (λ p. p.reading) c.root.ensures.value in
     let listed = listing_of (codes "targets") c.args.snapshot.now in
     let same : expectation c.due_targets-expect.result ≡ top_targets c.args.state.now.root.reading c.args.snapshot.now =
     c.due_targets-expect.ensures
