@@ -1,5 +1,5 @@
 ghost use Rattle.std.specs.Prelude.{◌≡◌, IfOk, map, string_bytes, true};
-ghost use Rattle.meta.specs.Expecting.{file_in};
+ghost use Rattle.examine.specs.Expecting.{file_in};
 ghost use Rattle.rolechain.specs.State.{is_ready};
 ghost use Rattle.cycle.specs.Workflow as spec;
 

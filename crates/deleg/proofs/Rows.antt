@@ -4,8 +4,8 @@ use Rattle.std.specs.Str.{chars}
 use Rattle.keys.specs.Keys.{RoleKeys}
 use Rattle.moment.specs.Moment.{Moment}
 use Rattle.meta.specs.Metadata.{Hashes, Target, Delegation, Delegations, Header, Root, Snapshot, Targets, patterns}
-use Rattle.meta.specs.Checks.{Files}
 use Rattle.meta.specs.declared.fault.Fault.TheVariants.{NotListed}
+use Rattle.examine.specs.Checks.{Files}
 use Rattle.deleg.specs.Pattern.{is_match}
 use Rattle.deleg.specs.Search.{search_from}
 use Rattle.deleg.specs.declared.found.Found.TheVariants.{Listed, NotFound, LimitReached, RoleRefused}

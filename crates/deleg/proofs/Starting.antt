@@ -3,8 +3,8 @@ use Rattle.std.proofs.Common.{◌≡◌, ℕ, ◌+◌, List, [], ◌∷◌, ◌+
 use Rattle.std.specs.Option.{option_map_or}
 use Rattle.moment.specs.Moment.{Moment}
 use Rattle.meta.specs.Metadata.{Root, Snapshot, Target, Targets}
-use Rattle.meta.specs.Checks.{Files}
 use Rattle.meta.specs.Part.{Part}
+use Rattle.examine.specs.Checks.{Files}
 use Rattle.rolechain.specs.State.{State}
 use Rattle.deleg.specs.Accepted.{Accepted, Searched}
 use Rattle.deleg.specs.Edge.{Edge, edges, followed}

@@ -2,7 +2,7 @@
 use Rattle.std.specs.Prelude.{◌≡◌, ℕ, ◌+◌, ◌<◌, ◌&&◌, ◌||◌, not, if◌then◌else◌, List, [], ◌∷◌, ◌++◌, length, filter, Bool, true, false}
 use Rattle.moment.specs.Moment.{Moment}
 use Rattle.meta.specs.Metadata.{Root, Snapshot}
-use Rattle.meta.specs.Checks.{Files}
+use Rattle.examine.specs.Checks.{Files}
 use Rattle.deleg.specs.Accepted.{Accepted, Searched}
 use Rattle.deleg.specs.Edge.{Edge, is_for}
 use Rattle.deleg.specs.Search.{walk, settled, is_visited}

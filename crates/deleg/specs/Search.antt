@@ -4,9 +4,9 @@ use Rattle.std.specs.Option.{option_map_or}
 use Rattle.std.specs.List.{list_any}
 use Rattle.moment.specs.Moment.{Moment}
 use Rattle.meta.specs.Metadata.{Root, Snapshot, Target, Targets}
-use Rattle.meta.specs.Checks.{Files, Expectation, targets_part}
 use Rattle.meta.specs.Part.{Part}
 use Rattle.meta.specs.declared.fault.Fault.{Fault}
+use Rattle.examine.specs.Checks.{Files, Expectation, targets_part}
 use Rattle.rolechain.specs.Expected.{next_targets}
 use Rattle.rolechain.specs.State.{State}
 use Rattle.deleg.specs.Accepted.{Accepted, Searched}

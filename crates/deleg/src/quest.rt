@@ -1,14 +1,15 @@
 ghost use Rattle.std.specs.Prelude.{◌≡◌, bytes_eq, option_map};
 ghost use Rattle.std.specs.List.{list_any};
 ghost use Rattle.meta.specs.Answers.{Answers};
-ghost use Rattle.meta.specs.Expecting.{file_in};
+ghost use Rattle.examine.specs.Expecting.{file_in};
 ghost use Rattle.deleg.specs.Search as spec;
 ghost use Rattle.deleg.specs.Values.{edge_of};
 
 use crate::accepted::Accepted;
 use crate::edge::Edge;
+use examine::{Expect, examine_targets};
 use keys::Judge;
-use meta::{Expect, Moment, Part, Root, Snapshot, Stop, Target, Targets, examine_targets};
+use meta::{Moment, Part, Root, Snapshot, Stop, Target, Targets};
 use rolechain::place_of;
 use std::alloc::Global;
 use std::collections::BTreeMap;

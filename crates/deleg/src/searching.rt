@@ -1,6 +1,6 @@
 ghost use Rattle.std.specs.Prelude.{◌≡◌, IfOk, IsTrue, Some};
-ghost use Rattle.meta.specs.Expecting.{file_in};
 ghost use Rattle.meta.specs.Metadata.{Snapshot};
+ghost use Rattle.examine.specs.Expecting.{file_in};
 ghost use Rattle.rolechain.specs.State.{is_ready};
 ghost use Rattle.deleg.specs.Search as spec;
 ghost use Rattle.deleg.specs.Values.{quest_of};

@@ -1,5 +1,4 @@
 pub use Rattle.keys.specs.Keys
-pub use Rattle.keys.specs.Signers
 pub use Rattle.keys.specs.Truth
 pub use Rattle.moment.specs.Moment
 pub mod Names
@@ -7,7 +6,5 @@ pub mod Metadata
 pub mod Matcher
 pub mod Reads
 pub mod Part
-pub mod Checks
+pub mod Content
 pub mod Answers
-pub mod Expecting
-pub mod Fetching

@@ -1,7 +1,7 @@
 ghost use Rattle.std.specs.Prelude.{◌≡◌, IfOk, not, bytes_eq};
 ghost use Rattle.cjson.specs.Checks.{refuse_if};
 ghost use Rattle.keys.specs.Truth.{digest_by};
-ghost use Rattle.meta.specs.Checks as spec;
+ghost use Rattle.meta.specs.Content as spec;
 ghost use Rattle.meta.specs.Answers.{Answers};
 ghost use Rattle.keys.specs.declared.judge.Algorithm.TheVariants.{Sha256, Sha512};
 
@@ -12,21 +12,25 @@ use keys::{Algorithm, Ask, Judge};
 
 /// What may be listed of a file's content, beside the limit of its kind.
 #[derive(Clone, Copy)]
-pub(crate) struct Content {
+pub struct Content {
+    /// The most bytes.
     pub limit: Option<u64>,
+    /// The length in bytes.
     pub length: Option<u64>,
+    /// The digests.
     pub hashes: Option<Hashes>,
 }
 
 impl Content {
-    /// Whether the bytes are within the limit, and have the length and the digests that are listed.
-    pub(crate) fn check<J: Judge>(
+    /// Whether the bytes of a file of that name are within the limit, and have the length and the
+    /// digests that are listed: the first of these checks that fails (TUF 1.0 sections 5.3 to 5.7).
+    pub fn check<J: Judge>(
         &self,
         file: &str,
         bytes: &[u8],
         judge: &mut J,
     ) -> Result<(), Stop>
-        ensures { Answers (spec.content self.now.limit self.now.length self.now.hashes bytes.now) result (λ x. x) }
+        ensures answer { Answers (spec.content self.now.limit self.now.length self.now.hashes bytes.now) result (λ x. x) }
     {
         refuse_if(is_too_long(self.limit, bytes), Fault::TooLong)?;
         refuse_if(is_length_wrong(self.length, bytes), Fault::LengthWrong)?;
@@ -43,8 +47,8 @@ impl Content {
 }
 
 /// The fault, where the check fails.
-pub(crate) fn refuse_if(fails: bool, fault: Fault) -> Result<(), Fault>
-    ensures { result ≡ refuse_if fails fault }
+pub fn refuse_if(fails: bool, fault: Fault) -> Result<(), Fault>
+    ensures refused { result ≡ refuse_if fails fault }
 {
     if fails { Err(fault) } else { Ok(()) }
 }

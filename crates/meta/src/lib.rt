@@ -1,10 +1,9 @@
-//! The four kinds of metadata file, and the checks of one file (TUF 1.0 sections 4 and 5).
+//! The four kinds of metadata file (TUF 1.0 section 4), names of files, and a file with what is read
+//! from it.
 #![tactic(auto)]
 
 mod content;
 mod delegation;
-mod examine;
-mod expect;
 mod fault;
 mod hashes;
 mod header;
@@ -18,23 +17,17 @@ mod targets;
 #[cfg(test)]
 mod tests;
 mod timestamp;
-mod timing;
 
+pub use content::{Content, refuse_if};
 pub use delegation::{Delegation, Delegations, HashPrefix, PathPattern, Paths};
-pub use examine::{
-    examine_first_timestamp, examine_next_timestamp, examine_root, examine_snapshot,
-    examine_targets,
-};
-pub use expect::{Expect, Listed};
 pub use fault::{Fault, ReadFault, Stop};
 pub use hashes::Hashes;
 pub use header::Header;
 pub use listing::Listing;
 pub use moment::Moment;
-pub use part::{Part, Reading};
+pub use part::{Part, Reading, read_document};
 pub use repo::Repo;
 pub use root::{Root, read_root};
 pub use snapshot::{Named, Snapshot, read_snapshot};
 pub use targets::{Target, Targets, read_targets};
 pub use timestamp::{Timestamp, read_timestamp};
-pub use timing::is_expired;

@@ -1,6 +1,6 @@
 ghost use Rattle.std.specs.Prelude.{◌≡◌};
 ghost use Rattle.meta.specs.Answers.{Answers};
-ghost use Rattle.meta.specs.Checks.{content};
+ghost use Rattle.meta.specs.Content.{content};
 ghost use Rattle.meta.specs.Metadata as spec;
 
 use crate::content::Content;

@@ -109,11 +109,11 @@ impl<A: Reading> Model for Part<A> {
 }
 
 impl<A: Reading + Drop> Part<A> {
-    /// A file of bytes that were read.
-    pub(crate) fn new(bytes: Vec<u8>, reading: A) -> Part<A>
+    /// A file of bytes that were read, within the limit of its kind.
+    pub fn new(bytes: Vec<u8>, reading: A) -> Part<A>
         requires read { spec.reading_of A.of_document bytes.items ≡ Ok reading }
         requires limit { length bytes.items ≤ A.limit }
-        ensures { result ≡ record { bytes = bytes.items; reading = reading } }
+        ensures value { result ≡ record { bytes = bytes.items; reading = reading } }
     {
         Part { bytes, reading }
     }
@@ -156,9 +156,9 @@ impl<A: Reading + Drop> Part<A> {
     }
 }
 
-/// The document of a file.
-pub(crate) fn read_document(alloc: Global, bytes: &[u8]) -> Result<Doc, Stop>
-    ensures { Answers (document_of bytes.now) result doc_of }
+/// The document of a file's bytes, or `Malformed` where they are none.
+pub fn read_document(alloc: Global, bytes: &[u8]) -> Result<Doc, Stop>
+    ensures document { Answers (document_of bytes.now) result doc_of }
 {
     match signed_bytes(alloc, bytes) {
         Ok(doc) => Ok(doc),

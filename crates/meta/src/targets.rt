@@ -1,7 +1,7 @@
 ghost use Rattle.std.specs.Prelude.{◌≡◌, IfOk, Some, option_map};
 ghost use Rattle.serde_json.specs.View.{view};
 ghost use Rattle.meta.specs.Answers.{Answers};
-ghost use Rattle.meta.specs.Checks.{content};
+ghost use Rattle.meta.specs.Content.{content};
 ghost use Rattle.meta.specs.Metadata as spec;
 ghost use Rattle.meta.specs.Reads.{ReadsFile, targets_of};
 ghost use Rattle.cjson.specs.Reads.{Reads};

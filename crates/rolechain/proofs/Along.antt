@@ -1,10 +1,10 @@
 -- An examination's answer, along an equation between expectations.
 use Rattle.std.proofs.Common.{◌≡◌, ℕ, List, Result, subst}
 use Rattle.keys.specs.Keys.{Key, RoleKeys}
-use Rattle.meta.specs.Checks.{Listed, Expectation}
 use Rattle.meta.specs.Answers.{Answers}
 use Rattle.meta.specs.declared.fault.Fault.{Fault}
 use Rattle.meta.specs.declared.fault.Stop.{Stop}
+use Rattle.examine.specs.Checks.{Listed, Expectation}
 
 pub along : {A : Type 0} (F : Expectation → Result A Fault) (d e : Expectation) (r : Result A Stop) → d ≡ e → Answers (F d) r (λ p. p) → Answers (F e) r (λ p. p)
 along F d e r same h = subst (λ x. Answers (F x) r (λ p. p)) same h

@@ -3,11 +3,11 @@ use Rattle.std.proofs.Common.{◌≡◌, ℕ, zero, suc, Option, Some, None, Res
 use Rattle.moment.specs.Moment.{Moment}
 use Rattle.meta.specs.Metadata.{Root}
 use Rattle.meta.specs.Part.{Part}
-use Rattle.meta.specs.Checks.{Files}
 use Rattle.meta.specs.declared.fault.Fault.{Fault}
 use Rattle.cjson.specs.declared.fault.NoMemory.{NoMemory}
 use Rattle.meta.specs.declared.fault.Stop.{Stop}
 use Rattle.meta.specs.declared.fault.Stop.TheVariants as stop
+use Rattle.examine.specs.Checks.{Files}
 use Rattle.rolechain.specs.State.{State}
 use Rattle.rolechain.specs.Answers.{advanced_of, StopsBy, Follows}
 use Rattle.rolechain.specs.declared.end.Step.{Step}

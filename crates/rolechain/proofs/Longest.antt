@@ -4,9 +4,9 @@ use Rattle.std.specs.Prelude.{if◌then◌else◌}
 use Rattle.moment.specs.Moment.{Moment}
 use Rattle.meta.specs.Metadata.{Root, Timestamp, Snapshot, Targets}
 use Rattle.meta.specs.Part.{Part}
-use Rattle.meta.specs.Checks.{Files, is_expired, first_timestamp, next_timestamp, snapshot_part}
 use Rattle.meta.specs.declared.fault.Fault.{Fault}
 use Rattle.meta.specs.declared.fault.Fault.TheVariants.{Expired}
+use Rattle.examine.specs.Checks.{Files, is_expired, first_timestamp, next_timestamp, snapshot_part}
 use Rattle.cjson.specs.declared.fault.NoMemory.{NoMemory}
 use Rattle.rolechain.specs.State.{State}
 use Rattle.rolechain.specs.Expected.{due_timestamp, next_snapshot}

@@ -5,10 +5,10 @@ use Rattle.keys.specs.Keys.{RoleKeys}
 use Rattle.moment.specs.Moment.{Moment}
 use Rattle.meta.specs.Metadata.{Listing, Root, Timestamp, Snapshot, Targets}
 use Rattle.meta.specs.Part.{Part}
-use Rattle.meta.specs.Checks.{Files, is_expired, root_part, first_timestamp, next_timestamp, snapshot_part, targets_part}
 use Rattle.meta.specs.Names.{root_name}
 use Rattle.meta.specs.declared.fault.Fault.{Fault}
 use Rattle.meta.specs.declared.fault.Fault.TheVariants.{Expired}
+use Rattle.examine.specs.Checks.{Files, is_expired, root_part, first_timestamp, next_timestamp, snapshot_part, targets_part}
 use Rattle.rolechain.specs.State.{State}
 use Rattle.rolechain.specs.Expected.{next_root, due_timestamp, next_snapshot, top_targets}
 use Rattle.rolechain.specs.declared.end.Step.{Step}

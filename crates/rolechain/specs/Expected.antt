@@ -3,8 +3,8 @@ use Rattle.std.specs.Prelude.{ℕ, ◌+◌, List, find, bytes_eq, codes}
 use Rattle.std.specs.Option.{option_map_or}
 use Rattle.keys.specs.Keys.{Key, RoleKeys}
 use Rattle.meta.specs.Metadata.{Listing, Root, Snapshot}
-use Rattle.meta.specs.Checks.{Listed, not_due, absent, listed_as, listed_version, Expectation}
 use Rattle.meta.specs.Names.{versioned, root_name, role_name}
+use Rattle.examine.specs.Checks.{Listed, not_due, absent, listed_as, listed_version, Expectation}
 
 -- the root that follows
 abbrev pub next_root : Root → Expectation

@@ -1,8 +1,8 @@
-pub use Rattle.meta.specs.Checks
 pub use Rattle.meta.specs.Metadata
 pub use Rattle.moment.specs.Moment
 pub use Rattle.meta.specs.Names
 pub use Rattle.meta.specs.Part
+pub use Rattle.examine.specs.Checks
 pub mod State
 pub mod Parts
 pub mod Expected

@@ -3,7 +3,7 @@ use Rattle.std.specs.Prelude.{◌≡◌, ℕ, zero, suc, ◌≤◌, ◌⊎◌, S
 use Rattle.moment.specs.Moment.{Moment}
 use Rattle.meta.specs.Metadata.{Root}
 use Rattle.meta.specs.Part.{Part}
-use Rattle.meta.specs.Checks.{Files}
+use Rattle.examine.specs.Checks.{Files}
 use Rattle.rolechain.specs.Advance.{successor}
 
 module _ (files : Files) (now : Moment) where

@@ -1,10 +1,11 @@
 ghost use Rattle.std.specs.Prelude.{◌≡◌, ◌+◌, IfOk, bytes_eq, codes, find, option_map, string_bytes};
-ghost use Rattle.meta.specs.Expecting.{expectation, listed_of};
 ghost use Rattle.meta.specs.Names.{root_name, versioned as due_name};
+ghost use Rattle.examine.specs.Expecting.{expectation, listed_of};
 ghost use Rattle.rolechain.specs.Expected as spec;
 
+use examine::{Expect, Listed};
 use meta::names::{role_name, versioned};
-use meta::{Expect, Listed, Listing, Named, Root, Snapshot};
+use meta::{Listing, Named, Root, Snapshot};
 use std::alloc::{AllocError, Global};
 
 /// What the root that follows is expected to be (TUF 1.0 section 5.3).

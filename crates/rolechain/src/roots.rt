@@ -1,7 +1,7 @@
 ghost use Rattle.std.specs.Prelude.{◌≡◌, ◌+◌, ◌-◌, ◌^◌, ◌<◌, IfOk, true};
 ghost use Rattle.meta.specs.Answers.{Answers};
-ghost use Rattle.meta.specs.Checks.{root_part};
-ghost use Rattle.meta.specs.Expecting.{file_in};
+ghost use Rattle.examine.specs.Checks.{root_part};
+ghost use Rattle.examine.specs.Expecting.{file_in};
 ghost use Rattle.meta.specs.Names.{root_name as file_name};
 ghost use Rattle.rolechain.specs.Advance as spec;
 ghost use Rattle.rolechain.specs.Advance.{most_roots};
@@ -16,9 +16,10 @@ use crate::expected::due_root;
 use crate::state::Trusted;
 use crate::steps::{Round, rooted, stopped};
 use cjson::NoMemory;
+use examine::examine_root;
 use keys::Judge;
 use meta::names::root_name;
-use meta::{Moment, Part, Repo, Root, Stop, examine_root};
+use meta::{Moment, Part, Repo, Root, Stop};
 use std::alloc::Global;
 
 /// The most roots that a cycle accepts.

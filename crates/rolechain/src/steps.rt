@@ -1,7 +1,7 @@
 ghost use Rattle.std.specs.Prelude.{◌≡◌, IfOk, Ok, None};
 ghost use Rattle.meta.specs.Answers.{Answers};
-ghost use Rattle.meta.specs.Checks as checks;
-ghost use Rattle.meta.specs.Expecting.{file_in};
+ghost use Rattle.examine.specs.Checks as checks;
+ghost use Rattle.examine.specs.Expecting.{file_in};
 ghost use Rattle.rolechain.specs.Advance as spec;
 ghost use Rattle.rolechain.specs.Expected as due;
 ghost use Rattle.rolechain.specs.Answers.{advanced_of, StopsBy};
@@ -10,11 +10,11 @@ use crate::end::{End, Step};
 use crate::expected::{due_snapshot, due_targets, due_timestamp, place_of, snapshot_name};
 use crate::state::Trusted;
 use cjson::NoMemory;
-use keys::Judge;
-use meta::{
-    Fault, Header, Listing, Moment, Part, Snapshot, Stop, Targets, Timestamp,
+use examine::{
     examine_first_timestamp, examine_next_timestamp, examine_snapshot, examine_targets, is_expired,
 };
+use keys::Judge;
+use meta::{Fault, Header, Listing, Moment, Part, Snapshot, Stop, Targets, Timestamp};
 use std::alloc::Global;
 use std::collections::BTreeMap;
 

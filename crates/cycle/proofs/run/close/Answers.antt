@@ -1,5 +1,5 @@
 use Rattle.std.proofs.Common.{◌≡◌, ◌∙◌, ap, map}
-use Rattle.meta.specs.Expecting.{file_in}
+use Rattle.examine.specs.Expecting.{file_in}
 use Rattle.cycle.proofs.Gathering.{closed_of}
 use Rattle.cycle.specs.Workflow.{verdict_of}
 use Rattle.cycle.proofs.run.close.Goals as goal

@@ -1,5 +1,5 @@
 use Rattle.std.proofs.Common.{◌≡◌, Ok, ap, sym, ◌∙◌, arith}
-use Rattle.meta.specs.Expecting.{file_in}
+use Rattle.examine.specs.Expecting.{file_in}
 use Rattle.rolechain.specs.Advance.{successor}
 use Rattle.rolechain.specs.declared.end.Step.TheVariants as step
 use Rattle.rolechain.proofs.Chain.{begins, more, refused, ends, full, follows-along, IfOk-along, IfOk-stopped}

@@ -1,6 +1,6 @@
 use Rattle.std.proofs.Common.{◌≡◌, ap, ◌∙◌, option_map}
-use Rattle.meta.specs.Checks.{snapshot_part}
-use Rattle.meta.specs.Expecting.{expectation, file_in}
+use Rattle.examine.specs.Checks.{snapshot_part}
+use Rattle.examine.specs.Expecting.{expectation, file_in}
 use Rattle.rolechain.specs.Advance.{reading_in}
 use Rattle.rolechain.specs.Expected.{next_snapshot}
 use Rattle.rolechain.proofs.Along.{gives}
@@ -14,4 +14,4 @@ returns g c =
     let same : expectation c.due_snapshot-expect.result ≡ due = cc in
     gives _ (snapshot_part due (reading_in c.args.state.now.snapshot) files now) _
     (ap (λ e. snapshot_part e (option_map (λ s. s.now) c.old_snapshot-old.result) files now) same ∙ ap (λ o. snapshot_part due o files now) c.old_snapshot-old.ensures)
-    c.examine_snapshot.ensures
+    c.examine_snapshot.ensures.answer

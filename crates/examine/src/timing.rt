@@ -1,10 +1,8 @@
 ghost use Rattle.std.specs.Prelude.{◌≡◌, false, option_map};
 ghost use Rattle.std.specs.Option.{option_map_or};
-ghost use Rattle.meta.specs.Checks as spec;
+ghost use Rattle.examine.specs.Checks as spec;
 
-use crate::header::Header;
-use crate::snapshot::{Named, Snapshot};
-use crate::timestamp::Timestamp;
+use meta::{Header, Named, Snapshot, Timestamp};
 use moment::Moment;
 
 /// Whether the file has another version than the one that is due.
@@ -19,7 +17,7 @@ pub(crate) fn is_version_wrong(due: Option<u64>, header: &Header) -> bool
 
 /// Whether the file expires no later than the moment (TUF 1.0 section 5).
 pub fn is_expired(header: &Header, now: Moment) -> bool
-    ensures { result ≡ spec.is_expired header.now now }
+    ensures test { result ≡ spec.is_expired header.now now }
 {
     !now.is_before(header.expires())
 }

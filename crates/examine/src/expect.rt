@@ -1,5 +1,5 @@
-use crate::listing::Listing;
 use keys::{KeyRing, RoleKeys};
+use meta::Listing;
 
 /// Whether a file has to be listed by another, and how it is.
 #[derive(Clone, Copy)]

@@ -1,21 +1,18 @@
 ghost use Rattle.std.specs.Prelude.{◌≡◌, ◌&&◌, IfOk, Some, option_map};
 ghost use Rattle.cjson.specs.DocOf.{doc_of};
 ghost use Rattle.meta.specs.Answers.{Answers};
-ghost use Rattle.meta.specs.Checks as spec;
-ghost use Rattle.meta.specs.Expecting.{expectation, file_in, listed_of};
-ghost use Rattle.meta.specs.Fetching.{fetched_of};
+ghost use Rattle.examine.specs.Checks as spec;
+ghost use Rattle.examine.specs.Expecting.{expectation, file_in, listed_of};
+ghost use Rattle.examine.specs.Fetching.{fetched_of};
 
-use crate::content::{Content, refuse_if};
 use crate::expect::{Expect, Listed};
-use crate::fault::{Fault, Stop};
-use crate::part::{Part, Reading, read_document};
-use crate::root::Root;
-use crate::snapshot::Snapshot;
-use crate::targets::Targets;
-use crate::timestamp::Timestamp;
 use crate::timing::{falls_short, is_again, is_earlier, is_expired, is_version_wrong};
 use cjson::{Doc, NoMemory};
 use keys::{Judge, KeyRing, RoleKeys, enough};
+use meta::{
+    Content, Fault, Part, Reading, Root, Snapshot, Stop, Targets, Timestamp, read_document,
+    refuse_if,
+};
 use moment::Moment;
 use std::alloc::Global;
 use std::collections::BTreeMap;
@@ -36,7 +33,7 @@ pub fn examine_root<J: Judge>(
     files: &BTreeMap<String, Vec<u8>>,
     judge: &mut J,
 ) -> Result<Part<Root>, Stop>
-    ensures { Answers (spec.root_part (expectation expect.now) due (file_in files.now)) result (λ p. p) }
+    ensures answer { Answers (spec.root_part (expectation expect.now) due (file_in files.now)) result (λ p. p) }
 {
     let fetched: Fetched<Root> = fetch(alloc, expect, files, judge)?;
     let root = fetched.part.reading();
@@ -57,7 +54,7 @@ pub fn examine_first_timestamp<J: Judge>(
     now: Moment,
     judge: &mut J,
 ) -> Result<Part<Timestamp>, Stop>
-    ensures { Answers (spec.first_timestamp (expectation expect.now) (file_in files.now) now) result (λ p. p) }
+    ensures answer { Answers (spec.first_timestamp (expectation expect.now) (file_in files.now) now) result (λ p. p) }
 {
     let fetched: Fetched<Timestamp> = fetch(alloc, expect, files, judge)?;
     let signed = is_signed(
@@ -86,7 +83,7 @@ pub fn examine_next_timestamp<J: Judge>(
     now: Moment,
     judge: &mut J,
 ) -> Result<Option<Part<Timestamp>>, Stop>
-    ensures { Answers (spec.next_timestamp (expectation expect.now) old.now (file_in files.now) now) result (λ p. p) }
+    ensures answer { Answers (spec.next_timestamp (expectation expect.now) old.now (file_in files.now) now) result (λ p. p) }
 {
     let fetched: Fetched<Timestamp> = fetch(alloc, expect, files, judge)?;
     let signed = is_signed(
@@ -117,7 +114,7 @@ pub fn examine_snapshot<J: Judge>(
     now: Moment,
     judge: &mut J,
 ) -> Result<Part<Snapshot>, Stop>
-    ensures { Answers (spec.snapshot_part (expectation expect.now) (option_map (λ s. s.now) old.entry) (file_in files.now) now) result (λ p. p) }
+    ensures answer { Answers (spec.snapshot_part (expectation expect.now) (option_map (λ s. s.now) old.entry) (file_in files.now) now) result (λ p. p) }
 {
     let fetched: Fetched<Snapshot> = fetch(alloc, expect, files, judge)?;
     let signed = is_signed(
@@ -148,7 +145,7 @@ pub fn examine_targets<J: Judge>(
     now: Moment,
     judge: &mut J,
 ) -> Result<Part<Targets>, Stop>
-    ensures { Answers (spec.targets_part (expectation expect.now) (file_in files.now) now) result (λ p. p) }
+    ensures answer { Answers (spec.targets_part (expectation expect.now) (file_in files.now) now) result (λ p. p) }
 {
     let fetched: Fetched<Targets> = fetch(alloc, expect, files, judge)?;
     let signed = is_signed(

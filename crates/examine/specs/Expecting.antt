@@ -2,10 +2,10 @@
 use Rattle.std.specs.Prelude.{ℕ, option_map, String, Vec}
 use Rattle.std.specs.declared.alloc.Global.{Global}
 use Rattle.std.specs.BTreeMap.{BTreeMap, get_by_text}
-use Rattle.meta.specs.Checks as spec
-use Rattle.meta.specs.declared.expect.Expect.{Expect}
-use Rattle.meta.specs.declared.expect.Listed.{Listed}
-use Rattle.meta.specs.declared.expect.Listed.TheVariants.{NotDue, Absent, As}
+use Rattle.examine.specs.Checks as spec
+use Rattle.examine.specs.declared.expect.Expect.{Expect}
+use Rattle.examine.specs.declared.expect.Listed.{Listed}
+use Rattle.examine.specs.declared.expect.Listed.TheVariants.{NotDue, Absent, As}
 
 abbrev pub listed_of : Listed → spec.Listed
 listed_of NotDue = spec.not_due
