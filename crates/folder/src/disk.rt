@@ -1,11 +1,13 @@
 //! Folders of the file system.
-ghost use Rattle.std.specs.Prelude.{◌≡◌, ◌↔◌, true, List, ℕ, Bool};
+ghost use Rattle.std.specs.Prelude.{◌≡◌, ◌↔◌, true, List, ℕ, Bool, IfOk, string_bytes};
 ghost use Rattle.std.specs.IoError.{error_kind};
+ghost use Rattle.folder.specs.Disks as spec;
 
 use crate::files::{Folder, LoadFault};
 use std::alloc::{AllocError, Global};
 use std::fs;
 use std::io::{self, ErrorKind};
+use std::marker::Model;
 use std::rt::Files;
 
 /// Whether the folders below a folder are read too.
@@ -27,8 +29,19 @@ pub struct Disk<'a, R> {
     faults: u64,
 }
 
+impl<'a, R> Model for Disk<'a, R> {
+    ghost use Rattle.folder.specs.Disks as spec;
+
+    ghost Value = { spec.Disk };
+
+    ghost view = { λ d. record { path = d.path.now; depth = d.depth; faults = d.faults } };
+}
+
 impl<'a, R> Disk<'a, R> {
-    pub fn new(rt: &'a R, path: &'a str, depth: Depth) -> Disk<'a, R> {
+    /// The folder of that path, of which no call has failed.
+    pub fn new(rt: &'a R, path: &'a str, depth: Depth) -> Disk<'a, R>
+        ensures fresh { result ≡ record { path = path.now; depth = depth; faults = 0 } }
+    {
         Disk {
             rt,
             path,
@@ -82,13 +95,13 @@ fn fault_of(error: &io::Error) -> LoadFault
 }
 
 /// The name below the folder, with `/` between them unless the folder's path is empty.
-pub fn joined(alloc: Global, folder: &str, name: &str) -> Result<String, AllocError> {
-    let mut path = String::from_str(alloc, folder)?;
-    if !folder.is_empty() {
-        path.push('/')?;
+pub fn joined(alloc: Global, folder: &str, name: &str) -> Result<String, AllocError>
+    ensures path { IfOk result (λ path. string_bytes path ≡ spec.path_below folder.now name.now) }
+{
+    if folder.is_empty() {
+        return String::from_str(alloc, name);
     }
-    path.push_str(name)?;
-    Ok(path)
+    format!(in alloc; "{folder}/{name}")
 }
 
 /// Plain files and folders, by their paths below the first folder.

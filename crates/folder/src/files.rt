@@ -63,7 +63,7 @@ pub trait Folder {
 
     /// How many calls have failed, up to 2^64 - 1.
     fn failed(&self) -> u64
-        ensures { result ≡ failures self.now };
+        ensures count { result ≡ failures self.now };
 }
 
 /// All files of a folder, by name: each name of one list that `names` may give, with bytes that `read` may give for it.

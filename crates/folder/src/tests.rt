@@ -1,6 +1,6 @@
 mod memory;
 
-use crate::disk::{Depth, Disk};
+use crate::disk::{Depth, Disk, joined};
 use crate::files::{Folder, LoadFault, load};
 use memory::Memory;
 use std::os::unix::fs::symlink;
@@ -12,6 +12,15 @@ use std::{fs, io};
 fn fresh<R: Files + AllocGlobal>(rt: &R, folder: &str) -> io::Result<()> {
     let _ = fs::remove_dir_all(rt, folder);
     fs::create_dir(rt, folder)
+}
+
+#[test]
+fn names_are_joined(rt: HostRuntime) -> Result<(), Fail> {
+    let rows = [("a/b", "c", "a/b/c"), ("", "c", "c"), ("/", "c", "//c")];
+    for (folder, name, path) in rows {
+        assert_eq!(rt; joined(rt.alloc(), folder, name)?.as_str(), path);
+    }
+    Ok(())
 }
 
 #[test]

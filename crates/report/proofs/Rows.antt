@@ -1,5 +1,11 @@
 -- Worked values of the definitions.
-use Rattle.std.proofs.Common.{◌≡◌, [], ◌∷◌, refl, codes}
+use Rattle.std.proofs.Common.{◌≡◌, [], ◌∷◌, ◌++◌, refl, codes}
+use Rattle.std.specs.Fmt.{digits}
+use Rattle.meta.specs.declared.fault.Fault.TheVariants as fault
+use Rattle.rolechain.specs.declared.end.Step.TheVariants as step
+use Rattle.rolechain.specs.declared.end.End.TheVariants.{Ready, Stopped}
+use Rattle.cycle.specs.declared.verdict.Verdict.TheVariants.{Good, NotFound, RoleRefused, NotSearched}
+use Rattle.report.specs.Lines.{root_text, end_text, role_text, verdict_text, verdict_texts}
 use Rattle.report.specs.Quote.{quoted_text}
 
 -- `a`, a quote, `b`, a backslash, `é` in UTF-8 and a line feed
@@ -9,3 +15,33 @@ quoted-escapes = refl
 -- the bytes at both ends of what stands for itself
 quoted-ends : quoted_text (31 ∷ 32 ∷ 126 ∷ 127 ∷ []) ≡ codes "\"\\x1f ~\\x7f\""
 quoted-ends = refl
+
+root-line : root_text 1 ≡ codes "root 1" ++ 10 ∷ []
+unfolding digits
+root-line = refl
+
+root-digits : root_text 18446744073709551615 ≡ codes "root 18446744073709551615" ++ 10 ∷ []
+unfolding digits
+root-digits = refl
+
+ready-line : end_text Ready ≡ codes "end ready" ++ 10 ∷ []
+ready-line = refl
+
+stopped-line : end_text (Stopped step.Targets fault.HashWrong) ≡ codes "end targets HashWrong" ++ 10 ∷ []
+stopped-line = refl
+
+role-line : role_text (record { role = codes "apps"; version = 12 }) ≡ codes "role \"apps\" 12" ++ 10 ∷ []
+unfolding digits
+role-line = refl
+
+good-line : verdict_text (codes "abc.txt") (Good (codes "targets") 3) ≡ codes "ok \"abc.txt\" 3 \"targets\"" ++ 10 ∷ []
+unfolding digits
+good-line = refl
+
+refused-line : verdict_text (codes "a") (RoleRefused (codes "b\"") fault.Unsigned) ≡ codes "no \"a\" Unsigned \"b\\x22\"" ++ 10 ∷ []
+refused-line = refl
+
+-- each path stands with its own verdict
+two-lines : verdict_texts (codes "a" ∷ codes "b" ∷ []) (NotFound ∷ NotSearched ∷ [])
+    ≡ codes "no \"a\" NotFound" ++ 10 ∷ codes "no \"b\" NotSearched" ++ 10 ∷ []
+two-lines = refl

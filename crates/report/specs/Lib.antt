@@ -1,3 +1,4 @@
 pub mod Failures
+pub mod Lines
 pub mod Quote
 pub mod Status

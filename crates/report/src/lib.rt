@@ -1,7 +1,7 @@
 //! What a run tells: its lines and its exit status, or the failure that ended it.
 //!
 //! - [`tell`] prints the lines of an outcome and answers the status.
-//! - [`quoted`] gives a name as it is printed.
+//! - [`root_line`] and [`push_end`] give single lines, and [`put`] writes a text.
 //! - [`Failure`] is why a run ended early.
 #![tactic(auto)]
 
@@ -12,5 +12,4 @@ mod quote;
 mod tests;
 
 pub use failure::{Failure, of_io, told};
-pub use lines::{push_end, push_verdict, put, root_line, tell};
-pub use quote::quoted;
+pub use lines::{push_end, put, root_line, tell};

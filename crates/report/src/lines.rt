@@ -1,5 +1,8 @@
 //! The lines that a run prints, and its exit status.
-ghost use Rattle.std.specs.Prelude.{◌≡◌, ◌≢◌, ◌≤◌, ◌↔◌, true, All, IfOk};
+ghost use Rattle.std.specs.Prelude.{◌≡◌, ◌≢◌, ◌≤◌, ◌↔◌, [], ◌∷◌, ◌++◌, true, All, IfOk, OnOk, codes, decimal, flat_map, map, string_bytes};
+ghost use Rattle.std.specs.Io.KnownBytes.{Appends};
+ghost use Rattle.report.specs.Lines as spec;
+ghost use Rattle.report.specs.Quote.{quoted_text};
 ghost use Rattle.report.specs.Status.{is_good};
 
 use crate::failure::{Failure, of_io};
@@ -9,13 +12,16 @@ use std::alloc::{AllocError, Global};
 use std::io::Write;
 
 /// Prints all lines of an outcome and answers the exit status: 2 where the update stopped, else 1 where some target
-/// isn't good, else 0.
+/// isn't good, else 0. A writer whose bytes are known was then given the lines and nothing else; what a stream of the
+/// system was given, no contract knows.
 pub fn tell<W: Write>(
     alloc: Global,
     outcome: &Outcome,
     wanted: &[String],
     out: &mut W,
 ) -> Result<u8, Failure>
+    ensures written { OnOk result (Appends (W.contents out.old) (W.contents out.new)
+        (spec.outcome_text outcome.now (map string_bytes wanted.now))) }
     ensures stopped { IfOk result (λ status. (status ≡ 2) ↔ (outcome.now.end ≢ End.Ready)) }
     ensures good { IfOk result (λ status. (status ≡ 0)
         ↔ ((outcome.now.end ≡ End.Ready) × All (λ v. is_good v ≡ true) outcome.now.verdicts)) }
@@ -47,34 +53,55 @@ fn accepts(verdict: &Verdict) -> bool
 }
 
 /// All lines of an outcome: the root, the end, the accepted roles, and each wanted path in order.
-fn text_of(alloc: Global, outcome: &Outcome, wanted: &[String]) -> Result<String, AllocError> {
+fn text_of(alloc: Global, outcome: &Outcome, wanted: &[String]) -> Result<String, AllocError>
+    ensures lines { IfOk result (λ text. string_bytes text
+        ≡ spec.outcome_text outcome.now (map string_bytes wanted.now)) }
+{
     let mut text = root_line(alloc, outcome.trusted().root_version())?;
     push_end(&mut text, outcome.end())?;
-    for accepted in outcome.accepted() {
-        push_role(alloc, &mut text, accepted)?;
-    }
+    push_roles(alloc, &mut text, outcome.accepted())?;
     push_verdicts(alloc, &mut text, wanted, outcome.verdicts())?;
     Ok(text)
 }
 
 /// The line `root N`.
-pub fn root_line(alloc: Global, version: u64) -> Result<String, AllocError> {
+pub fn root_line(alloc: Global, version: u64) -> Result<String, AllocError>
+    ensures line { IfOk result (λ text. string_bytes text ≡ spec.root_text version) }
+{
     format!(in alloc; "root {version}\n")
 }
 
 /// Adds the line `end ready` or `end STEP FAULT`.
-pub fn push_end(text: &mut String, end: End) -> Result<(), AllocError> {
+pub fn push_end(text: &mut String, end: End) -> Result<(), AllocError>
+    ensures line { OnOk result (string_bytes text.new ≡ string_bytes text.old ++ spec.end_text end) }
+{
     match end {
         End::Ready => text.push_str("end ready\n"),
-        End::Stopped(step, fault) => {
-            let step = step_name(step);
-            let fault = fault_name(fault);
-            writeln!(text, "end {step} {fault}")
-        }
+        End::Stopped(step, fault) => push_stop(text, step_name(step), fault_name(fault)),
     }
 }
 
-fn push_role(alloc: Global, text: &mut String, accepted: &Accepted) -> Result<(), AllocError> {
+fn push_stop(text: &mut String, step: &str, fault: &str) -> Result<(), AllocError>
+    ensures line { OnOk result (string_bytes text.new
+        ≡ string_bytes text.old ++ spec.line (codes "end" ∷ step.now ∷ fault.now ∷ [])) }
+{
+    writeln!(text, "end {step} {fault}")
+}
+
+fn push_roles(alloc: Global, text: &mut String, roles: &[Accepted]) -> Result<(), AllocError>
+    ensures lines { OnOk result (string_bytes text.new
+        ≡ string_bytes text.old ++ flat_map spec.role_text roles.now) }
+{
+    for accepted in roles {
+        push_role(alloc, text, accepted)?;
+    }
+    Ok(())
+}
+
+fn push_role(alloc: Global, text: &mut String, accepted: &Accepted) -> Result<(), AllocError>
+    ensures line { OnOk result (string_bytes text.new
+        ≡ string_bytes text.old ++ spec.role_text accepted.now) }
+{
     let role = quoted(alloc, accepted.role())?;
     let version = accepted.version();
     writeln!(text, "role {role} {version}")
@@ -85,7 +112,10 @@ fn push_verdicts(
     text: &mut String,
     wanted: &[String],
     verdicts: &[Verdict],
-) -> Result<(), AllocError> {
+) -> Result<(), AllocError>
+    ensures lines { OnOk result (string_bytes text.new
+        ≡ string_bytes text.old ++ spec.verdict_texts (map string_bytes wanted.now) verdicts.now) }
+{
     for (path, verdict) in wanted.iter().zip(verdicts.iter()) {
         push_verdict(alloc, text, path.as_str(), verdict)?;
     }
@@ -93,34 +123,72 @@ fn push_verdicts(
 }
 
 /// Adds the line `ok NAME LENGTH ROLE` or `no NAME WHY`.
-pub fn push_verdict(
+pub(crate) fn push_verdict(
     alloc: Global,
     text: &mut String,
     path: &str,
     verdict: &Verdict,
-) -> Result<(), AllocError> {
-    let name = quoted(alloc, path)?;
+) -> Result<(), AllocError>
+    ensures line { OnOk result (string_bytes text.new
+        ≡ string_bytes text.old ++ spec.verdict_text path.now verdict.now) }
+{
     match verdict {
-        Verdict::Good { role, length } => {
-            let role = quoted(alloc, role.as_str())?;
-            writeln!(text, "ok {name} {length} {role}")
-        }
-        Verdict::NotFound => writeln!(text, "no {name} NotFound"),
-        Verdict::LimitReached => writeln!(text, "no {name} LimitReached"),
+        Verdict::Good { role, length } => push_good(alloc, text, path, *length, role.as_str()),
+        Verdict::NotFound => push_no(alloc, text, path, "NotFound"),
+        Verdict::LimitReached => push_no(alloc, text, path, "LimitReached"),
         Verdict::RoleRefused { role, fault } => {
-            let role = quoted(alloc, role.as_str())?;
-            let fault = fault_name(*fault);
-            writeln!(text, "no {name} {fault} {role}")
+            push_refused(alloc, text, path, *fault, role.as_str())
         }
-        Verdict::FileRefused(fault) => {
-            let fault = fault_name(*fault);
-            writeln!(text, "no {name} {fault}")
-        }
-        Verdict::NotSearched => writeln!(text, "no {name} NotSearched"),
+        Verdict::FileRefused(fault) => push_no(alloc, text, path, fault_name(*fault)),
+        Verdict::NotSearched => push_no(alloc, text, path, "NotSearched"),
     }
 }
 
-fn step_name(step: Step) -> &'static str {
+/// Adds the line `ok PATH LENGTH ROLE`.
+fn push_good(
+    alloc: Global,
+    text: &mut String,
+    path: &str,
+    length: u64,
+    role: &str,
+) -> Result<(), AllocError>
+    ensures line { OnOk result (string_bytes text.new ≡ string_bytes text.old
+        ++ spec.line (codes "ok" ∷ quoted_text path.now ∷ decimal length ∷ quoted_text role.now ∷ [])) }
+{
+    let path = quoted(alloc, path)?;
+    let role = quoted(alloc, role)?;
+    writeln!(text, "ok {path} {length} {role}")
+}
+
+/// Adds the line `no PATH WHY`.
+fn push_no(alloc: Global, text: &mut String, path: &str, why: &str) -> Result<(), AllocError>
+    ensures line { OnOk result (string_bytes text.new ≡ string_bytes text.old
+        ++ spec.line (codes "no" ∷ quoted_text path.now ∷ why.now ∷ [])) }
+{
+    let path = quoted(alloc, path)?;
+    writeln!(text, "no {path} {why}")
+}
+
+/// Adds the line `no PATH FAULT ROLE`.
+fn push_refused(
+    alloc: Global,
+    text: &mut String,
+    path: &str,
+    fault: Fault,
+    role: &str,
+) -> Result<(), AllocError>
+    ensures line { OnOk result (string_bytes text.new ≡ string_bytes text.old
+        ++ spec.line (codes "no" ∷ quoted_text path.now ∷ spec.fault_word fault ∷ quoted_text role.now ∷ [])) }
+{
+    let path = quoted(alloc, path)?;
+    let role = quoted(alloc, role)?;
+    let fault = fault_name(fault);
+    writeln!(text, "no {path} {fault} {role}")
+}
+
+fn step_name(step: Step) -> &'static str
+    ensures word { result.now ≡ spec.step_word step }
+{
     match step {
         Step::Root => "root",
         Step::Timestamp => "timestamp",
@@ -129,7 +197,9 @@ fn step_name(step: Step) -> &'static str {
     }
 }
 
-fn fault_name(fault: Fault) -> &'static str {
+fn fault_name(fault: Fault) -> &'static str
+    ensures word { result.now ≡ spec.fault_word fault }
+{
     match fault {
         Fault::NotListed => "NotListed",
         Fault::Missing => "Missing",
@@ -146,8 +216,10 @@ fn fault_name(fault: Fault) -> &'static str {
     }
 }
 
-/// Writes the text, to its end.
-pub fn put<W: Write>(out: &mut W, text: &str) -> Result<(), Failure> {
+/// Writes the text, to its end. A writer whose bytes are known was then given the text and nothing else.
+pub fn put<W: Write>(out: &mut W, text: &str) -> Result<(), Failure>
+    ensures written { OnOk result (Appends (W.contents out.old) (W.contents out.new) text.now) }
+{
     match out.write_all(text.as_bytes()) {
         Ok(()) => out.flush().map_err(|e| of_io(&e, Failure::Output)),
         Err(e) => Err(of_io(&e, Failure::Output)),

@@ -1,5 +1,5 @@
 use crate::failure::{Failure, told};
-use crate::lines::{push_end, push_verdict};
+use crate::lines::{push_end, push_verdict, put, root_line};
 use crate::quote::quoted;
 use cycle::{End, Fault, Step, Text, Verdict};
 use std::io::{self, ErrorKind, Write};
@@ -98,6 +98,20 @@ impl Write for Refuses {
     fn flush(&mut self) -> io::Result<()> {
         Ok(())
     }
+}
+
+#[test]
+fn lines_are_put(rt: HostRuntime) -> Result<(), Fail> {
+    let alloc = rt.alloc();
+    let line = root_line(alloc, u64::MAX)?;
+    let mut out = Vec::new(alloc);
+    put(&mut out, line.as_str())?;
+    assert_eq!(rt; out.as_slice(), b"root 18446744073709551615\n".as_slice());
+    assert_eq!(rt;
+        put(&mut Refuses, line.as_str()).err(),
+        Some(Failure::Output)
+    );
+    Ok(())
 }
 
 #[test]
