@@ -13,23 +13,18 @@ use keys::{Algorithm, Ask, Judge};
 /// What may be listed of a file's content, beside the limit of its kind.
 #[derive(Clone, Copy)]
 pub struct Content {
-    /// The most bytes.
+    /// The most bytes, where there is a limit.
     pub limit: Option<u64>,
-    /// The length in bytes.
+    /// The length in bytes, where it is listed.
     pub length: Option<u64>,
-    /// The digests.
+    /// The digests, where they are listed.
     pub hashes: Option<Hashes>,
 }
 
 impl Content {
     /// Whether the bytes of a file of that name are within the limit, and have the length and the
     /// digests that are listed: the first of these checks that fails (TUF 1.0 sections 5.3 to 5.7).
-    pub fn check<J: Judge>(
-        &self,
-        file: &str,
-        bytes: &[u8],
-        judge: &mut J,
-    ) -> Result<(), Stop>
+    pub fn check<J: Judge>(&self, file: &str, bytes: &[u8], judge: &mut J) -> Result<(), Stop>
         ensures answer { Answers (spec.content self.now.limit self.now.length self.now.hashes bytes.now) result (λ x. x) }
     {
         refuse_if(is_too_long(self.limit, bytes), Fault::TooLong)?;

@@ -1,5 +1,10 @@
 //! The verification of a repository that lies in two folders.
-ghost use Rattle.std.specs.Prelude.{◌≤◌, IfOk};
+ghost use Rattle.std.specs.Prelude.{◌≡◌, ◌≤◌, IfOk, OnOk, map, string_bytes};
+ghost use Rattle.std.specs.Io.KnownBytes.{Appends};
+ghost use Rattle.folder.specs.Folders.{IsLoaded};
+ghost use Rattle.examine.specs.Expecting.{file_in};
+ghost use Rattle.cycle.specs.Workflow.{workflow};
+ghost use Rattle.tufcheck.specs.Told.{workflow_text, IsTold};
 
 use crate::clock::moment;
 use crate::command::settled;
@@ -26,10 +31,10 @@ pub fn verify<R: Files + Clock + AllocGlobal + Clone + Drop, W: Write, E: Write>
 ) -> Result<u8, Failure>
     ensures known { IfOk result (λ status. status ≤ 4) }
 {
-    let now = moment(rt, task.now)?;
+    let moment = moment(rt, task.now)?;
     let start = Start {
         trusted: read_state(rt, alloc, task.state)?,
-        now,
+        moment,
         wanted,
         limit: task.limit,
         state: task.out,
@@ -44,14 +49,16 @@ pub fn verify<R: Files + Clock + AllocGlobal + Clone + Drop, W: Write, E: Write>
 #[derive(Drop)]
 pub struct Start<'a> {
     pub trusted: Trusted,
-    pub now: Moment,
+    pub moment: Moment,
     pub wanted: &'a [String],
     pub limit: usize,
     pub state: &'a str,
 }
 
 /// Verifies what the folders hold, writes the new state, prints the lines and answers the status. A failure is told on
-/// `err` in place of the lines; where it comes before the state's turn, no state is written.
+/// `err` in place of the lines; where it comes before the state's turn, no state is written. With a status of 0 to 2 a
+/// writer whose bytes are known was given the lines of the workflow on the files that the folders gave, and nothing
+/// else.
 pub fn verify_from<R: Files, M: Folder, T: Folder, W: Write, E: Write>(
     rt: &R,
     alloc: Global,
@@ -62,6 +69,10 @@ pub fn verify_from<R: Files, M: Folder, T: Folder, W: Write, E: Write>(
     err: &mut E,
 ) -> u8
     ensures known { result ≤ 4 }
+    ensures lines { result ≤ 2 → IsTold
+        (IsLoaded (M.lists metadata.old) (M.holds metadata.old)) (IsLoaded (T.lists targets.old) (T.holds targets.old))
+        (workflow_text start.now.moment start.now.trusted (map string_bytes start.now.wanted.now) start.now.limit)
+        (W.contents out.old) (W.contents out.new) }
 {
     settled(verified(rt, alloc, start, metadata, targets, out), err)
 }
@@ -75,9 +86,29 @@ fn verified<R: Files, M: Folder, T: Folder, W: Write>(
     out: &mut W,
 ) -> Result<u8, Failure>
     ensures known { IfOk result (λ status. status ≤ 2) }
+    ensures lines { OnOk result (IsTold
+        (IsLoaded (M.lists metadata.old) (M.holds metadata.old)) (IsLoaded (T.lists targets.old) (T.holds targets.old))
+        (workflow_text start.now.moment start.now.trusted (map string_bytes start.now.wanted.now) start.now.limit)
+        (W.contents out.old) (W.contents out.new)) }
 {
     let repo = loaded(alloc, metadata, targets)?;
-    let outcome = outcome_of(alloc, start, &repo)?;
+    verified_in(rt, alloc, start, &repo, out)
+}
+
+/// Verifies a repository, writes the new state and prints the lines.
+fn verified_in<R: Files, W: Write>(
+    rt: &R,
+    alloc: Global,
+    start: &Start<'_>,
+    repo: &Repo,
+    out: &mut W,
+) -> Result<u8, Failure>
+    ensures known { IfOk result (λ status. status ≤ 2) }
+    ensures lines { OnOk result (Appends (W.contents out.old) (W.contents out.new)
+        (workflow_text start.now.moment start.now.trusted (map string_bytes start.now.wanted.now) start.now.limit
+        (file_in repo.now.metadata) (file_in repo.now.targets))) }
+{
+    let outcome = outcome_of(alloc, start, repo)?;
     write_state(rt, alloc, start.state, outcome.trusted())?;
     tell(alloc, &outcome, start.wanted, out)
 }
@@ -86,14 +117,20 @@ fn loaded<M: Folder, T: Folder>(
     alloc: Global,
     metadata: &mut M,
     targets: &mut T,
-) -> Result<Repo, Failure> {
+) -> Result<Repo, Failure>
+    ensures metadata { IfOk result (λ repo. IsLoaded (M.lists metadata.old) (M.holds metadata.old) repo.metadata) }
+    ensures targets { IfOk result (λ repo. IsLoaded (T.lists targets.old) (T.holds targets.old) repo.targets) }
+{
     let metadata = load(alloc, metadata)?;
     let targets = load(alloc, targets)?;
     Ok(Repo { metadata, targets })
 }
 
-fn outcome_of(alloc: Global, start: &Start<'_>, repo: &Repo) -> Result<Outcome, Failure> {
+fn outcome_of(alloc: Global, start: &Start<'_>, repo: &Repo) -> Result<Outcome, Failure>
+    ensures workflow { IfOk result (λ o. o ≡ workflow (file_in repo.now.metadata) (file_in repo.now.targets)
+        start.now.moment start.now.trusted (map string_bytes start.now.wanted.now) start.now.limit) }
+{
     let limits = Limits::new(start.limit, CHECKS).ok_or(Failure::Words)?;
     let trusted = &start.trusted;
-    Ok(run_alone(alloc, trusted, repo, start.now, start.wanted, &limits)?)
+    Ok(run_alone(alloc, trusted, repo, start.moment, start.wanted, &limits)?)
 }

@@ -191,7 +191,7 @@ fn start_of<'a>(alloc: Global, wanted: &'a [String], state: &'a str) -> Result<S
     let root = repo.metadata.get("1.root.json").ok_or("a root")?;
     Ok(Start {
         trusted: Trusted::from_root(alloc, root.as_slice())?,
-        now: Moment::read(NOW).ok_or(NOW)?,
+        moment: Moment::read(NOW).ok_or(NOW)?,
         wanted,
         limit: 32,
         state,
