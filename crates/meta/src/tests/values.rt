@@ -120,7 +120,7 @@ fn has_texts(paths: &Paths, texts: &[&str]) -> bool {
                     .as_slice()
                     .iter()
                     .zip(texts)
-                    .all(|(p, t)| p.as_str() == *t)
+                    .all(|(p, t)| p.digits() == *t)
         }
     }
 }
