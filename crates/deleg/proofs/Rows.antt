@@ -1,9 +1,9 @@
 -- Worked values.
-use Rattle.std.proofs.Common.{◌≡◌, ℕ, true, false, Bool, List, [], ◌∷◌, codes, Option, Some, None, refl}
+use Rattle.std.proofs.Common.{◌≡◌, ℕ, true, false, Bool, List, [], ◌∷◌, codes, Some, refl}
 use Rattle.std.specs.Str.{chars}
 use Rattle.keys.specs.Keys.{RoleKeys}
 use Rattle.moment.specs.Moment.{Moment}
-use Rattle.meta.specs.Metadata.{Hashes, Target, Delegation, Delegations, Header, Root, Snapshot, Targets, patterns}
+use Rattle.meta.specs.Metadata.{Hashes, Target, Delegation, Header, Root, Snapshot, Targets, patterns}
 use Rattle.meta.specs.declared.fault.Fault.TheVariants.{NotListed}
 use Rattle.examine.specs.Checks.{Files}
 use Rattle.deleg.specs.Pattern.{is_match}

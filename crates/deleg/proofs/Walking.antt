@@ -7,9 +7,9 @@ use Rattle.meta.specs.Metadata.{Root, Snapshot, Targets, Target}
 use Rattle.meta.specs.Part.{Part}
 use Rattle.meta.specs.declared.fault.Fault.{Fault}
 use Rattle.examine.specs.Checks.{Files}
-use Rattle.deleg.specs.Accepted.{Accepted, Searched}
+use Rattle.deleg.specs.Accepted.{Accepted}
 use Rattle.deleg.specs.Edge.{Edge, followed}
-use Rattle.deleg.specs.Search.{Visited, done, go_on, and_then, walk_by, in_file, accepting, entered, examined, settled, visit, walk, IsPreorder, target_of, is_visited}
+use Rattle.deleg.specs.Search.{Visited, done, go_on, and_then, walk_by, accepting, entered, examined, settled, visit, walk, IsPreorder, target_of, is_visited}
 use Rattle.deleg.specs.declared.found.Found.{Found}
 use Rattle.deleg.specs.declared.found.Found.TheVariants.{Listed, NotFound, LimitReached, RoleRefused}
 

@@ -6,7 +6,7 @@ use Rattle.moment.specs.Moment.{Moment}
 use Rattle.meta.specs.Metadata.{Root, Snapshot, Target, Targets}
 use Rattle.meta.specs.Part.{Part}
 use Rattle.meta.specs.declared.fault.Fault.{Fault}
-use Rattle.examine.specs.Checks.{Files, Expectation, targets_part}
+use Rattle.examine.specs.Checks.{Files, targets_part}
 use Rattle.rolechain.specs.Expected.{next_targets}
 use Rattle.rolechain.specs.State.{State}
 use Rattle.deleg.specs.Accepted.{Accepted, Searched}

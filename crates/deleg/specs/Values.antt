@@ -1,6 +1,4 @@
 -- What the values of the program stand for.
-use Rattle.std.specs.Prelude.{ℕ, List}
-use Rattle.meta.specs.Metadata.{Targets}
 use Rattle.examine.specs.Expecting.{file_in}
 use Rattle.deleg.specs.Edge as edge
 use Rattle.deleg.specs.Quest as quest

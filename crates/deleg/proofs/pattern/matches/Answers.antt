@@ -1,6 +1,5 @@
-use Rattle.std.proofs.Common.{◌≡◌, sym, ap, ◌∙◌}
+use Rattle.std.proofs.Common.{sym, ap, ◌∙◌}
 use Rattle.std.specs.Str.{chars}
-use Rattle.deleg.specs.Pattern.{is_match}
 use Rattle.deleg.proofs.Patterns.{meaning, lead-meaning, is_match-Matches}
 use Rattle.deleg.proofs.pattern.matches.Goals as goal
 

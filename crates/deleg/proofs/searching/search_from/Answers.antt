@@ -1,5 +1,3 @@
-use Rattle.std.proofs.Common.{List, [], ◌∷◌, ap, ◌∙◌}
-use Rattle.deleg.specs.Edge.{Edge}
 use Rattle.deleg.specs.Values.{quest_of}
 use Rattle.deleg.proofs.Starting.{starts_from}
 use Rattle.deleg.proofs.searching.search_from.Goals as goal

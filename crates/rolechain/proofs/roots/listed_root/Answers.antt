@@ -1,4 +1,4 @@
-use Rattle.std.proofs.Common.{◌≡◌, ◌+◌, ap, ◌∙◌}
+use Rattle.std.proofs.Common.{◌+◌, ap, ◌∙◌}
 use Rattle.examine.specs.Checks.{root_part}
 use Rattle.examine.specs.Expecting.{file_in}
 use Rattle.rolechain.specs.Expected.{next_root}

@@ -1,6 +1,3 @@
-use Rattle.std.proofs.Common.{◌≡◌, true, map, string_bytes, subst}
-use Rattle.std.specs.Cmp.Lexicographic.{pointwise}
-use Rattle.std.specs.Str.{bytes_eq}
 use Rattle.folder.proofs.Names.{copied_names}
 use Rattle.folder.proofs.tests.memory.MemoryFolder.names.Goals as goal
 
