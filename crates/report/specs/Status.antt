@@ -1,5 +1,9 @@
 -- The exit status of a whole run.
-use Rattle.std.specs.Prelude.{Bool, true, false}
+use Rattle.std.specs.Prelude.{ℕ, Bool, true, false}
+use Rattle.std.specs.List.{list_all}
+use Rattle.rolechain.specs.declared.end.End.{End}
+use Rattle.rolechain.specs.declared.end.End.TheVariants.{Ready, Stopped}
+use Rattle.cycle.specs.Workflow.{Outcome}
 use Rattle.cycle.specs.declared.verdict.Verdict.{Verdict}
 use Rattle.cycle.specs.declared.verdict.Verdict.TheVariants.{Good}
 
@@ -7,3 +11,12 @@ use Rattle.cycle.specs.declared.verdict.Verdict.TheVariants.{Good}
 abbrev pub is_good : Verdict → Bool
 is_good (Good role length) = true
 is_good _ = false
+
+-- 2 where the cycle stopped, else 0 where all verdicts are good, else 1
+abbrev pub status_of : End → Bool → ℕ
+status_of Ready true = 0
+status_of Ready false = 1
+status_of (Stopped step fault) all_good = 2
+
+abbrev pub outcome_status : Outcome → ℕ
+outcome_status o = status_of o.end (list_all is_good o.verdicts)

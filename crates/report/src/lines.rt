@@ -3,7 +3,8 @@ ghost use Rattle.std.specs.Prelude.{◌≡◌, ◌≢◌, ◌≤◌, ◌↔◌, 
 ghost use Rattle.std.specs.Io.KnownBytes.{Appends};
 ghost use Rattle.report.specs.Lines as spec;
 ghost use Rattle.report.specs.Quote.{quoted_text};
-ghost use Rattle.report.specs.Status.{is_good};
+ghost use Rattle.std.specs.List.{list_all};
+ghost use Rattle.report.specs.Status.{is_good, outcome_status, status_of};
 
 use crate::failure::{Failure, of_io};
 use crate::quote::quoted;
@@ -22,9 +23,7 @@ pub fn tell<W: Write>(
 ) -> Result<u8, Failure>
     ensures written { OnOk result (Appends (W.contents out.old) (W.contents out.new)
         (spec.outcome_text outcome.now (map string_bytes wanted.now))) }
-    ensures stopped { IfOk result (λ status. (status ≡ 2) ↔ (outcome.now.end ≢ End.Ready)) }
-    ensures good { IfOk result (λ status. (status ≡ 0)
-        ↔ ((outcome.now.end ≡ End.Ready) × All (λ v. is_good v ≡ true) outcome.now.verdicts)) }
+    ensures status { IfOk result (λ status. status ≡ outcome_status outcome.now) }
     ensures known { IfOk result (λ status. status ≤ 2) }
 {
     let text = text_of(alloc, outcome, wanted)?;
@@ -32,18 +31,24 @@ pub fn tell<W: Write>(
     Ok(status_of(outcome.end(), outcome.verdicts()))
 }
 
+#[tactic(auto, using(crate::proofs::Statuses::all_good))]
 fn status_of(end: End, verdicts: &[Verdict]) -> u8
-    ensures stopped { (result ≡ 2) ↔ (end ≢ End.Ready) }
-    ensures good { (result ≡ 0) ↔ ((end ≡ End.Ready) × All (λ v. is_good v ≡ true) verdicts.now) }
+    ensures status { result ≡ status_of end (list_all is_good verdicts.now) }
     ensures known { result ≤ 2 }
 {
     if end != End::Ready {
         2
-    } else if verdicts.iter().all(accepts) {
+    } else if all_good(verdicts) {
         0
     } else {
         1
     }
+}
+
+fn all_good(verdicts: &[Verdict]) -> bool
+    ensures test { (result ≡ true) ↔ All (λ v. is_good v ≡ true) verdicts.now }
+{
+    verdicts.iter().all(accepts)
 }
 
 fn accepts(verdict: &Verdict) -> bool

@@ -4,7 +4,9 @@ ghost use Rattle.std.specs.Io.KnownBytes.{Appends};
 ghost use Rattle.folder.specs.Folders.{IsLoaded};
 ghost use Rattle.examine.specs.Expecting.{file_in};
 ghost use Rattle.cycle.specs.Workflow.{workflow};
-ghost use Rattle.tufcheck.specs.Told.{workflow_text, IsTold};
+ghost use Rattle.report.specs.Lines.{outcome_text};
+ghost use Rattle.report.specs.Status.{outcome_status};
+ghost use Rattle.tufcheck.specs.Told.{workflow_of, IsTold};
 
 use crate::clock::moment;
 use crate::command::settled;
@@ -56,9 +58,9 @@ pub struct Start<'a> {
 }
 
 /// Verifies what the folders hold, writes the new state, prints the lines and answers the status. A failure is told on
-/// `err` in place of the lines; where it comes before the state's turn, no state is written. With a status of 0 to 2 a
-/// writer whose bytes are known was given the lines of the workflow on the files that the folders gave, and nothing
-/// else.
+/// `err` in place of the lines; where it comes before the state's turn, no state is written. A status of 0 to 2 is that
+/// of the workflow on the files that the folders gave, and a writer whose bytes are known was given its lines and
+/// nothing else.
 pub fn verify_from<R: Files, M: Folder, T: Folder, W: Write, E: Write>(
     rt: &R,
     alloc: Global,
@@ -69,10 +71,10 @@ pub fn verify_from<R: Files, M: Folder, T: Folder, W: Write, E: Write>(
     err: &mut E,
 ) -> u8
     ensures known { result ≤ 4 }
-    ensures lines { result ≤ 2 → IsTold
+    ensures told { result ≤ 2 → IsTold
         (IsLoaded (M.lists metadata.old) (M.holds metadata.old)) (IsLoaded (T.lists targets.old) (T.holds targets.old))
-        (workflow_text start.now.moment start.now.trusted (map string_bytes start.now.wanted.now) start.now.limit)
-        (W.contents out.old) (W.contents out.new) }
+        (workflow_of start.now.moment start.now.trusted (map string_bytes start.now.wanted.now) start.now.limit)
+        (map string_bytes start.now.wanted.now) result (W.contents out.old) (W.contents out.new) }
 {
     settled(verified(rt, alloc, start, metadata, targets, out), err)
 }
@@ -86,10 +88,10 @@ fn verified<R: Files, M: Folder, T: Folder, W: Write>(
     out: &mut W,
 ) -> Result<u8, Failure>
     ensures known { IfOk result (λ status. status ≤ 2) }
-    ensures lines { OnOk result (IsTold
+    ensures told { IfOk result (λ status. IsTold
         (IsLoaded (M.lists metadata.old) (M.holds metadata.old)) (IsLoaded (T.lists targets.old) (T.holds targets.old))
-        (workflow_text start.now.moment start.now.trusted (map string_bytes start.now.wanted.now) start.now.limit)
-        (W.contents out.old) (W.contents out.new)) }
+        (workflow_of start.now.moment start.now.trusted (map string_bytes start.now.wanted.now) start.now.limit)
+        (map string_bytes start.now.wanted.now) status (W.contents out.old) (W.contents out.new)) }
 {
     let repo = loaded(alloc, metadata, targets)?;
     verified_in(rt, alloc, start, &repo, out)
@@ -104,8 +106,11 @@ fn verified_in<R: Files, W: Write>(
     out: &mut W,
 ) -> Result<u8, Failure>
     ensures known { IfOk result (λ status. status ≤ 2) }
-    ensures lines { OnOk result (Appends (W.contents out.old) (W.contents out.new)
-        (workflow_text start.now.moment start.now.trusted (map string_bytes start.now.wanted.now) start.now.limit
+    ensures lines { OnOk result (Appends (W.contents out.old) (W.contents out.new) (outcome_text
+        (workflow_of start.now.moment start.now.trusted (map string_bytes start.now.wanted.now) start.now.limit
+        (file_in repo.now.metadata) (file_in repo.now.targets)) (map string_bytes start.now.wanted.now))) }
+    ensures status { IfOk result (λ status. status ≡ outcome_status
+        (workflow_of start.now.moment start.now.trusted (map string_bytes start.now.wanted.now) start.now.limit
         (file_in repo.now.metadata) (file_in repo.now.targets))) }
 {
     let outcome = outcome_of(alloc, start, repo)?;

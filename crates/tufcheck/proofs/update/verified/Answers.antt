@@ -1,6 +1,8 @@
-use Rattle.tufcheck.proofs.Told.{OnOk-so}
+use Rattle.tufcheck.proofs.Told.{IfOk-so}
 use Rattle.tufcheck.proofs.update.verified.Goals as goal
 
-pub returns-clause-lines : goal.returns-clause-lines
-returns-clause-lines g c =
-    OnOk-so _ _ c.verified_in.result (λ h. (_, (_, (c.in_ok-repo.ensures.metadata, (c.in_ok-repo.ensures.targets, h))))) c.verified_in.ensures.lines
+pub returns-clause-told : goal.returns-clause-told
+returns-clause-told g c =
+    IfOk-so _ _ _ c.verified_in.result
+    (λ _ lines status. (_, (_, (c.in_ok-repo.ensures.metadata, (c.in_ok-repo.ensures.targets, (lines, status))))))
+    c.verified_in.ensures.lines c.verified_in.ensures.status
