@@ -10,7 +10,7 @@
 #
 # `rt run` proves and builds the program, once. A small library, made with `cc`, stands before the C library's `malloc`
 # and `realloc` and refuses the Nth call. (`rt try --fail-alloc N` gives the same answers, and builds the program for
-# each N, which takes a minute or two.) All five sweeps are some 2,500 runs, seven minutes in all.
+# each N, which takes a minute or two.) All five sweeps are some 2,500 runs, seven to twelve minutes in all.
 set -u
 first=${1:-1} last=${2:-100000} step=${3:-1}
 top=$(cd "$(dirname "$0")/.." && pwd) || exit 2
