@@ -6,10 +6,10 @@ ghost use Rattle.examine.specs.Expecting.{file_in};
 ghost use Rattle.cycle.specs.Workflow.{workflow};
 ghost use Rattle.report.specs.Lines.{outcome_text};
 ghost use Rattle.report.specs.Status.{outcome_status};
-ghost use Rattle.tufcheck.specs.Told.{workflow_of, IsTold};
+ghost use Rattle.command.specs.Told.{workflow_of, IsTold};
 
 use crate::clock::moment;
-use crate::command::settled;
+use crate::dispatch::settled;
 use crate::state::{read_state, write_state};
 use crate::words::Verify;
 use cycle::{Limits, Moment, Outcome, Repo, Trusted, run_alone};

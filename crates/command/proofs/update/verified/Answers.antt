@@ -1,5 +1,5 @@
-use Rattle.tufcheck.proofs.Told.{IfOk-so}
-use Rattle.tufcheck.proofs.update.verified.Goals as goal
+use Rattle.command.proofs.Told.{IfOk-so}
+use Rattle.command.proofs.update.verified.Goals as goal
 
 pub returns-clause-told : goal.returns-clause-told
 returns-clause-told g c =

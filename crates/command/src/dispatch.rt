@@ -19,7 +19,7 @@ use std::rt::{Clock, Files};
 /// repository, and answers the exit status: 0 where all wanted targets are good,
 /// 1 where one is refused, 2 where the update stopped or the root was refused, 3 for a mistake of the caller and 4 for
 /// a refusal of the system. The lines go to `out`, and what is said of a mistake or a refusal goes to `err`.
-pub fn command<R: Files + Clock + AllocGlobal + Clone + Drop, W: Write, E: Write>(
+pub fn perform<R: Files + Clock + AllocGlobal + Clone + Drop, W: Write, E: Write>(
     rt: &R,
     alloc: Global,
     words: &[String],

@@ -1,6 +1,6 @@
 use Rattle.std.proofs.Common.{◌≡◌, IfOk, subst}
 use Rattle.report.specs.Status.{outcome_status}
-use Rattle.tufcheck.proofs.update.verified_in.Goals as goal
+use Rattle.command.proofs.update.verified_in.Goals as goal
 
 pub returns-clause-status : goal.returns-clause-status
 returns-clause-status g c =

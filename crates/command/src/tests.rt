@@ -10,7 +10,7 @@ mod place;
 mod repository;
 mod states;
 
-use crate::command::command;
+use crate::dispatch::perform;
 use std::alloc::{AllocError, Global};
 use std::rt::{Clock, Files};
 use std::test::Fail;
@@ -48,7 +48,7 @@ impl Run {
         let words = words(alloc, line)?;
         let mut out = Vec::new(alloc);
         let mut err = Vec::new(alloc);
-        let status = command(rt, alloc, words.as_slice(), &mut out, &mut err);
+        let status = perform(rt, alloc, words.as_slice(), &mut out, &mut err);
         Ok(Run { status, out, err })
     }
 

@@ -2,7 +2,7 @@
 
 use super::place::{GOOD, NOW, Place};
 use super::words;
-use crate::command::command;
+use crate::dispatch::perform;
 use crate::sample;
 use std::io::{self, ErrorKind, Write};
 use std::test::Fail;
@@ -38,7 +38,7 @@ fn lines_that_are_refused_are_a_failure(rt: HostRuntime) -> Result<(), Fail> {
         let words = words(alloc, line)?;
         let mut err = Vec::new(alloc);
         let mut out = Narrow { room: 3 };
-        let status = command(&rt, alloc, words.as_slice(), &mut out, &mut err);
+        let status = perform(&rt, alloc, words.as_slice(), &mut out, &mut err);
         assert_eq!(rt; status, 4);
         assert_eq!(rt; err.as_slice(), b"tufcheck: output\n".as_slice());
     }
@@ -52,7 +52,7 @@ fn what_is_said_may_be_refused(rt: HostRuntime) -> Result<(), Fail> {
         let words = words(alloc, line)?;
         let mut out = Vec::new(alloc);
         let mut err = Narrow { room: 3 };
-        let told = command(&rt, alloc, words.as_slice(), &mut out, &mut err);
+        let told = perform(&rt, alloc, words.as_slice(), &mut out, &mut err);
         assert_eq!(rt; told, status);
         assert!(rt; out.is_empty());
     }
@@ -84,7 +84,7 @@ fn a_root_is_kept_before_its_line(rt: HostRuntime) -> Result<(), Fail> {
     )?;
     let mut out = Narrow { room: 3 };
     let mut err = Vec::new(alloc);
-    let status = command(&rt, alloc, words.as_slice(), &mut out, &mut err);
+    let status = perform(&rt, alloc, words.as_slice(), &mut out, &mut err);
     assert_eq!(rt; status, 4);
     assert_eq!(rt; err.as_slice(), b"tufcheck: output\n".as_slice());
     let run = place.verify("old", "new", "abc.txt")?;
@@ -107,7 +107,7 @@ fn a_state_is_kept_before_the_lines(rt: HostRuntime) -> Result<(), Fail> {
     for room in [0, 7, GOOD.len()] {
         let mut out = Narrow { room };
         let mut err = Vec::new(alloc);
-        let status = command(&rt, alloc, words.as_slice(), &mut out, &mut err);
+        let status = perform(&rt, alloc, words.as_slice(), &mut out, &mut err);
         assert_eq!(rt; status, 4);
         assert_eq!(rt; err.as_slice(), b"tufcheck: output\n".as_slice());
         assert!(rt; place.read("new")? == place.read("good")?);

@@ -1,5 +1,5 @@
-use Rattle.tufcheck.proofs.Told.{of_status}
-use Rattle.tufcheck.proofs.update.verify_from.Goals as goal
+use Rattle.command.proofs.Told.{of_status}
+use Rattle.command.proofs.update.verify_from.Goals as goal
 
 pub returns-clause-told : goal.returns-clause-told
 returns-clause-told g c =

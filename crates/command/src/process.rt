@@ -1,0 +1,37 @@
+//! The words of the process.
+ghost use Rattle.std.specs.Prelude.{◌≤◌};
+
+use crate::dispatch::perform;
+use report::{Failure, of_io, told};
+use std::alloc::Global;
+use std::env;
+use std::io::Write;
+use std::rt::{Clock, Env, Files};
+
+/// Does what the words after the program's name ask for, and answers the exit status, as [`perform`] does.
+pub fn run<R: Env + Files + Clock + AllocGlobal + Clone + Drop, W: Write, E: Write>(
+    rt: &R,
+    alloc: Global,
+    out: &mut W,
+    err: &mut E,
+) -> u8
+    ensures known { result ≤ 4 }
+{
+    match words_of(rt, alloc) {
+        Ok(words) => perform(rt, alloc, words.as_slice(), out, err),
+        Err(failure) => told(failure, err),
+    }
+}
+
+/// The words after the program's name. One that isn't UTF-8 refuses all.
+fn words_of<R: Env + AllocGlobal>(rt: &R, alloc: Global) -> Result<Vec<String>, Failure> {
+    let all = match env::args(rt) {
+        Ok(all) => all,
+        Err(error) => return Err(of_io(&error, Failure::Words)),
+    };
+    let mut words = Vec::new(alloc);
+    for word in all.skip(1) {
+        words.push(word)?;
+    }
+    Ok(words)
+}
