@@ -1,0 +1,21 @@
+#!/bin/bash
+# Tries the wrong bodies checks/bodies/CRATE/*.edit: each must be refused by the contract of the function that it edits.
+#
+#   checks/bodies.sh [CRATE..]      every crate that has such edits, unless some are named
+#
+# They have the form of must-fail edits, and still tell something, but the gate, which checks a crate again for each
+# edit, has no minutes for them. Here edits of different functions are made together in a copy of the repository, and one
+# check of the crate must name each edited function with an open goal of its own; that it calls a function that isn't
+# proved doesn't count. What a check of many doesn't name is tried alone, and so is an edit that stands in no function,
+# such as one of a constant.
+#
+# A line for each edit says `refused CRATE/NAME` or `PROVED CRATE/NAME`, and the last line counts them. The script ends
+# with status 1 if a body was proved, and with 2 if an edit couldn't be tried (`UNTRIED`: it can't be read, or is refused
+# only by an answer in proofs/ that names what it took away). One check of 21 edits of cjson took four minutes on four
+# busy cores; the gate tries as many in about ten.
+set -u
+top=$(cd "$(dirname "$0")/.." && pwd) || exit 2
+work=$(mktemp -d) || exit 2
+trap 'rm -rf "$work"' EXIT
+cp -a "$top" "$work/copy" || exit 2
+python3 "$top/checks/bodies.py" "$top" "$work/copy" "$@"
