@@ -1,0 +1,110 @@
+Without a word a sample repository is made and verified in memory.
+  $ tufcheck
+  root 1
+  end ready
+  ok "abc.txt" 3 "targets"
+
+A folder is verified twice. The state that is read stays, and the new one is there even before its name was.
+  $ make
+  > @keys
+  > write root 1 1
+  > @files
+  $ init one
+  root 1
+  $ copy one before
+  $ tufcheck verify --state one --metadata metadata --targets targets --now 2026-01-01T00:00:00Z --out two abc.txt
+  root 1
+  end ready
+  ok "abc.txt" 3 "targets"
+  $ same one before
+  $ verify two three abc.txt
+  root 1
+  end ready
+  ok "abc.txt" 3 "targets"
+  $ same two three
+
+The first state has the root alone, and the second one all four files, in the order of their names.
+  $ keeps one
+  root
+  $ state right root=metadata/1.root.json
+  $ same one right
+  $ keeps two
+  root snapshot targets timestamp
+  $ state right root=metadata/1.root.json snapshot=metadata/snapshot.json targets=metadata/targets.json timestamp=metadata/timestamp.json
+  $ same two right
+
+The state may be written in place of the old one.
+  $ verify one one
+  root 1
+  end ready
+  $ same one two
+
+No wanted path, one with an odd character, several, one twice, and one of no character.
+  $ verify two new
+  root 1
+  end ready
+  $ verify two new a"b
+  root 1
+  end ready
+  no "a\x22b" NotFound
+  [1]
+  $ verify two new abc.txt abc abc.txt
+  root 1
+  end ready
+  ok "abc.txt" 3 "targets"
+  no "abc" NotFound
+  ok "abc.txt" 3 "targets"
+  [1]
+  $ verify two new ""
+  root 1
+  end ready
+  no "" NotFound
+  [1]
+  $ verify two new -- -abc.txt
+  root 1
+  end ready
+  no "-abc.txt" NotFound
+  [1]
+
+All files expire at 2030-01-01T00:00:00Z.
+  $ verify two new --now 2029-12-31T23:59:59Z abc.txt
+  root 1
+  end ready
+  ok "abc.txt" 3 "targets"
+  $ verify two new --now 2030-01-01T00:00:00Z abc.txt
+  root 1
+  end root Expired
+  no "abc.txt" NotSearched
+  [2]
+
+Without a moment it is the clock's, which is past 2020 and before 9999.
+  $ make
+  > @keys
+  > expires 9999-12-31T23:59:59Z
+  > write root 1 1
+  > @files
+  $ init one
+  root 1
+  $ tufcheck verify --state one --metadata metadata --targets targets --out two
+  root 1
+  end ready
+  $ make
+  > @keys
+  > expires 9999-12-31T23:59:59Z
+  > write root 1 1
+  > @files
+  > expires 2020-12-31T23:59:59Z
+  > write timestamp 1 2
+  $ init one
+  root 1
+  $ tufcheck verify --state one --metadata metadata --targets targets --out two
+  root 1
+  end timestamp Expired
+  [2]
+
+A root of another version.
+  $ make
+  > @keys
+  > write root 7 1
+  $ tufcheck init metadata/7.root.json --out one
+  root 7

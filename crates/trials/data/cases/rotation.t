@@ -1,0 +1,165 @@
+The same, where the second repository has other keys: what they were for is no longer trusted, and lower versions of it
+are let in.
+
+A rotated timestamp key lets a lower version in.
+  $ make
+  > @keys
+  > write root 1 1
+  > write targets 1 4
+  > write snapshot 1 3
+  > write timestamp 9 2
+  $ init one
+  root 1
+  $ verify one two
+  root 1
+  end ready
+  $ make
+  > @keys
+  > key 5 5
+  > top timestamp 1 5
+  > write root 2 1
+  > write targets 1 4
+  > write snapshot 1 3
+  > write timestamp 1 5
+  $ verify two three
+  root 2
+  end ready
+  $ keeps three
+  root snapshot targets timestamp
+
+A snapshot key changed and changed back.
+  $ make
+  > @keys
+  > write root 1 1
+  > write targets 1 4
+  > write snapshot 1 3
+  > write timestamp 9 2
+  $ init one
+  root 1
+  $ verify one two
+  root 1
+  end ready
+  $ make
+  > @keys
+  > key 5 5
+  > top snapshot 1 5
+  > write root 2 1
+  > top snapshot 1 3
+  > write root 3 1
+  > write targets 1 4
+  > write snapshot 1 3
+  > write timestamp 1 2
+  $ verify two three
+  root 3
+  end ready
+  $ keeps three
+  root snapshot targets timestamp
+
+Rotation after a fast forward.
+  $ make
+  > @keys
+  > write root 1 1
+  > write targets 1 4
+  > write snapshot 1 3
+  > write timestamp 9223372036854775807 2
+  $ init one
+  root 1
+  $ verify one two
+  root 1
+  end ready
+  $ make
+  > @keys
+  > key 5 5
+  > top timestamp 1 5
+  > write root 2 1
+  > write targets 1 4
+  > write snapshot 1 3
+  > write timestamp 1 5
+  $ verify two three
+  root 2
+  end ready
+  $ keeps three
+  root snapshot targets timestamp
+
+Rotation and then an unsigned root.
+  $ make
+  > @keys
+  > write root 1 1
+  > write targets 1 4
+  > write snapshot 1 3
+  > write timestamp 1 2
+  $ init one
+  root 1
+  $ verify one two
+  root 1
+  end ready
+  $ make
+  > @keys
+  > key 5 5
+  > top timestamp 1 5
+  > write root 2 1
+  > write root 3 2
+  > write targets 1 4
+  > write snapshot 1 3
+  > write timestamp 1 5
+  $ verify two three
+  root 2
+  end root Unsigned
+  [2]
+  $ keeps three
+  root targets
+
+The same ids in another order, with another threshold.
+  $ make
+  > @keys
+  > key 5 5
+  > top timestamp 1 2,5
+  > write root 1 1
+  > write targets 1 4
+  > write snapshot 1 3
+  > write timestamp 9 2
+  $ init one
+  root 1
+  $ verify one two
+  root 1
+  end ready
+  $ make
+  > @keys
+  > key 5 5
+  > top timestamp 2 5,2,5
+  > write root 2 1
+  > write targets 1 4
+  > write snapshot 1 3
+  > write timestamp 8 2,5
+  $ verify two three
+  root 2
+  end timestamp Rollback
+  [2]
+  $ keeps three
+  root snapshot targets timestamp
+
+A key that is added is another set of keys, too.
+  $ make
+  > @keys
+  > write root 1 1
+  > write targets 1 4
+  > write snapshot 1 3
+  > write timestamp 9 2
+  $ init one
+  root 1
+  $ verify one two
+  root 1
+  end ready
+  $ make
+  > @keys
+  > key 5 5
+  > top timestamp 1 2,5
+  > write root 2 1
+  > write targets 1 4
+  > write snapshot 1 3
+  > write timestamp 1 2
+  $ verify two three
+  root 2
+  end ready
+  $ state right root=metadata/2.root.json snapshot=metadata/snapshot.json targets=metadata/targets.json timestamp=metadata/timestamp.json
+  $ same three right

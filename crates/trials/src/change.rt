@@ -1,0 +1,65 @@
+//! Files with one part changed.
+
+use crate::script::joined;
+use crate::shell::{Shell, Told};
+use anyhow::{Context, Result, bail};
+use cjson::{canonical, read_tree, signed_bytes};
+use lms::Height;
+use maker::{Signer, seal, secret};
+use serde_json::Value;
+use std::alloc::Global;
+use std::fs;
+use std::rt::{Clock, Files};
+
+/// Puts a text in the place of another where this stands first in the file. The first line is the old text, in which
+/// `...` stands for as little as may be, and the others are the new one. With the byte of a key, the change is made in
+/// what the file signs, and the key signs it under the id that signed it before.
+pub fn change<R: Files + Clock + AllocGlobal + Clone + Drop>(
+    shell: &Shell<'_, R>,
+    name: &str,
+    key: Option<&String>,
+    lines: &[String],
+) -> Result<Told> {
+    let alloc = shell.alloc;
+    let (old, new) = lines
+        .split_first()
+        .context("no text that is to be changed")?;
+    let new = joined(alloc, new)?;
+    let file = fs::read(shell.rt, name)?;
+    let bytes = match key {
+        None => changed(alloc, file.as_slice(), old.as_str(), new.as_str())?,
+        Some(key) => {
+            let doc = signed_bytes(alloc, file.as_slice())?;
+            let signer = Signer {
+                id: String::from_str(alloc, doc.entries().first().context("no entry")?.keyid())?,
+                secret: secret(alloc, key.as_str().parse::<u8>()?, Height::H5)?,
+            };
+            let text = changed(alloc, doc.bytes(), old.as_str(), new.as_str())?;
+            sealed(alloc, text.as_slice(), signer)?
+        }
+    };
+    fs::write(shell.rt, name, bytes.as_slice())?;
+    Ok(Told::nothing(alloc))
+}
+
+/// The text with the new part in place of the old.
+fn changed(alloc: Global, text: &[u8], old: &str, new: &str) -> Result<Vec<u8>> {
+    let (from, to) = old.split_once("...").unwrap_or((old, ""));
+    let text = std::str::from_utf8(text)?;
+    let (before, rest) = text.split_once(from).context("the old text isn't there")?;
+    let (_, after) = rest.split_once(to).context("the old text has no end")?;
+    let text = format!(in alloc; "{before}{new}{after}")?;
+    Ok(Vec::from_slice(alloc, text.as_bytes())?)
+}
+
+/// The file that signs that text.
+fn sealed(alloc: Global, text: &[u8], signer: Signer) -> Result<Vec<u8>> {
+    let Value::Object(members) = read_tree(alloc, text)? else {
+        bail!("no object");
+    };
+    let value = Value::Object(members);
+    let Ok(_) = canonical(alloc, &value) else {
+        bail!("no canonical text");
+    };
+    Ok(seal(alloc, &value, &mut [signer], &[0])?)
+}

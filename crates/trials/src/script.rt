@@ -1,0 +1,67 @@
+//! The lines that are handed to a command.
+
+use anyhow::{Context, Result};
+use std::alloc::Global;
+use std::fs;
+use std::rt::Files;
+
+/// The text of the lines, joined by line feeds.
+pub fn joined(alloc: Global, lines: &[String]) -> Result<String> {
+    let mut text = String::new(alloc);
+    let mut is_first = true;
+    for line in lines {
+        if !is_first {
+            text.push('\n')?;
+        }
+        is_first = false;
+        text.push_str(line.as_str())?;
+    }
+    Ok(text)
+}
+
+/// The script that the lines spell, each ended by a line feed. `@NAME` stands for the lines of the file `NAME.script`
+/// among the cases, and `@FIRST..LAST TEXT` for a line TEXT for each number, in which `{}` is the number and `{+}` the
+/// one after it.
+pub fn script_of<R: Files + AllocGlobal>(
+    rt: &R,
+    alloc: Global,
+    lines: &[String],
+) -> Result<String> {
+    let mut script = String::new(alloc);
+    for line in lines {
+        match line.as_str().strip_prefix("@") {
+            None => push_line(&mut script, line.as_str())?,
+            Some(short) => match short.split_once(" ") {
+                None => script.push_str(prologue(rt, alloc, short)?.as_str())?,
+                Some((range, line)) => push_repeats(alloc, &mut script, range, line)?,
+            },
+        }
+    }
+    Ok(script)
+}
+
+fn push_line(script: &mut String, line: &str) -> Result<()> {
+    script.push_str(line)?;
+    script.push('\n')?;
+    Ok(())
+}
+
+fn prologue<R: Files + AllocGlobal>(rt: &R, alloc: Global, name: &str) -> Result<String> {
+    let path = format!(in alloc; "cases/{name}.script")?;
+    fs::read_to_string(rt, path.as_str()).context("no file of that name and .script")
+}
+
+fn push_repeats(alloc: Global, script: &mut String, range: &str, line: &str) -> Result<()> {
+    let (first, last) = range.split_once("..").context("no range")?;
+    let first = first.parse::<u32>()?;
+    let last = last.parse::<u32>()?;
+    for number in first..=last {
+        let next = number.saturating_add(1);
+        let number = format!(in alloc; "{number}")?;
+        let next = format!(in alloc; "{next}")?;
+        let line = line.replace(alloc, "{}", number.as_str())?;
+        let line = line.as_str().replace(alloc, "{+}", next.as_str())?;
+        push_line(script, line.as_str())?;
+    }
+    Ok(())
+}
