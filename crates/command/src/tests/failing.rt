@@ -1,20 +1,27 @@
-//! A folder that fails, for tests.
+//! Folders that fail.
 ghost use Rattle.std.specs.Prelude.{◌≡◌, ◌≤◌, ◌<◌, ◌⊎◌, ◌^◌, ◌-◌, true, IsErr, OnErr};
 ghost use Rattle.folder.specs.Folders.{HasFailed};
 
+use super::place::NOW;
+use super::words;
+use crate::sample;
+use crate::update::{Start, verify_from};
+use cycle::{Moment, Trusted};
 use folder::{Folder, LoadFault};
 use std::alloc::Global;
+use std::fs;
+use std::test::Fail;
 
 /// A folder of two files, `a` and `b`, with two bytes each. Some calls succeed, and all later ones fail.
 #[derive(Drop)]
-pub struct Failing {
+struct Failing {
     calls: u64,
     faults: u64,
 }
 
 impl Failing {
     /// The folder whose first `calls` calls succeed.
-    pub fn after(calls: u64) -> Failing {
+    fn after(calls: u64) -> Failing {
         Failing { calls, faults: 0 }
     }
 
@@ -55,4 +62,45 @@ impl Folder for Failing {
     fn failed(&self) -> u64 {
         self.faults
     }
+}
+
+/// What begins from the sample repository's root.
+fn start_of<'a>(alloc: Global, wanted: &'a [String], state: &'a str) -> Result<Start<'a>, Fail> {
+    let repo = sample::repository(alloc, sample::SCRIPT)?;
+    let root = repo.metadata.get("1.root.json").ok_or("a root")?;
+    Ok(Start {
+        trusted: Trusted::from_root(alloc, root.as_slice())?,
+        moment: Moment::read(NOW).ok_or(NOW)?,
+        wanted,
+        limit: 32,
+        state,
+    })
+}
+
+#[test]
+fn a_folder_that_fails_leaves_no_state(rt: HostRuntime) -> Result<(), Fail> {
+    let alloc = rt.alloc();
+    let state = "a_folder_that_fails_leaves_no_state";
+    let wanted = words(alloc, "p")?;
+    let start = start_of(alloc, wanted.as_slice(), state)?;
+    for (first, second) in [(0, 3), (1, 3), (2, 3), (3, 0), (3, 1), (3, 2)] {
+        let mut metadata = Failing::after(first);
+        let mut targets = Failing::after(second);
+        let mut out = Vec::new(alloc);
+        let mut err = Vec::new(alloc);
+        let status = verify_from(
+            &rt,
+            alloc,
+            &start,
+            &mut metadata,
+            &mut targets,
+            &mut out,
+            &mut err,
+        );
+        assert_eq!(rt; status, 4);
+        assert!(rt; out.is_empty());
+        assert_eq!(rt; err.as_slice(), b"tufcheck: folder\n".as_slice());
+        assert!(rt; fs::metadata(&rt, state).is_err());
+    }
+    Ok(())
 }

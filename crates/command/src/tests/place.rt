@@ -9,26 +9,6 @@ use std::test::Fail;
 /// The moment of the runs.
 pub const NOW: &str = "2026-01-01T00:00:00Z";
 
-/// The lines that make four keys, one for each top-level role.
-pub const KEYS: &str = "\
-key 1 5
-key 2 5
-key 3 5
-key 4 5
-top root 1 1
-top timestamp 1 2
-top snapshot 1 3
-top targets 1 4
-";
-
-/// The lines that write the files but the root, with one target.
-pub const FILES: &str = "\
-target targets abc.txt 616263 sha256
-write targets 1 4
-write snapshot 1 3
-write timestamp 1 2
-";
-
 /// The lines of a run in which all is good.
 pub const GOOD: &str = "root 1\nend ready\nok \"abc.txt\" 3 \"targets\"\n";
 
@@ -83,14 +63,9 @@ impl<'a, R: Files + Clock + AllocGlobal + Clone + Drop> Place<'a, R> {
 
     /// Verifies the paths from the state `old`, and writes the state `new`.
     pub fn verify(&self, old: &str, new: &str, paths: &str) -> Result<Run, Fail> {
-        self.verify_at(NOW, old, new, paths)
-    }
-
-    /// Verifies the paths at a moment.
-    pub fn verify_at(&self, now: &str, old: &str, new: &str, paths: &str) -> Result<Run, Fail> {
         let folder = self.folder;
         let line = format!(in self.alloc;
-            "verify --state {folder}/{old} --metadata {folder}/metadata --targets {folder}/targets --now {now} --out {folder}/{new} {paths}"
+            "verify --state {folder}/{old} --metadata {folder}/metadata --targets {folder}/targets --now {NOW} --out {folder}/{new} {paths}"
         )?;
         Ok(Run::of(self.rt, self.alloc, line.as_str())?)
     }
@@ -101,40 +76,10 @@ impl<'a, R: Files + Clock + AllocGlobal + Clone + Drop> Place<'a, R> {
         Ok(fs::read(self.rt, path.as_str())?)
     }
 
-    /// Writes a file in the folder.
-    pub fn write(&self, name: &str, bytes: &[u8]) -> Result<(), Fail> {
-        let path = self.path(name)?;
-        Ok(fs::write(self.rt, path.as_str(), bytes)?)
-    }
-
-    /// Whether there is a file of that name.
-    pub fn has(&self, name: &str) -> Result<bool, Fail> {
-        let path = self.path(name)?;
-        Ok(fs::metadata(self.rt, path.as_str()).is_ok())
-    }
-
     /// Removes a file in the folder.
     pub fn remove(&self, name: &str) -> Result<(), Fail> {
         let path = self.path(name)?;
         Ok(fs::remove_file(self.rt, path.as_str())?)
-    }
-
-    /// The files that the state of that name keeps, each by its first letters: root, snapshot, targets, timestamp.
-    pub fn kept(&self, state: &str) -> Result<String, Fail> {
-        let bytes = self.read(state)?;
-        let text = std::str::from_utf8(bytes.as_slice())?;
-        let mut kept = String::new(self.alloc);
-        for (member, letters) in [
-            ("\"root\":", "ro"),
-            ("\"snapshot\":", "sn"),
-            ("\"targets\":", "ta"),
-            ("\"timestamp\":", "ti"),
-        ] {
-            if text.contains(member) {
-                kept.push_str(letters)?;
-            }
-        }
-        Ok(kept)
     }
 
     /// Removes the folder.
