@@ -1,14 +1,59 @@
--- What an answer shows of what was told.
-use Rattle.std.proofs.Common.{◌≡◌, ◌≤◌, ◌⊎◌, inl, inr, ℕ, Result, Ok, Err, IfErr, IfOk, OnOk, arith, subst, sym}
+-- What a verification did, out of what its steps did.
+use Rattle.std.proofs.Common.{◌≡◌, ◌≢◌, ◌⊎◌, inl, inr, Result, Ok, Err, IfErr, IfOk, OnErr, OnOk, List, ℕ, Bool, true, false, Option, ap, sym, ◌∙◌, true≢false}
+use Rattle.std.specs.Bool.{⊤}
+use Rattle.std.specs.Io.KnownBytes.{Appends}
+use Rattle.examine.specs.Expecting.{file_in}
+use Rattle.cycle.specs.Workflow.{Outcome}
+use Rattle.report.specs.Lines.{outcome_text}
+use Rattle.report.specs.Status.{outcome_status}
+use Rattle.report.specs.declared.failure.Failure.{Failure}
+use Rattle.report.specs.declared.failure.Failure.TheVariants as failure
+use Rattle.command.specs.Told.{IsStored, IsTold, Loaded, Start, outcome_of, state_text}
 
--- a status of at most 2 is an answer's
-pub of_status : {E : Type 0} (P : ℕ → Type 0) (r : Result ℕ E) (status : ℕ)
-    → IfOk r P → IfOk r (λ answer. status ≡ answer) → IfErr r (λ _. (status ≡ 3) ⊎ (status ≡ 4)) → status ≤ 2 → P status
-of_status P (Ok x) status h same k low = subst P (sym same) h
-of_status P (Err e) status h same (inl three) low = absurd (omega arith)
-of_status P (Err e) status h same (inr four) low = absurd (omega arith)
+abbrev is_folder : Failure → Bool
+is_folder failure.Folder = true
+is_folder _ = false
 
--- what holds of an answer, by two facts
-pub IfOk-so : {A E : Type 0} (P : Type 0) (Q R : A → Type 0) (r : Result A E) → ((x : A) → P → Q x → R x) → OnOk r P → IfOk r Q → IfOk r R
-IfOk-so P Q R (Ok x) f h k = f x h k
-IfOk-so P Q R (Err e) f h k = tt
+-- want of memory and a refused output are no failed folder
+pub no_folder : {A : Type 0} (r : Result A Failure) → IfErr r (λ f. (f ≡ failure.Memory) ⊎ (f ≡ failure.Output)) → IfErr r (λ f. f ≢ failure.Folder)
+no_folder (Ok x) h = tt
+no_folder (Err e) (inl is) = λ folder. true≢false (sym (ap is_folder folder) ∙ ap is_folder is)
+no_folder (Err e) (inr is) = λ folder. true≢false (sym (ap is_folder folder) ∙ ap is_folder is)
+
+-- the lines and the status of an answer
+pub told : {E : Type 0} (o : Outcome) (wanted : List (List ℕ)) (old new : Option (List ℕ)) (r : Result ℕ E)
+    → OnOk r (Appends old new (outcome_text o wanted)) → IfOk r (λ status. status ≡ outcome_status o)
+    → IfOk r (λ status. IsTold o wanted status old new)
+told o wanted old new (Ok status) lines answered = record { lines = lines; answered = answered }
+told o wanted old new (Err e) lines answered = tt
+
+-- what holds anyway holds after an answer, and after a failure
+pub after_answer : {A E : Type 0} {P : Type 0} (r : Result A E) → P → OnOk r P
+after_answer (Ok x) p = p
+after_answer (Err e) p = tt
+
+pub after_failure : {A E : Type 0} {P : Type 0} (r : Result A E) → P → OnErr r P
+after_failure (Ok x) p = tt
+after_failure (Err e) p = p
+
+module _ (of_metadata of_targets : Loaded → Type 0) (start : Start) (keeps : List ℕ → Bool) (metadata targets : Loaded) where
+  -- the new state of what was loaded is stored, and more holds of the outcome
+  pub stored : (P : Outcome → Type 0) → of_metadata metadata → of_targets targets
+      → keeps (state_text (outcome_of start (file_in metadata) (file_in targets)).trusted) ≡ true
+      → P (outcome_of start (file_in metadata) (file_in targets))
+      → IsStored of_metadata of_targets start keeps P
+  stored P m t kept then = record { metadata = metadata; targets = targets; in_metadata = m; in_targets = t; kept = kept; then = then }
+
+  pub stored_answer : {E : Type 0} (P : Outcome → ℕ → Type 0) (r : Result ℕ E) → of_metadata metadata → of_targets targets
+      → OnOk r (keeps (state_text (outcome_of start (file_in metadata) (file_in targets)).trusted) ≡ true)
+      → IfOk r (P (outcome_of start (file_in metadata) (file_in targets)))
+      → IfOk r (λ status. IsStored of_metadata of_targets start keeps (λ o. P o status))
+  stored_answer P (Ok status) m t kept then = stored _ m t kept then
+  stored_answer P (Err e) m t kept then = tt
+
+  pub stored_failure : {E : Type 0} (Q : Type 0) (r : Result ℕ E) → of_metadata metadata → of_targets targets
+      → OnErr r (Q ⊎ (keeps (state_text (outcome_of start (file_in metadata) (file_in targets)).trusted) ≡ true))
+      → OnErr r (Q ⊎ IsStored of_metadata of_targets start keeps (λ _. ⊤))
+  stored_failure Q (Ok status) m t h = tt
+  stored_failure Q (Err e) m t (inl same) = inl same
+  stored_failure Q (Err e) m t (inr kept) = inr (stored _ m t kept tt)

@@ -1,20 +1,37 @@
 //! The moment of a verification.
+ghost use Rattle.std.specs.Prelude.{◌≡◌, ◌≢◌, IfErr, IfOk, None, Some, option_map};
+ghost use Rattle.moment.specs.Moment.{moment_of};
+ghost use Rattle.command.specs.Moments.{IsMomentOf, IsNoMoment};
 
+use crate::system::System;
 use cycle::Moment;
 use report::Failure;
-use std::rt::Clock;
-use std::time::SystemTime;
 
-/// The moment that the text names, or the clock's without its fraction of a second.
-pub fn moment<R: Clock>(rt: &R, now: Option<&str>) -> Result<Moment, Failure> {
-    if let Some(text) = now {
-        return Moment::read(text).ok_or(Failure::Now);
+/// The moment that the text spells, or without a text the clock's, without its fraction of a second.
+pub(crate) fn moment<S: System>(system: &S, text: Option<&str>) -> Result<Moment, Failure>
+    ensures moment { IfOk result (IsMomentOf (S.shows system.now) (option_map (λ t. t.now) text.entry)) }
+    ensures refused { IfErr result (λ f. f ≡ Failure.Now
+        → IsNoMoment (option_map (λ t. t.now) text.entry)) }
+{
+    match text {
+        Some(text) => spelled(text),
+        None => shown(system),
     }
-    let Ok(time) = SystemTime::now(rt) else {
-        return Err(Failure::Clock);
-    };
-    match time.duration_since(SystemTime::UNIX_EPOCH) {
-        Ok(since) => Moment::at(since.as_secs()).ok_or(Failure::Clock),
-        Err(_) => Err(Failure::Clock),
-    }
+}
+
+/// The moment that the text spells.
+fn spelled(text: &str) -> Result<Moment, Failure>
+    ensures moment { IfOk result (λ m. moment_of text.now ≡ Some m) }
+    ensures refused { IfErr result (λ _. moment_of text.now ≡ None) }
+{
+    Moment::read(text).ok_or(Failure::Now)
+}
+
+/// The moment that the clock shows.
+fn shown<S: System>(system: &S) -> Result<Moment, Failure>
+    ensures moment { IfOk result (IsMomentOf (S.shows system.now) None) }
+    ensures refused { IfErr result (λ f. f ≡ Failure.Clock) }
+{
+    let seconds = system.seconds().ok_or(Failure::Clock)?;
+    Moment::at(seconds).ok_or(Failure::Clock)
 }

@@ -1,21 +1,22 @@
-//! A run of the program.
+//! What given words ask for.
 ghost use Rattle.std.specs.Prelude.{◌≡◌, ◌≤◌, ◌⊎◌, ◌↔◌, true, IfErr, IfOk};
 ghost use Rattle.report.specs.Failures.{is_callers};
 
+use crate::machine::Machine;
 use crate::making::make;
 use crate::sample;
-use crate::state::init;
-use crate::storage::read_file;
-use crate::update::verify;
-use crate::words::{self, Task};
+use crate::state::{init, read_file};
+use crate::update::{Folders, verify};
+use crate::words::{self, Task, Verify};
 use clap::ArgMatches;
 use clap::error::ErrorKind;
-use report::{Failure, put, told};
+use folder::{Depth, Disk};
+use report::{Failure, put, tell_failure};
 use std::alloc::Global;
 use std::io::Write;
 use std::rt::{Clock, Files};
 
-/// Does what the words after the program's name ask, or without a word verifies the sample
+/// Does what the words after the program's name ask for, or without a word verifies the sample
 /// repository, and answers the exit status: 0 where all wanted targets are good,
 /// 1 where one is refused, 2 where the update stopped or the root was refused, 3 for a mistake of the caller and 4 for
 /// a refusal of the system. The lines go to `out`, and what is said of a mistake or a refusal goes to `err`.
@@ -31,61 +32,77 @@ pub fn perform<R: Files + Clock + AllocGlobal + Clone + Drop, W: Write, E: Write
     let done = if words.is_empty() {
         sample::run(alloc, out)
     } else {
-        asked(rt, alloc, words, out, err)
+        perform_words(rt, alloc, words, out, err)
     };
-    settled(done, err)
+    status_of(done, err)
 }
 
-fn asked<R: Files + Clock + AllocGlobal + Clone + Drop, W: Write, E: Write>(
+fn perform_words<R: Files + Clock + AllocGlobal + Clone + Drop, W: Write, E: Write>(
     rt: &R,
     alloc: Global,
     words: &[String],
     out: &mut W,
     err: &mut E,
 ) -> Result<u8, Failure>
-    ensures known { IfOk result (λ status. status ≤ 4) }
+    ensures known { IfOk result (λ status. status ≤ 3) }
 {
     match words::parse(alloc, words) {
-        Ok(matches) => done_for(rt, alloc, &matches, out, err),
-        Err(error) => refused(alloc, &error, out, err),
+        Ok(matches) => perform_task(rt, alloc, &matches, out),
+        Err(error) => refuse_words(alloc, &error, out, err),
     }
 }
 
-fn done_for<R: Files + Clock + AllocGlobal + Clone + Drop, W: Write, E: Write>(
+fn perform_task<R: Files + Clock + AllocGlobal + Clone + Drop, W: Write>(
     rt: &R,
     alloc: Global,
     matches: &ArgMatches<'_>,
     out: &mut W,
-    err: &mut E,
 ) -> Result<u8, Failure>
-    ensures known { IfOk result (λ status. status ≤ 4) }
+    ensures known { IfOk result (λ status. status ≤ 2) }
 {
-    match words::task_of(matches) {
+    match words::task_of(alloc, matches)? {
         None => Err(Failure::Words),
-        Some(Task::Init { root, out: state }) => init(rt, alloc, root, state, out),
+        Some(Task::Init { root, out: state }) => {
+            init(alloc, &mut Machine::new(rt), root, state, out)
+        }
         Some(Task::Make { script, folder }) => make_from(rt, alloc, script, folder),
-        Some(Task::Verify(task)) => {
-            let wanted = words::wanted(alloc, matches)?;
-            verify(rt, alloc, &task, wanted.as_slice(), out, err)
+        Some(Task::Verify(task)) => verify_on_disk(rt, alloc, &task, out),
+    }
+}
+
+/// Verifies the folders of the file system that the words name.
+fn verify_on_disk<R: Files + Clock + AllocGlobal + Clone + Drop, W: Write>(
+    rt: &R,
+    alloc: Global,
+    task: &Verify<'_>,
+    out: &mut W,
+) -> Result<u8, Failure>
+    ensures known { IfOk result (λ status. status ≤ 2) }
+{
+    let mut folders = Folders {
+        metadata: Disk::new(rt, task.metadata, Depth::Here),
+        targets: Disk::new(rt, task.targets, Depth::Below),
+    };
+    verify(alloc, &mut Machine::new(rt), task, &mut folders, out)
+}
+
+/// The status, after a failure was told.
+pub(crate) fn status_of<E: Write>(done: Result<u8, Failure>, err: &mut E) -> u8
+    ensures status { IfOk done (λ status. result ≡ status) }
+    ensures caller { IfErr done (λ failure. (result ≡ 3) ↔ (is_callers failure ≡ true)) }
+    ensures failed { IfErr done (λ _. (result ≡ 3) ⊎ (result ≡ 4)) }
+{
+    match done {
+        Ok(status) => status,
+        Err(failure) => {
+            let _ = tell_failure(failure, err);
+            failure.status()
         }
     }
 }
 
-/// The status, after a failure was told.
-pub fn settled<E: Write>(done: Result<u8, Failure>, err: &mut E) -> u8
-    ensures status { IfOk done (λ status. result ≡ status) }
-    ensures caller { IfErr done (λ failure. (result ≡ 3) ↔ (is_callers failure ≡ true)) }
-    ensures failed { IfErr done (λ _. (result ≡ 3) ⊎ (result ≡ 4)) }
-    ensures known { IfOk done (λ status. status ≤ 4) → result ≤ 4 }
-{
-    match done {
-        Ok(status) => status,
-        Err(failure) => told(failure, err),
-    }
-}
-
 /// Prints what `clap` says of the words: help to `out` with status 0, a mistake to `err` with status 3.
-fn refused<W: Write, E: Write>(
+fn refuse_words<W: Write, E: Write>(
     alloc: Global,
     error: &clap::Error,
     out: &mut W,
@@ -106,7 +123,7 @@ fn refused<W: Write, E: Write>(
 }
 
 /// Writes what the script of that path makes below the folder.
-fn make_from<R: Files + AllocGlobal>(
+fn make_from<R: Files + Clock + AllocGlobal>(
     rt: &R,
     alloc: Global,
     script: &str,
@@ -114,6 +131,6 @@ fn make_from<R: Files + AllocGlobal>(
 ) -> Result<u8, Failure>
     ensures status { IfOk result (λ status. status ≡ 0) }
 {
-    let script = read_file(rt, script, Failure::Input)?;
+    let script = read_file(&Machine::new(rt), script, Failure::Input)?;
     make(rt, alloc, script.as_slice(), folder)
 }

@@ -1,16 +1,19 @@
 //! The command line: what its words ask for is done, and the status is answered.
 //!
 //! - [`run`] does what the words of the process ask for, and [`perform`] what given words ask for.
-//! - [`verify_from`] is a verification of two folders, whose status and lines are the workflow's.
+//! - [`verify_from`] is a verification of two [`Folders`] from a [`Start`]: its status, its lines and the state that it
+//!   stores are the workflow's.
+//! - [`System`] is what it asks for single files and the clock.
 #![tactic(auto)]
 
 mod clock;
 mod dispatch;
+mod machine;
 mod making;
 mod process;
 mod sample;
 mod state;
-mod storage;
+mod system;
 #[cfg(test)]
 mod tests;
 mod update;
@@ -18,4 +21,5 @@ mod words;
 
 pub use dispatch::perform;
 pub use process::run;
-pub use update::{Start, verify_from};
+pub use system::System;
+pub use update::{Folders, Start, verify_from};

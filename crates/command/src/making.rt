@@ -1,7 +1,6 @@
 //! Repositories that a script makes.
 ghost use Rattle.std.specs.Prelude.{◌≡◌, IfOk};
 
-use crate::storage::write_file;
 use folder::joined;
 use report::{Failure, of_io};
 use std::alloc::Global;
@@ -36,7 +35,10 @@ fn write_below<R: Files>(
 ) -> Result<(), Failure> {
     let path = joined(alloc, folder, name)?;
     make_folders_of(rt, path.as_str())?;
-    write_file(rt, path.as_str(), bytes)
+    match fs::write(rt, path.as_str(), bytes) {
+        Ok(()) => Ok(()),
+        Err(error) => Err(of_io(&error, Failure::Output)),
+    }
 }
 
 fn make_folders_of<R: Files>(rt: &R, path: &str) -> Result<(), Failure> {

@@ -1,8 +1,8 @@
 //! The words of the process.
 ghost use Rattle.std.specs.Prelude.{◌≤◌};
 
-use crate::dispatch::perform;
-use report::{Failure, of_io, told};
+use crate::dispatch::{perform, status_of};
+use report::{Failure, of_io};
 use std::alloc::Global;
 use std::env;
 use std::io::Write;
@@ -19,7 +19,7 @@ pub fn run<R: Env + Files + Clock + AllocGlobal + Clone + Drop, W: Write, E: Wri
 {
     match words_of(rt, alloc) {
         Ok(words) => perform(rt, alloc, words.as_slice(), out, err),
-        Err(failure) => told(failure, err),
+        Err(failure) => status_of(Err(failure), err),
     }
 }
 

@@ -1,7 +1,8 @@
 //! A small repository, made in memory: one key for each role, and one target, `abc.txt`.
-ghost use Rattle.std.specs.Prelude.{◌≤◌, IfOk};
+ghost use Rattle.std.specs.Prelude.{◌≤◌, ℕ, List, IfOk, map, string_bytes};
+ghost use Rattle.command.specs.Told.{IsSampled};
 
-use cycle::{Limits, Moment, Outcome, Repo, Trusted, run_alone};
+use cycle::{Limits, Moment, Repo, Trusted, run_alone};
 use report::{Failure, tell};
 use std::alloc::Global;
 use std::collections::BTreeMap;
@@ -64,25 +65,25 @@ fn first_state(alloc: Global, repo: &Repo) -> Result<Trusted, Failure> {
     Ok(Trusted::from_root(alloc, root.as_slice())?)
 }
 
-/// Makes the repository, verifies its target and prints the lines.
+/// Makes the repository, verifies its target, prints the lines and answers the status.
 pub fn run<W: Write>(alloc: Global, out: &mut W) -> Result<u8, Failure>
-    ensures known { IfOk result (λ status. status ≤ 2) }
-{
-    let repo = repository(alloc, SCRIPT)?;
-    verified(alloc, &repo, out)
-}
-
-fn verified<W: Write>(alloc: Global, repo: &Repo, out: &mut W) -> Result<u8, Failure>
+    ensures sampled { IfOk result (λ status. (wanted : List (List ℕ))
+        × IsSampled wanted status (W.contents out.old) (W.contents out.new)) }
     ensures known { IfOk result (λ status. status ≤ 2) }
 {
     let wanted = [String::from_str(alloc, "abc.txt")?];
-    let outcome = outcome_of(alloc, repo, &wanted)?;
-    tell(alloc, &outcome, &wanted, out)
+    verify(alloc, &wanted, out)
 }
 
-fn outcome_of(alloc: Global, repo: &Repo, wanted: &[String]) -> Result<Outcome, Failure> {
+fn verify<W: Write>(alloc: Global, wanted: &[String], out: &mut W) -> Result<u8, Failure>
+    ensures sampled { IfOk result (λ status. IsSampled (map string_bytes wanted.now) status
+        (W.contents out.old) (W.contents out.new)) }
+    ensures known { IfOk result (λ status. status ≤ 2) }
+{
+    let repo = repository(alloc, SCRIPT)?;
     let now = Moment::read(MOMENT).ok_or(Failure::Now)?;
     let limits = Limits::new(32, 4096).ok_or(Failure::Words)?;
-    let trusted = first_state(alloc, repo)?;
-    Ok(run_alone(alloc, &trusted, repo, now, wanted, &limits)?)
+    let trusted = first_state(alloc, &repo)?;
+    let outcome = run_alone(alloc, &trusted, &repo, now, wanted, &limits)?;
+    tell(alloc, &outcome, wanted, out)
 }

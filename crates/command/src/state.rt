@@ -1,72 +1,125 @@
 //! The state file.
-ghost use Rattle.std.specs.Prelude.{◌≡◌, ◌⊎◌, IfOk};
+ghost use Rattle.std.specs.Prelude.{◌≡◌, ◌⊎◌, true, IfErr, IfOk, OnOk};
+ghost use Rattle.std.specs.Io.KnownBytes.{Appends};
+ghost use Rattle.report.specs.Lines.{end_text, root_text};
+ghost use Rattle.rolechain.specs.declared.end.End.TheVariants.{Stopped};
+ghost use Rattle.rolechain.specs.declared.end.Step.TheVariants.{Root};
+ghost use Rattle.command.specs.Faults as spec;
+ghost use Rattle.command.specs.Told.{IsRead, IsRefused, IsTrusted, state_text};
 
-use crate::storage::{read_file, write_file};
+use crate::system::System;
 use cycle::{End, Fault, StateFault, Step, Trusted};
-use report::{Failure, push_end, put, root_line};
+use report::{Failure, of_io, push_end, put, root_line};
 use std::alloc::Global;
 use std::io::Write;
-use std::rt::Files;
+
+/// The bytes of the file. A file that can't be read is the failure `other`, or want of memory.
+pub(crate) fn read_file<S: System>(
+    system: &S,
+    path: &str,
+    other: Failure,
+) -> Result<Vec<u8>, Failure>
+    ensures given { IfOk result (λ bytes. S.gives system.now path.now bytes.items ≡ true) }
+    ensures refused { IfErr result (λ f. (f ≡ Failure.Memory) ⊎ (f ≡ other)) }
+{
+    match system.read(path) {
+        Ok(bytes) => Ok(bytes),
+        Err(error) => Err(of_io(&error, other)),
+    }
+}
 
 /// The trusted state that the file holds.
-pub fn read_state<R: Files + AllocGlobal>(
-    rt: &R,
+pub(crate) fn read_state<S: System>(
     alloc: Global,
+    system: &S,
     path: &str,
-) -> Result<Trusted, Failure> {
-    let text = read_file(rt, path, Failure::State)?;
+) -> Result<Trusted, Failure>
+    ensures read { IfOk result (IsRead (S.gives system.now path.now)) }
+{
+    let text = read_file(system, path, Failure::State)?;
     Ok(Trusted::from_text(alloc, text.as_slice())?)
 }
 
-/// Writes the state file, in place.
-pub fn write_state<R: Files>(
-    rt: &R,
+/// Stores the state as a file.
+#[tactic(auto, unfolding(crate::specs::Told::state_text))]
+pub(crate) fn keep_state<S: System>(
     alloc: Global,
+    system: &mut S,
     path: &str,
     trusted: &Trusted,
-) -> Result<(), Failure> {
+) -> Result<(), Failure>
+    ensures kept { OnOk result (S.keeps system.new path.now (state_text trusted.now) ≡ true) }
+    ensures refused { IfErr result (λ f. (f ≡ Failure.Memory) ⊎ (f ≡ Failure.Output)) }
+{
     let text = trusted.to_text(alloc)?;
-    write_file(rt, path, text.as_slice())
+    match system.store(path, text.as_slice()) {
+        Ok(()) => Ok(()),
+        Err(error) => Err(of_io(&error, Failure::Output)),
+    }
 }
 
-/// Writes a state with the root and prints its version. Where the root is refused, the fault is printed, nothing is
-/// written, and the status is 2.
-pub fn init<R: Files + AllocGlobal, W: Write>(
-    rt: &R,
+/// Trusts a root file because it was handed in: stores a state with it alone, prints its version and answers 0. Where
+/// the root is refused, its fault is printed, nothing is stored, and the answer is 2.
+pub(crate) fn init<S: System, W: Write>(
     alloc: Global,
+    system: &mut S,
     root: &str,
     state: &str,
     out: &mut W,
 ) -> Result<u8, Failure>
     ensures status { IfOk result (λ status. (status ≡ 0) ⊎ (status ≡ 2)) }
+    ensures trusted { IfOk result (λ status. status ≡ 0 → IsTrusted (S.gives system.old root.now)
+        (S.keeps system.new state.now) (W.contents out.old) (W.contents out.new)) }
+    ensures refused { IfOk result (λ status. status ≡ 2 → IsRefused (S.gives system.old root.now)
+        (W.contents out.old) (W.contents out.new)) }
+    ensures kept { IfOk result (λ status. status ≡ 2 → S.keeps system.new ≡ S.keeps system.old) }
 {
-    let bytes = read_file(rt, root, Failure::Input)?;
-    let fault = match Trusted::from_root(alloc, bytes.as_slice()) {
+    let bytes = read_file(system, root, Failure::Input)?;
+    match Trusted::from_root(alloc, bytes.as_slice()) {
         Ok(trusted) => {
-            keep_root(rt, alloc, state, &trusted, out)?;
-            return Ok(0);
+            keep_root(alloc, system, state, &trusted, out)?;
+            Ok(0)
         }
-        Err(StateFault::TooLong) => Fault::TooLong,
-        Err(StateFault::Malformed) => Fault::Malformed,
-        Err(StateFault::NoMemory) => return Err(Failure::Memory),
-    };
-    refuse_root(alloc, fault, out)?;
-    Ok(2)
+        Err(StateFault::NoMemory) => Err(Failure::Memory),
+        Err(fault) => {
+            refuse_root(alloc, fault_of(fault), out)?;
+            Ok(2)
+        }
+    }
 }
 
-fn keep_root<R: Files, W: Write>(
-    rt: &R,
+/// Stores the state and prints the version of its root.
+fn keep_root<S: System, W: Write>(
     alloc: Global,
-    state: &str,
+    system: &mut S,
+    path: &str,
     trusted: &Trusted,
     out: &mut W,
-) -> Result<(), Failure> {
-    write_state(rt, alloc, state, trusted)?;
+) -> Result<(), Failure>
+    ensures kept { OnOk result (S.keeps system.new path.now (state_text trusted.now) ≡ true) }
+    ensures line { OnOk result (Appends (W.contents out.old) (W.contents out.new)
+        (root_text trusted.now.root.reading.header.version)) }
+{
+    keep_state(alloc, system, path, trusted)?;
     let text = root_line(alloc, trusted.root_version())?;
     put(out, text.as_str())
 }
 
-fn refuse_root<W: Write>(alloc: Global, fault: Fault, out: &mut W) -> Result<(), Failure> {
+/// The fault that is told of a refused root.
+fn fault_of(fault: StateFault) -> Fault
+    ensures { result ≡ spec.fault_of fault }
+{
+    match fault {
+        StateFault::TooLong => Fault::TooLong,
+        StateFault::Malformed | StateFault::NoMemory => Fault::Malformed,
+    }
+}
+
+/// Prints that a cycle stops at its root.
+fn refuse_root<W: Write>(alloc: Global, fault: Fault, out: &mut W) -> Result<(), Failure>
+    ensures line { OnOk result (Appends (W.contents out.old) (W.contents out.new)
+        (end_text (Stopped Root fault))) }
+{
     let mut text = String::new(alloc);
     push_end(&mut text, End::Stopped(Step::Root, fault))?;
     put(out, text.as_str())

@@ -1,53 +1,32 @@
 //! The verification of a repository that lies in two folders.
-ghost use Rattle.std.specs.Prelude.{◌≡◌, ◌≤◌, IfOk, OnOk, map, string_bytes};
-ghost use Rattle.std.specs.Io.KnownBytes.{Appends};
+ghost use Rattle.std.specs.Prelude.{◌≡◌, ◌≢◌, ◌≤◌, ◌⊎◌, ⊤, true, IfErr, IfOk, OnErr, OnOk, option_map, map, string_bytes};
 ghost use Rattle.folder.specs.Folders.{IsLoaded};
 ghost use Rattle.examine.specs.Expecting.{file_in};
-ghost use Rattle.cycle.specs.Workflow.{workflow};
-ghost use Rattle.report.specs.Lines.{outcome_text};
-ghost use Rattle.report.specs.Status.{outcome_status};
-ghost use Rattle.command.specs.Told.{workflow_of, IsTold};
+ghost use Rattle.command.specs.Told.{Begins, IsStored, IsTold, outcome_of, state_text};
+ghost use Rattle.command.specs.Starting.{start_from, start_of};
 
 use crate::clock::moment;
-use crate::dispatch::settled;
-use crate::state::{read_state, write_state};
+use crate::state::{keep_state, read_state};
+use crate::system::System;
 use crate::words::Verify;
 use cycle::{Limits, Moment, Outcome, Repo, Trusted, run_alone};
-use folder::{Depth, Disk, Folder, load};
+use folder::{Folder, load};
 use report::{Failure, tell};
 use std::alloc::Global;
 use std::io::Write;
-use std::rt::{Clock, Files};
 
 /// How many checks a plan has at most.
 const CHECKS: usize = 4096;
 
-/// Verifies what the words name: the moment is read first, then the state file, and then the folders.
-pub fn verify<R: Files + Clock + AllocGlobal + Clone + Drop, W: Write, E: Write>(
-    rt: &R,
-    alloc: Global,
-    task: &Verify<'_>,
-    wanted: &[String],
-    out: &mut W,
-    err: &mut E,
-) -> Result<u8, Failure>
-    ensures known { IfOk result (λ status. status ≤ 4) }
-{
-    let moment = moment(rt, task.now)?;
-    let start = Start {
-        trusted: read_state(rt, alloc, task.state)?,
-        moment,
-        wanted,
-        limit: task.limit,
-        state: task.out,
-    };
-    let mut metadata = Disk::new(rt, task.metadata, Depth::Here);
-    let mut targets = Disk::new(rt, task.targets, Depth::Below);
-    Ok(verify_from(rt, alloc, &start, &mut metadata, &mut targets, out, err))
+/// The folder of metadata files and the folder of target files.
+#[derive(Drop)]
+pub struct Folders<M, T> {
+    pub metadata: M,
+    pub targets: T,
 }
 
 /// What a verification begins with: the trusted state, the moment, the wanted paths, how many roles a search visits at
-/// most, and the file for the new state.
+/// most (1 to 256), and the path of the file for the new state.
 #[derive(Drop)]
 pub struct Start<'a> {
     pub trusted: Trusted,
@@ -57,83 +36,106 @@ pub struct Start<'a> {
     pub state: &'a str,
 }
 
-/// Verifies what the folders hold, writes the new state, prints the lines and answers the status. A failure is told on
-/// `err` in place of the lines; where it comes before the state's turn, no state is written. A status of 0 to 2 is that
-/// of the workflow on the files that the folders gave, and a writer whose bytes are known was given its lines and
-/// nothing else.
-pub fn verify_from<R: Files, M: Folder, T: Folder, W: Write, E: Write>(
-    rt: &R,
+/// Verifies what the words name: the moment is read first, then the state file, and then the folders, as
+/// [`verify_from`] does.
+pub(crate) fn verify<S: System, M: Folder, T: Folder, W: Write>(
     alloc: Global,
-    start: &Start<'_>,
-    metadata: &mut M,
-    targets: &mut T,
-    out: &mut W,
-    err: &mut E,
-) -> u8
-    ensures known { result ≤ 4 }
-    ensures told { result ≤ 2 → IsTold
-        (IsLoaded (M.lists metadata.old) (M.holds metadata.old)) (IsLoaded (T.lists targets.old) (T.holds targets.old))
-        (workflow_of start.now.moment start.now.trusted (map string_bytes start.now.wanted.now) start.now.limit)
-        (map string_bytes start.now.wanted.now) result (W.contents out.old) (W.contents out.new) }
-{
-    settled(verified(rt, alloc, start, metadata, targets, out), err)
-}
-
-fn verified<R: Files, M: Folder, T: Folder, W: Write>(
-    rt: &R,
-    alloc: Global,
-    start: &Start<'_>,
-    metadata: &mut M,
-    targets: &mut T,
+    system: &mut S,
+    task: &Verify<'_>,
+    folders: &mut Folders<M, T>,
     out: &mut W,
 ) -> Result<u8, Failure>
     ensures known { IfOk result (λ status. status ≤ 2) }
-    ensures told { IfOk result (λ status. IsTold
-        (IsLoaded (M.lists metadata.old) (M.holds metadata.old)) (IsLoaded (T.lists targets.old) (T.holds targets.old))
-        (workflow_of start.now.moment start.now.trusted (map string_bytes start.now.wanted.now) start.now.limit)
-        (map string_bytes start.now.wanted.now) status (W.contents out.old) (W.contents out.new)) }
+    ensures verified { IfOk result (λ status. Begins (S.gives system.old task.now.state.now)
+        (S.shows system.old) (option_map (λ t. t.now) task.now.moment) (λ trusted moment. IsStored
+        (IsLoaded (M.lists folders.old.metadata) (M.holds folders.old.metadata))
+        (IsLoaded (T.lists folders.old.targets) (T.holds folders.old.targets))
+        (start_from task.now trusted moment) (S.keeps system.new task.now.out.now)
+        (λ o. IsTold o (map string_bytes task.now.wanted.items) status (W.contents out.old)
+        (W.contents out.new)))) }
 {
-    let repo = loaded(alloc, metadata, targets)?;
-    verified_in(rt, alloc, start, &repo, out)
+    let moment = moment(system, task.moment)?;
+    let start = Start {
+        trusted: read_state(alloc, system, task.state)?,
+        moment,
+        wanted: task.wanted.as_slice(),
+        limit: task.limit,
+        state: task.out,
+    };
+    verify_from(alloc, system, &start, folders, out)
 }
 
-/// Verifies a repository, writes the new state and prints the lines.
-fn verified_in<R: Files, W: Write>(
-    rt: &R,
+/// Verifies what the folders hold, stores the new state, prints the lines and answers the status: 2 where the update
+/// stopped, else 1 where some target isn't good, else 0. It is the status of the workflow on the files that the folders
+/// gave; a writer whose bytes are known was given its lines and nothing else, and the stored state is its new one.
+/// Where a folder fails, nothing is stored and nothing printed; and no line is printed before the state is stored.
+pub fn verify_from<S: System, M: Folder, T: Folder, W: Write>(
     alloc: Global,
+    system: &mut S,
+    start: &Start<'_>,
+    folders: &mut Folders<M, T>,
+    out: &mut W,
+) -> Result<u8, Failure>
+    ensures known { IfOk result (λ status. status ≤ 2) }
+    ensures verified { IfOk result (λ status. IsStored
+        (IsLoaded (M.lists folders.old.metadata) (M.holds folders.old.metadata))
+        (IsLoaded (T.lists folders.old.targets) (T.holds folders.old.targets))
+        (start_of start.now) (S.keeps system.new start.now.state.now)
+        (λ o. IsTold o (map string_bytes start.now.wanted.now) status (W.contents out.old)
+        (W.contents out.new))) }
+    ensures order { OnErr result ((W.contents out.new ≡ W.contents out.old) ⊎ IsStored
+        (IsLoaded (M.lists folders.old.metadata) (M.holds folders.old.metadata))
+        (IsLoaded (T.lists folders.old.targets) (T.holds folders.old.targets))
+        (start_of start.now) (S.keeps system.new start.now.state.now) (λ _. ⊤)) }
+    ensures folders { IfErr result (λ f. f ≡ Failure.Folder
+        → (S.keeps system.new ≡ S.keeps system.old) × (W.contents out.new ≡ W.contents out.old)) }
+{
+    let repo = loaded(alloc, folders)?;
+    verify_in(alloc, system, start, &repo, out)
+}
+
+/// Verifies the repository, stores the new state, and then prints the lines.
+fn verify_in<S: System, W: Write>(
+    alloc: Global,
+    system: &mut S,
     start: &Start<'_>,
     repo: &Repo,
     out: &mut W,
 ) -> Result<u8, Failure>
     ensures known { IfOk result (λ status. status ≤ 2) }
-    ensures lines { OnOk result (Appends (W.contents out.old) (W.contents out.new) (outcome_text
-        (workflow_of start.now.moment start.now.trusted (map string_bytes start.now.wanted.now) start.now.limit
-        (file_in repo.now.metadata) (file_in repo.now.targets)) (map string_bytes start.now.wanted.now))) }
-    ensures status { IfOk result (λ status. status ≡ outcome_status
-        (workflow_of start.now.moment start.now.trusted (map string_bytes start.now.wanted.now) start.now.limit
-        (file_in repo.now.metadata) (file_in repo.now.targets))) }
+    ensures told { IfOk result (λ status. IsTold
+        (outcome_of (start_of start.now) (file_in repo.now.metadata) (file_in repo.now.targets))
+        (map string_bytes start.now.wanted.now) status (W.contents out.old) (W.contents out.new)) }
+    ensures kept { OnOk result (S.keeps system.new start.now.state.now (state_text (outcome_of
+        (start_of start.now) (file_in repo.now.metadata) (file_in repo.now.targets)).trusted) ≡ true) }
+    ensures order { OnErr result ((W.contents out.new ≡ W.contents out.old)
+        ⊎ (S.keeps system.new start.now.state.now (state_text (outcome_of (start_of start.now)
+        (file_in repo.now.metadata) (file_in repo.now.targets)).trusted) ≡ true)) }
+    ensures refused { IfErr result (λ f. f ≢ Failure.Folder) }
 {
-    let outcome = outcome_of(alloc, start, repo)?;
-    write_state(rt, alloc, start.state, outcome.trusted())?;
+    let outcome = outcome(alloc, start, repo)?;
+    keep_state(alloc, system, start.state, outcome.trusted())?;
     tell(alloc, &outcome, start.wanted, out)
 }
 
-fn loaded<M: Folder, T: Folder>(
-    alloc: Global,
-    metadata: &mut M,
-    targets: &mut T,
-) -> Result<Repo, Failure>
-    ensures metadata { IfOk result (λ repo. IsLoaded (M.lists metadata.old) (M.holds metadata.old) repo.metadata) }
-    ensures targets { IfOk result (λ repo. IsLoaded (T.lists targets.old) (T.holds targets.old) repo.targets) }
+/// The files of both folders.
+fn loaded<M: Folder, T: Folder>(alloc: Global, folders: &mut Folders<M, T>) -> Result<Repo, Failure>
+    ensures metadata { IfOk result (λ repo. IsLoaded (M.lists folders.old.metadata)
+        (M.holds folders.old.metadata) repo.metadata) }
+    ensures targets { IfOk result (λ repo. IsLoaded (T.lists folders.old.targets)
+        (T.holds folders.old.targets) repo.targets) }
 {
-    let metadata = load(alloc, metadata)?;
-    let targets = load(alloc, targets)?;
+    let metadata = load(alloc, &mut folders.metadata)?;
+    let targets = load(alloc, &mut folders.targets)?;
     Ok(Repo { metadata, targets })
 }
 
-fn outcome_of(alloc: Global, start: &Start<'_>, repo: &Repo) -> Result<Outcome, Failure>
-    ensures workflow { IfOk result (λ o. o ≡ workflow (file_in repo.now.metadata) (file_in repo.now.targets)
-        start.now.moment start.now.trusted (map string_bytes start.now.wanted.now) start.now.limit) }
+/// The workflow's outcome, by one thread.
+#[tactic(auto, unfolding(crate::specs::Told::outcome_of))]
+fn outcome(alloc: Global, start: &Start<'_>, repo: &Repo) -> Result<Outcome, Failure>
+    ensures workflow { IfOk result (λ o. o
+        ≡ outcome_of (start_of start.now) (file_in repo.now.metadata) (file_in repo.now.targets)) }
+    ensures refused { IfErr result (λ f. (f ≡ Failure.Words) ⊎ (f ≡ Failure.Memory)) }
 {
     let limits = Limits::new(start.limit, CHECKS).ok_or(Failure::Words)?;
     let trusted = &start.trusted;

@@ -61,22 +61,25 @@ EXIT STATUS:
   4  the script can't be read, or the output or memory failed";
 
 /// What the words ask for.
-#[derive(Clone, Copy, Drop)]
+#[derive(Drop)]
 pub enum Task<'a> {
     Init { root: &'a str, out: &'a str },
     Make { script: &'a str, folder: &'a str },
     Verify(Verify<'a>),
 }
 
-/// The words of `verify`, but for the wanted paths.
-#[derive(Clone, Copy, Drop)]
+/// The words of `verify`.
+#[derive(Drop)]
 pub struct Verify<'a> {
     pub state: &'a str,
     pub metadata: &'a str,
     pub targets: &'a str,
-    pub now: Option<&'a str>,
+    /// The text of `--now`.
+    pub moment: Option<&'a str>,
     pub limit: usize,
     pub out: &'a str,
+    /// The wanted paths, in order.
+    pub wanted: Vec<String>,
 }
 
 /// The matches of the words, or what `clap` says in place of them: a mistake, or help.
@@ -166,36 +169,52 @@ fn option<'a>(alloc: Global, name: &'a str, value: &'a str, help: &'a str) -> Ar
 }
 
 /// What the matches ask for.
-pub fn task_of<'a>(matches: &ArgMatches<'a>) -> Option<Task<'a>> {
-    let (name, inner) = matches.subcommand()?;
+pub fn task_of<'a>(
+    alloc: Global,
+    matches: &ArgMatches<'a>,
+) -> Result<Option<Task<'a>>, AllocError> {
+    let Some((name, inner)) = matches.subcommand() else {
+        return Ok(None);
+    };
     match name {
-        "init" => Some(Task::Init {
-            root: inner.get_str("ROOT")?,
-            out: inner.get_str("out")?,
-        }),
-        "make" => Some(Task::Make {
-            script: inner.get_str("SCRIPT")?,
-            folder: inner.get_str("DIR")?,
-        }),
-        _ => Some(Task::Verify(Verify {
-            state: inner.get_str("state")?,
-            metadata: inner.get_str("metadata")?,
-            targets: inner.get_str("targets")?,
-            now: inner.get_str("now"),
-            limit: inner.get_one::<usize>("limit")?,
-            out: inner.get_str("out")?,
-        })),
+        "init" => Ok(init_task(inner)),
+        "make" => Ok(make_task(inner)),
+        _ => Ok(verify_task(inner, wanted(alloc, inner)?)),
     }
 }
 
+fn init_task<'a>(matches: &ArgMatches<'a>) -> Option<Task<'a>> {
+    Some(Task::Init {
+        root: matches.get_str("ROOT")?,
+        out: matches.get_str("out")?,
+    })
+}
+
+fn make_task<'a>(matches: &ArgMatches<'a>) -> Option<Task<'a>> {
+    Some(Task::Make {
+        script: matches.get_str("SCRIPT")?,
+        folder: matches.get_str("DIR")?,
+    })
+}
+
+fn verify_task<'a>(matches: &ArgMatches<'a>, wanted: Vec<String>) -> Option<Task<'a>> {
+    Some(Task::Verify(Verify {
+        state: matches.get_str("state")?,
+        metadata: matches.get_str("metadata")?,
+        targets: matches.get_str("targets")?,
+        moment: matches.get_str("now"),
+        limit: matches.get_one::<usize>("limit")?,
+        out: matches.get_str("out")?,
+        wanted,
+    }))
+}
+
 /// The wanted paths of `verify`, in order.
-pub fn wanted(alloc: Global, matches: &ArgMatches<'_>) -> Result<Vec<String>, AllocError> {
+fn wanted(alloc: Global, matches: &ArgMatches<'_>) -> Result<Vec<String>, AllocError> {
     let mut paths = Vec::new(alloc);
-    if let Some((_, inner)) = matches.subcommand() {
-        if let Some(words) = inner.get_strs("PATH") {
-            for word in words {
-                paths.push(String::from_str(alloc, word)?)?;
-            }
+    if let Some(words) = matches.get_strs("PATH") {
+        for word in words {
+            paths.push(String::from_str(alloc, word)?)?;
         }
     }
     Ok(paths)

@@ -1,6 +1,7 @@
 //! What ends a run early.
-ghost use Rattle.std.specs.Prelude.{◌≡◌, ◌≢◌, ◌↔◌, ◌⊎◌, true};
-ghost use Rattle.report.specs.Failures.{is_callers, failure_of};
+ghost use Rattle.std.specs.Prelude.{◌≡◌, ◌≢◌, ◌↔◌, ◌⊎◌, true, OnOk};
+ghost use Rattle.std.specs.Io.KnownBytes.{Appends};
+ghost use Rattle.report.specs.Failures.{is_callers, failure_of, failure_text, failure_word};
 ghost use Rattle.std.specs.IoError.{error_kind};
 ghost use Rattle.report.specs.declared.failure.Failure.TheVariants as failure;
 ghost use Rattle.folder.specs.declared.files.LoadFault.TheVariants as fault;
@@ -13,35 +14,35 @@ use std::alloc::{AllocError, AllocFailed};
 use std::io::{self, ErrorKind, Write};
 use thiserror::Error;
 
-/// Why a run ended early. [`told`] writes the text behind `tufcheck: `.
+/// Why a run ended early. [`tell_failure`] writes the text behind `tufcheck: `.
 #[derive(Clone, Copy, Debug, PartialEq, Eq, Error)]
 pub enum Failure {
     /// A word of the command line isn't UTF-8, or is none that the program knows.
-    #[error("words")]
+    #[error("a word of the command line isn't known")]
     Words,
     /// The text of `--now` isn't of the form of `expires`.
-    #[error("now")]
+    #[error("the text of the moment isn't of its form")]
     Now,
     /// The state file can't be read, or isn't one.
-    #[error("state file")]
+    #[error("the state file can't be read, or isn't one")]
     State,
     /// The script can't be followed at this line, counted from 1.
-    #[error("script {0}")]
+    #[error("the script can't be followed at line {0}")]
     Script(usize),
     /// The root file or the script can't be read, or the script isn't UTF-8.
-    #[error("input")]
+    #[error("the root file or the script can't be read")]
     Input,
     /// A folder, or a file in it, can't be read, or a name in it isn't UTF-8.
-    #[error("folder")]
+    #[error("a folder can't be read")]
     Folder,
     /// The clock can't be read, or is before 1970 or past the year 9999.
-    #[error("clock")]
+    #[error("the clock can't be read")]
     Clock,
     /// The state or the lines can't be written.
-    #[error("output")]
+    #[error("the state or the lines can't be written")]
     Output,
     /// Memory was refused.
-    #[error("memory")]
+    #[error("out of memory")]
     Memory,
 }
 
@@ -120,6 +121,7 @@ impl From<LoadFault> for Failure {
 pub fn of_io(error: &io::Error, other: Failure) -> Failure
     ensures memory { error_kind error.now ≡ ErrorKind.OutOfMemory → result ≡ Failure.Memory }
     ensures other { error_kind error.now ≢ ErrorKind.OutOfMemory → result ≡ other }
+    ensures either { (result ≡ Failure.Memory) ⊎ (result ≡ other) }
 {
     if error.kind() == ErrorKind::OutOfMemory {
         Failure::Memory
@@ -128,12 +130,34 @@ pub fn of_io(error: &io::Error, other: Failure) -> Failure
     }
 }
 
-/// Writes the failure's line, `tufcheck: ` and its text, and answers its status, which is the same where the line can't
-/// be written.
-pub fn told<E: Write>(failure: Failure, err: &mut E) -> u8
-    ensures caller { (result ≡ 3) ↔ (is_callers failure ≡ true) }
-    ensures known { (result ≡ 3) ⊎ (result ≡ 4) }
+/// Writes the failure's line, `tufcheck: ` and its text, and takes no memory. A writer whose bytes are known was then
+/// given that line and nothing else.
+pub fn tell_failure<E: Write>(failure: Failure, err: &mut E) -> io::Result<()>
+    ensures line { OnOk result (Appends (E.contents err.old) (E.contents err.new)
+        (failure_text failure)) }
 {
-    let _ = writeln!(err, "tufcheck: {failure}");
-    failure.status()
+    match failure {
+        Failure::Script(line) => writeln!(err, "tufcheck: script {line}"),
+        _ => {
+            let text = failure_name(failure);
+            writeln!(err, "tufcheck: {text}")
+        }
+    }
+}
+
+/// The text of a failure, where it isn't that of a line of a script.
+fn failure_name(failure: Failure) -> &'static str
+    ensures text { result.now ≡ failure_word failure }
+{
+    match failure {
+        Failure::Words => "words",
+        Failure::Now => "now",
+        Failure::State => "state file",
+        Failure::Script(_) => "script",
+        Failure::Input => "input",
+        Failure::Folder => "folder",
+        Failure::Clock => "clock",
+        Failure::Output => "output",
+        Failure::Memory => "memory",
+    }
 }

@@ -11,5 +11,5 @@ mod quote;
 #[cfg(test)]
 mod tests;
 
-pub use failure::{Failure, of_io, told};
+pub use failure::{Failure, of_io, tell_failure};
 pub use lines::{push_end, put, root_line, tell};

@@ -1,5 +1,5 @@
 //! The lines that a run prints, and its exit status.
-ghost use Rattle.std.specs.Prelude.{◌≡◌, ◌≢◌, ◌≤◌, ◌↔◌, [], ◌∷◌, ◌++◌, true, All, IfOk, OnOk, codes, decimal, flat_map, map, string_bytes};
+ghost use Rattle.std.specs.Prelude.{◌≡◌, ◌≤◌, ◌⊎◌, ◌↔◌, [], ◌∷◌, ◌++◌, true, All, IfErr, IfOk, OnOk, codes, decimal, flat_map, map, string_bytes};
 ghost use Rattle.std.specs.Io.KnownBytes.{Appends};
 ghost use Rattle.report.specs.Lines as spec;
 ghost use Rattle.report.specs.Quote.{quoted_text};
@@ -25,6 +25,7 @@ pub fn tell<W: Write>(
         (spec.outcome_text outcome.now (map string_bytes wanted.now))) }
     ensures status { IfOk result (λ status. status ≡ outcome_status outcome.now) }
     ensures known { IfOk result (λ status. status ≤ 2) }
+    ensures refused { IfErr result (λ f. (f ≡ Failure.Memory) ⊎ (f ≡ Failure.Output)) }
 {
     let text = text_of(alloc, outcome, wanted)?;
     put(out, text.as_str())?;
@@ -224,6 +225,7 @@ fn fault_name(fault: Fault) -> &'static str
 /// Writes the text, to its end. A writer whose bytes are known was then given the text and nothing else.
 pub fn put<W: Write>(out: &mut W, text: &str) -> Result<(), Failure>
     ensures written { OnOk result (Appends (W.contents out.old) (W.contents out.new) text.now) }
+    ensures refused { IfErr result (λ f. (f ≡ Failure.Memory) ⊎ (f ≡ Failure.Output)) }
 {
     match out.write_all(text.as_bytes()) {
         Ok(()) => out.flush().map_err(|e| of_io(&e, Failure::Output)),

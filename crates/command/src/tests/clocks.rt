@@ -1,6 +1,9 @@
 //! Moments that a clock shows.
+ghost use Rattle.std.specs.Prelude.{◌≡◌, true};
 
 use crate::clock::moment;
+use crate::machine::whole_seconds;
+use crate::system::System;
 use cycle::Moment;
 use report::Failure;
 use std::io::{self, ErrorKind};
@@ -8,7 +11,7 @@ use std::rt::Clock;
 use std::test::Fail;
 use std::time::Duration;
 
-/// A clock that shows one time since 1970, or that can't be read.
+/// A clock that shows one time since 1970, or that can't be read. There is no file beside it.
 #[derive(Clone, Copy, Drop)]
 struct Stopped(Option<Duration>);
 
@@ -22,6 +25,26 @@ impl Clock for Stopped {
             Some(time) => Ok(time),
             None => Err(io::Error::from(ErrorKind::Unsupported)),
         }
+    }
+}
+
+impl System for Stopped {
+    ghost gives = { λ _ _ _. true };
+
+    ghost keeps = { λ _ _ _. true };
+
+    ghost shows = { λ _ _. true };
+
+    fn read(&self, _path: &str) -> io::Result<Vec<u8>> {
+        Err(io::Error::from(ErrorKind::NotFound))
+    }
+
+    fn store(&mut self, _path: &str, _bytes: &[u8]) -> io::Result<()> {
+        Err(io::Error::from(ErrorKind::NotFound))
+    }
+
+    fn seconds(&self) -> Option<u64> {
+        whole_seconds(self)
     }
 }
 

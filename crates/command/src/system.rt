@@ -1,0 +1,28 @@
+//! What a run asks of the system beside its folders and its streams: single files, and the clock.
+ghost use Rattle.std.specs.Prelude.{◌≡◌, List, ℕ, Bool, true, IfOk, IfSome, OnOk};
+
+use std::io;
+
+/// Single files, and the clock. What may be read and shown, and what was stored, is the system's meaning.
+pub trait System {
+    /// Whether `read` may give the bytes for the path.
+    ghost gives: { Self → List ℕ → List ℕ → Bool };
+
+    /// Whether the file of the path was stored with the bytes.
+    ghost keeps: { Self → List ℕ → List ℕ → Bool };
+
+    /// Whether the clock may show so many whole seconds since 1970.
+    ghost shows: { Self → ℕ → Bool };
+
+    /// The bytes of the file of that path.
+    fn read(&self, path: &str) -> io::Result<Vec<u8>>
+        ensures given { IfOk result (λ bytes. gives self.now path.now bytes.items ≡ true) };
+
+    /// Stores the bytes as the file of that path, in place of what it held.
+    fn store(&mut self, path: &str, bytes: &[u8]) -> io::Result<()>
+        ensures kept { OnOk result (keeps self.new path.now bytes.now ≡ true) };
+
+    /// The whole seconds since 1970-01-01T00:00:00Z, or None where the clock can't be read or is before that.
+    fn seconds(&self) -> Option<u64>
+        ensures shown { IfSome result (λ seconds. shows self.now seconds ≡ true) };
+}
