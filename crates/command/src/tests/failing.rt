@@ -4,10 +4,12 @@ ghost use Rattle.folder.specs.Folders.{HasFailed};
 
 use super::place::NOW;
 use super::words;
+use crate::machine::Machine;
 use crate::sample;
-use crate::update::{Start, verify_from};
+use crate::update::{Folders, Start, verify_from};
 use cycle::{Moment, Trusted};
 use folder::{Folder, LoadFault};
+use report::Failure;
 use std::alloc::Global;
 use std::fs;
 use std::test::Fail;
@@ -84,22 +86,15 @@ fn a_folder_that_fails_leaves_no_state(rt: HostRuntime) -> Result<(), Fail> {
     let wanted = words(alloc, "p")?;
     let start = start_of(alloc, wanted.as_slice(), state)?;
     for (first, second) in [(0, 3), (1, 3), (2, 3), (3, 0), (3, 1), (3, 2)] {
-        let mut metadata = Failing::after(first);
-        let mut targets = Failing::after(second);
+        let mut folders = Folders {
+            metadata: Failing::after(first),
+            targets: Failing::after(second),
+        };
         let mut out = Vec::new(alloc);
-        let mut err = Vec::new(alloc);
-        let status = verify_from(
-            &rt,
-            alloc,
-            &start,
-            &mut metadata,
-            &mut targets,
-            &mut out,
-            &mut err,
-        );
-        assert_eq!(rt; status, 4);
+        let mut machine = Machine::new(&rt);
+        let done = verify_from(alloc, &mut machine, &start, &mut folders, &mut out);
+        assert_eq!(rt; done.err(), Some(Failure::Folder));
         assert!(rt; out.is_empty());
-        assert_eq!(rt; err.as_slice(), b"tufcheck: folder\n".as_slice());
         assert!(rt; fs::metadata(&rt, state).is_err());
     }
     Ok(())
