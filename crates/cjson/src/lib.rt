@@ -15,8 +15,6 @@ pub mod form;
 pub mod list;
 pub mod members;
 pub mod number;
-#[cfg(test)]
-mod tests;
 pub mod text;
 mod tree;
 mod write;

@@ -7,8 +7,6 @@ mod key;
 mod ring;
 mod role_keys;
 mod signers;
-#[cfg(test)]
-mod tests;
 mod threshold;
 
 pub use direct::Direct;

@@ -6,8 +6,6 @@
 mod kind;
 mod ots;
 mod signer;
-#[cfg(test)]
-mod tests;
 mod tree;
 mod verifier;
 
