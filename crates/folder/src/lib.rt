@@ -6,8 +6,6 @@
 
 mod disk;
 mod files;
-#[cfg(test)]
-mod tests;
 
 pub use disk::{Depth, Disk, joined};
 pub use files::{Folder, LoadFault, load};

@@ -14,8 +14,6 @@ mod repo;
 mod root;
 mod snapshot;
 mod targets;
-#[cfg(test)]
-mod tests;
 mod timestamp;
 
 pub use content::{Content, refuse_if};

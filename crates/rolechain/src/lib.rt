@@ -16,6 +16,3 @@ pub use expected::place_of;
 pub use fault::StateFault;
 pub use roots::advance;
 pub use state::Trusted;
-
-#[cfg(test)]
-mod tests;

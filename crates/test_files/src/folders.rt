@@ -1,8 +1,7 @@
-mod memory;
+//! Folders on the disk and in memory.
 
-use crate::disk::{Depth, Disk, joined};
-use crate::files::{Folder, LoadFault, load};
-use memory::Memory;
+use crate::memory::Memory;
+use folder::{Depth, Disk, Folder, LoadFault, joined, load};
 use std::os::unix::fs::symlink;
 use std::rt::Files;
 use std::test::Fail;

@@ -1,4 +1,6 @@
-use crate::{StateFault, Trusted};
+//! Trusted states, their texts, and texts that are refused.
+
+use rolechain::{StateFault, Trusted};
 use std::alloc::{AllocError, Global};
 use std::test::Fail;
 

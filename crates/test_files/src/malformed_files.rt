@@ -1,8 +1,8 @@
 //! One member at fault.
 
-use super::good::{ROOT, SNAPSHOT, TARGETS, TIMESTAMP};
-use super::{Change, refuses};
-use crate::{Fault, Root, Snapshot, Targets, Timestamp};
+use crate::changes::{Change, refuses};
+use crate::good_files::{ROOT, SNAPSHOT, TARGETS, TIMESTAMP};
+use meta::{Fault, Root, Snapshot, Targets, Timestamp};
 use std::test::Fail;
 
 #[test]

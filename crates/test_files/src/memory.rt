@@ -1,4 +1,5 @@
-//! A folder in memory, for tests.
+//! A folder in memory.
+
 ghost use Rattle.std.specs.Prelude.{◌≡◌, ◌≤◌, ◌<◌, ◌⊎◌, ◌^◌, ◌-◌, List, ℕ, Bool, false, IsErr, OnErr, map, string_bytes};
 ghost use Rattle.std.specs.BTreeMap.{get_by_text};
 ghost use Rattle.std.specs.Cmp.Lexicographic.{pointwise};
@@ -6,7 +7,7 @@ ghost use Rattle.std.specs.Option.{option_map_or};
 ghost use Rattle.std.specs.Str.{bytes_eq};
 ghost use Rattle.folder.specs.Folders.{HasFailed};
 
-use crate::files::{Folder, LoadFault};
+use folder::{Folder, LoadFault};
 use std::alloc::{AllocError, Global};
 use std::collections::BTreeMap;
 

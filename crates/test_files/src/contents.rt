@@ -1,9 +1,9 @@
 //! Lengths and digests that are listed of the bytes "abc".
 
-use super::good::{TARGETS, TIMESTAMP};
-use super::read_changed;
-use crate::{Fault, Stop, Targets, Timestamp};
+use crate::changes::read_changed;
+use crate::good_files::{TARGETS, TIMESTAMP};
 use keys::Direct;
+use meta::{Fault, Stop, Targets, Timestamp};
 use std::alloc::Global;
 use std::test::Fail;
 

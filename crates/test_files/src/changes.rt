@@ -1,21 +1,15 @@
-//! Files of each kind, read from their bytes.
+//! Good files with one change, read from their bytes.
 
-mod contents;
-mod good;
-mod malformed;
-mod readings;
-mod values;
-
-use crate::{Fault, Part, Reading, Stop};
+use meta::{Fault, Part, Reading, Stop};
 use std::alloc::{AllocError, Global};
 use std::process::Abort;
 use std::test::Fail;
 
 /// A text that stands in a good file, and what replaces it there.
-type Change<'a> = (&'a str, &'a str);
+pub type Change<'a> = (&'a str, &'a str);
 
 /// A file that signs this text, and that nobody signed.
-fn file(alloc: Global, signed: &str) -> Result<Vec<u8>, AllocError> {
+pub fn file(alloc: Global, signed: &str) -> Result<Vec<u8>, AllocError> {
     Ok(format!(in alloc; "{{\"signatures\":[],\"signed\":{signed}}}")?.into_bytes())
 }
 
@@ -30,7 +24,7 @@ fn changed(alloc: Global, text: &str, change: Change) -> Result<String, Fail> {
 }
 
 /// What the good file with the change is read as.
-fn read_changed<A: Reading + Drop>(
+pub fn read_changed<A: Reading + Drop>(
     alloc: Global,
     good: &str,
     change: Change,
@@ -41,7 +35,7 @@ fn read_changed<A: Reading + Drop>(
 }
 
 /// The good file is read, and with each of the changes it has the fault.
-fn refuses<A: Reading + Drop>(
+pub fn refuses<A: Reading + Drop>(
     rt: &impl Abort,
     alloc: Global,
     good: &str,

@@ -1,5 +1,5 @@
-use Rattle.folder.proofs.Names.{copied_names}
-use Rattle.folder.proofs.tests.memory.MemoryFolder.names.Goals as goal
+use Rattle.test_files.proofs.Names.{copied_names}
+use Rattle.test_files.proofs.memory.MemoryFolder.names.Goals as goal
 
 pub returns-clause-given : goal.returns-clause-given
 returns-clause-given c =

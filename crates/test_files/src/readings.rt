@@ -1,8 +1,8 @@
 //! What may be added, left out or repeated.
 
-use super::good::{ROOT, TARGETS, TIMESTAMP};
-use super::{Change, read_changed};
-use crate::{Delegation, Paths, Root, Targets, Timestamp};
+use crate::changes::{Change, read_changed};
+use crate::good_files::{ROOT, TARGETS, TIMESTAMP};
+use meta::{Delegation, Paths, Root, Targets, Timestamp};
 use std::alloc::Global;
 use std::test::Fail;
 

@@ -1,8 +1,8 @@
 //! What the readers give of the good files, after a copy.
 
-use super::good::{ROOT, SNAPSHOT, TARGETS, TIMESTAMP};
-use super::{file, read_changed};
-use crate::{
+use crate::changes::{file, read_changed};
+use crate::good_files::{ROOT, SNAPSHOT, TARGETS, TIMESTAMP};
+use meta::{
     Delegations, Hashes, Header, Moment, Part, Paths, Reading, Root, Snapshot, Targets, Timestamp,
 };
 use sha2::{Digest, Sha256, Sha512};
