@@ -17,8 +17,3 @@ pub use found::Found;
 pub use pattern::matches;
 pub use prefix::prefix_matches;
 pub use searching::search;
-
-#[cfg(test)]
-mod search_tests;
-#[cfg(test)]
-mod tests;

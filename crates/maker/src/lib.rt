@@ -14,8 +14,6 @@ mod ring;
 mod script;
 mod sealing;
 mod signer;
-#[cfg(test)]
-mod tests;
 mod words;
 
 pub use fault::MakeFault;

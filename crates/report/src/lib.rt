@@ -1,15 +1,13 @@
 //! What a run tells: its lines and its exit status, or the failure that ended it.
 //!
 //! - [`tell`] prints the lines of an outcome and answers the status.
-//! - [`root_line`] and [`push_end`] give single lines, and [`put`] writes a text.
+//! - [`root_line`], [`push_end`] and [`push_verdict`] give single lines, and [`put`] writes a text.
 //! - [`Failure`] is why a run ended early.
 #![tactic(auto)]
 
 mod failure;
 mod lines;
 mod quote;
-#[cfg(test)]
-mod tests;
 
 pub use failure::{Failure, of_io, tell_failure};
-pub use lines::{push_end, put, root_line, tell};
+pub use lines::{push_end, push_verdict, put, root_line, tell};

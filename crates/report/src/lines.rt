@@ -129,7 +129,7 @@ fn push_verdicts(
 }
 
 /// Adds the line `ok NAME LENGTH ROLE` or `no NAME WHY`.
-pub(crate) fn push_verdict(
+pub fn push_verdict(
     alloc: Global,
     text: &mut String,
     path: &str,

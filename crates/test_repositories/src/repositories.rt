@@ -1,29 +1,21 @@
-use crate::objects::common_members;
-use crate::ring::{new_signer, places_of};
-use crate::{MakeFault, Signer, make, seal, secret};
-use cjson::{Doc, canonical, signed_bytes};
+//! Repositories that scripts make.
+
+use crate::scripts;
+use cjson::{Doc, signed_bytes};
 use keys::{Direct, KeyRing, RoleKeys, enough};
-use lms::{Height, Public, verify};
+use maker::make;
 use meta::{read_root, read_snapshot, read_targets, read_timestamp};
-use serde_json::Value;
 use sha2::{Digest, Sha256};
 use std::alloc::Global;
 use std::collections::BTreeMap;
 use std::process::Abort;
 use std::test::Fail;
 
-mod refusals;
-mod scripts;
-
 /// What the first script's targets file signs.
 const TARGETS: &str =
     "{\"_type\":\"targets\",\"expires\":\"2030-01-01T00:00:00Z\",\"spec_version\":\"1.0.0\",\
 \"targets\":{\"abc.txt\":{\"hashes\":{\"sha256\":\
 \"ba7816bf8f01cfea414140de5dae2223b00361a396177a9cb410ff61f20015ad\"},\"length\":3}},\"version\":1}";
-
-/// A file that nobody signed.
-const NOBODY: &str = "{\"signatures\":[],\"signed\":{\"_type\":\"mirrors\",\"expires\":\"\",\
-\"spec_version\":\"1.0.0\",\"version\":1}}";
 
 /// The script makes exactly these files, and each metadata file is a document.
 fn makes(
@@ -156,60 +148,5 @@ fn files_are_of_their_kinds(rt: HostRuntime) -> Result<(), Fail> {
         let doc = document(alloc, &files, name.as_str())?;
         assert!(rt; read_targets(alloc, &doc).is_ok(), "{name}");
     }
-    Ok(())
-}
-
-/// A file that is of no kind, signed by the keys of the bytes.
-fn sealed(alloc: Global, signers: &mut [Signer], keys: &[u8]) -> Result<Vec<u8>, MakeFault> {
-    let value = Value::from(common_members(alloc, "mirrors", "", 1)?);
-    let Ok(_) = canonical(alloc, &value) else {
-        return Err(MakeFault::NoMemory);
-    };
-    let Ok(by) = places_of(alloc, signers, keys) else {
-        return Err(MakeFault::NoMemory);
-    };
-    seal(alloc, &value, signers, &by)
-}
-
-/// Whether the entry at the place is the key's, and its signature is valid.
-fn is_signed(alloc: Global, doc: &Doc, place: usize, id: &str, key: &Public) -> Result<bool, Fail> {
-    let entry = doc.entries().get(place).ok_or("an entry")?;
-    let sig = hex::decode(alloc, entry.sig())?;
-    Ok(entry.keyid() == id && verify(key, doc.bytes(), &sig))
-}
-
-#[test]
-fn seals_in_order(rt: HostRuntime) -> Result<(), Fail> {
-    let alloc = rt.alloc();
-    let one = new_signer(alloc, 1, Height::H5)?;
-    let two = Signer {
-        id: String::from_str(alloc, "two")?,
-        secret: secret(alloc, 2, Height::H5)?,
-    };
-    let first = one.secret.public();
-    let second = two.secret.public();
-    let id = one.id.clone()?;
-    let mut signers = [one, two];
-    let file = sealed(alloc, &mut signers, &[2, 1, 2])?;
-    let doc = signed_bytes(alloc, &file)?;
-    assert_eq!(rt; doc.entries().len(), 3);
-    assert!(rt; is_signed(alloc, &doc, 0, "two", &second)?);
-    assert!(rt; is_signed(alloc, &doc, 1, id.as_str(), &first)?);
-    assert!(rt; is_signed(alloc, &doc, 2, "two", &second)?);
-    let nobody = sealed(alloc, &mut signers, &[])?;
-    assert_eq!(rt; nobody.as_slice(), NOBODY.as_bytes());
-    Ok(())
-}
-
-#[test]
-fn key_is_used_up(rt: HostRuntime) -> Result<(), Fail> {
-    let alloc = rt.alloc();
-    let mut signers = [new_signer(alloc, 1, Height::H5)?];
-    let public = signers[0].secret.public();
-    let file = sealed(alloc, &mut signers, &[1; 32])?;
-    assert_eq!(rt; signed_bytes(alloc, &file)?.entries().len(), 32);
-    let outcome = sealed(alloc, &mut signers, &[1]);
-    assert!(rt; matches!(outcome, Err(MakeFault::Used)));
-    assert!(rt; signers[0].secret.public() == public);
     Ok(())
 }

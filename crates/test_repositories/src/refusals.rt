@@ -1,6 +1,6 @@
 //! Lines that can't be followed.
 
-use crate::{MakeFault, make};
+use maker::{MakeFault, make};
 use std::alloc::Global;
 use std::process::Abort;
 use std::test::Fail;

@@ -1,5 +1,5 @@
 //! Scripts, and the files that they make: names and SHA-256 digests, as a program says that shares
-//! no code with this crate.
+//! no code with the maker.
 
 pub const FIRST: &str = "key 1 5\n\
 key 2 5\n\

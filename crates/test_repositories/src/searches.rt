@@ -1,4 +1,6 @@
-use crate::{Found, Searched, search};
+//! Searches for a path through delegations.
+
+use deleg::{Found, Searched, search};
 use keys::{Direct, key_id};
 use lms::{Height, Secret};
 use meta::{Fault, Moment, Repo};

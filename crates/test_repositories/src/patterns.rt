@@ -1,4 +1,6 @@
-use crate::{matches, prefix_matches};
+//! Paths of delegations: patterns, and prefixes of digests.
+
+use deleg::{matches, prefix_matches};
 use std::alloc::{AllocError, Global};
 use std::test::Fail;
 

@@ -1,0 +1,56 @@
+//! Texts that are written, and failures that are told.
+
+use report::{Failure, put, root_line, tell_failure};
+use std::io::{self, ErrorKind, Write};
+use std::test::Fail;
+
+/// A writer that refuses everything.
+#[derive(Drop)]
+struct Refuses;
+
+impl Write for Refuses {
+    fn write(&mut self, _bytes: &[u8]) -> io::Result<usize> {
+        Err(io::Error::from(ErrorKind::BrokenPipe))
+    }
+
+    fn flush(&mut self) -> io::Result<()> {
+        Ok(())
+    }
+}
+
+#[test]
+fn lines_are_put(rt: HostRuntime) -> Result<(), Fail> {
+    let alloc = rt.alloc();
+    let line = root_line(alloc, u64::MAX)?;
+    let mut out = Vec::new(alloc);
+    put(&mut out, line.as_str())?;
+    assert_eq!(rt; out.as_slice(), b"root 18446744073709551615\n".as_slice());
+    assert_eq!(rt;
+        put(&mut Refuses, line.as_str()).err(),
+        Some(Failure::Output)
+    );
+    Ok(())
+}
+
+#[test]
+fn failures_are_told(rt: HostRuntime) -> Result<(), Fail> {
+    let rows = [
+        (Failure::Words, 3, "tufcheck: words\n"),
+        (Failure::Now, 3, "tufcheck: now\n"),
+        (Failure::State, 3, "tufcheck: state file\n"),
+        (Failure::Script(12), 3, "tufcheck: script 12\n"),
+        (Failure::Input, 4, "tufcheck: input\n"),
+        (Failure::Folder, 4, "tufcheck: folder\n"),
+        (Failure::Clock, 4, "tufcheck: clock\n"),
+        (Failure::Output, 4, "tufcheck: output\n"),
+        (Failure::Memory, 4, "tufcheck: memory\n"),
+    ];
+    for (failure, status, line) in rows {
+        let mut err = Vec::new(rt.alloc());
+        tell_failure(failure, &mut err)?;
+        assert_eq!(rt; failure.status(), status);
+        assert_eq!(rt; err.as_slice(), line.as_bytes());
+        assert!(rt; tell_failure(failure, &mut Refuses).is_err());
+    }
+    Ok(())
+}
