@@ -1,5 +1,6 @@
--- The checks of one file, in order (TUF 1.0 sections 5.3 to 5.6): the first that fails is the answer.
-use Rattle.std.specs.Prelude.{ℕ, ◌&&◌, ◌||◌, ◌==◌, nat_lt, nat_le, not, if◌then◌else◌, List, Bool, true, false, Option, Some, None, Result, Ok, bytes_eq}
+-- The checks of one file, in order (TUF 1.0 sections 5.3 to 5.6): the first that fails is the
+-- answer.
+use Rattle.std.specs.Prelude.{ℕ, ◌&&◌, ◌||◌, ◌==◌, nat_lt, nat_le, not, if◌then◌else◌, List, Bool, true, false, Option, Some, None, Result, Ok, ⊤, bytes_eq}
 use Rattle.std.specs.List.{list_any, list_all}
 use Rattle.std.specs.Option.{option_map_or}
 use Rattle.keys.specs.Keys.{Key, RoleKeys}
@@ -56,22 +57,41 @@ listed_version absent = None
 -- ---- form and signatures
 
 -- a file that was read, and the document that it is
-pub record Fetched (A : Type 0) : Type 0 where
+pub record Candidate (A : Type 0) : Type 0 where
   pub part : Part A
   pub doc : Document
 
--- the file that is expected, out of the repository's
-abbrev pub fetched : {A : Type 0} → (Document → Result A Fault) → ℕ → Expectation → Files → Result (Fetched A) Fault
-fetched form limit e files = do
+-- the bytes of the file that is expected, which must be listed where that is due, and be there
+abbrev pub listed_bytes : Expectation → Files → Result (List ℕ) Fault
+listed_bytes e files = do
   listed ← refuse_if (is_absent e.listed) NotListed
-  bytes ← or_refuse (files e.name) Missing
-  intact ← content (Some limit) (listed_length e.listed) (listed_hashes e.listed) bytes
+  or_refuse (files e.name) Missing
+
+abbrev pub read_candidate : {A : Type 0} → (Document → Result A Fault) → List ℕ
+    → Result (Candidate A) Fault
+read_candidate form bytes = do
   doc ← document_of bytes
   reading ← form doc
   Ok (record { part = record { bytes = bytes; reading = reading }; doc = doc })
 
+-- the file that is expected, out of the repository's, whoever signed it
+abbrev pub candidate : {A : Type 0} → (Document → Result A Fault) → ℕ → Expectation → Files
+    → Result (Candidate A) Fault
+candidate form limit e files = do
+  bytes ← listed_bytes e files
+  intact ← content (Some limit) (listed_length e.listed) (listed_hashes e.listed) bytes
+  read_candidate form bytes
+
 abbrev pub is_signed : List Key → RoleKeys → Document → Bool
 is_signed ring role doc = is_met doc.text doc.entries ring role
+
+-- the file that is expected, signed as expected
+abbrev pub signed_candidate : {A : Type 0} → (Document → Result A Fault) → ℕ → Expectation → Files
+    → Result (Candidate A) Fault
+signed_candidate form limit e files = do
+  c ← candidate form limit e files
+  signed ← refuse_if (not (is_signed e.ring e.role c.doc)) Unsigned
+  Ok c
 
 -- ---- version, rollback and expiry
 
@@ -89,7 +109,8 @@ is_again old new = new.header.version == old.header.version
 
 -- a version below the trusted one, or a listed snapshot below the one that was listed
 abbrev pub is_earlier : Timestamp → Timestamp → Bool
-is_earlier old new = nat_lt new.header.version old.header.version || nat_lt new.snapshot.version old.snapshot.version
+is_earlier old new = nat_lt new.header.version old.header.version
+    || nat_lt new.snapshot.version old.snapshot.version
 
 -- the same name with no lower version
 abbrev pub is_kept_by : Named → Named → Bool
@@ -102,50 +123,73 @@ is_listed_below files old = list_all (λ new. not (is_kept_by old new)) files
 abbrev pub lists_less : Snapshot → Snapshot → Bool
 lists_less old new = list_any (is_listed_below new.files) old.files
 
--- ---- the checks of each kind
+-- ---- the checks of each kind that is signed as expected
 
--- A root is signed by the keys of the root before, and by its own. Only the last root's expiry is asked, when the chain has ended.
+-- signed by its own keys, too, and of the version that is due
+abbrev pub root_checks : Bool → ℕ → Header → Result ⊤ Fault
+root_checks is_own due h = do
+  own ← refuse_if (not is_own) Unsigned
+  refuse_if (is_version_wrong (Some due) h) VersionWrong
+
+abbrev pub expiry_check : Header → Moment → Result ⊤ Fault
+expiry_check h now = refuse_if (is_expired h now) Expired
+
+abbrev pub later_timestamp : Timestamp → Timestamp → Moment → Result Bool Fault
+later_timestamp old new now = do
+  onward ← refuse_if (is_earlier old new) Rollback
+  current ← refuse_if (is_expired new.header now) Expired
+  Ok true
+
+-- a timestamp replaces the trusted one, but where it has that one's version again
+abbrev pub is_newer : Timestamp → Timestamp → Moment → Result Bool Fault
+is_newer old new now = if is_again old new then Ok false else later_timestamp old new now
+
+abbrev pub snapshot_checks : Option ℕ → Option Snapshot → Snapshot → Moment → Result ⊤ Fault
+snapshot_checks due old new now = do
+  versioned ← refuse_if (is_version_wrong due new.header) VersionWrong
+  onward ← refuse_if (option_map_or (λ s. lists_less s new) old false) Rollback
+  refuse_if (is_expired new.header now) Expired
+
+abbrev pub targets_checks : Option ℕ → Header → Moment → Result ⊤ Fault
+targets_checks due h now = do
+  versioned ← refuse_if (is_version_wrong due h) VersionWrong
+  refuse_if (is_expired h now) Expired
+
+-- ---- the files of each kind
+
+-- A root is signed by the keys of the root before, and by its own. Only the last root's expiry is
+-- asked, when the chain has ended.
 abbrev pub root_part : Expectation → ℕ → Files → Result (Part Root) Fault
 root_part e due files = do
-  f ← fetched root_of root_limit e files
-  signed ← refuse_if (not (is_signed e.ring e.role f.doc && is_signed f.part.reading.ring f.part.reading.root f.doc)) Unsigned
-  versioned ← refuse_if (is_version_wrong (Some due) f.part.reading.header) VersionWrong
-  Ok f.part
+  c ← signed_candidate root_of root_limit e files
+  let root = c.part.reading
+  checked ← root_checks (is_signed root.ring root.root c.doc) due root.header
+  Ok c.part
 
 -- a timestamp where none is trusted
 abbrev pub first_timestamp : Expectation → Files → Moment → Result (Part Timestamp) Fault
 first_timestamp e files now = do
-  f ← fetched timestamp_of timestamp_limit e files
-  signed ← refuse_if (not (is_signed e.ring e.role f.doc)) Unsigned
-  current ← refuse_if (is_expired f.part.reading.header now) Expired
-  Ok f.part
-
-abbrev pub newer_timestamp : Timestamp → Part Timestamp → Moment → Result (Option (Part Timestamp)) Fault
-newer_timestamp old p now = do
-  onward ← refuse_if (is_earlier old p.reading) Rollback
-  current ← refuse_if (is_expired p.reading.header now) Expired
-  Ok (Some p)
+  c ← signed_candidate timestamp_of timestamp_limit e files
+  checked ← expiry_check c.part.reading.header now
+  Ok c.part
 
 -- a timestamp beside the trusted one; none where it has that one's version again
-abbrev pub next_timestamp : Expectation → Timestamp → Files → Moment → Result (Option (Part Timestamp)) Fault
+abbrev pub next_timestamp : Expectation → Timestamp → Files → Moment
+    → Result (Option (Part Timestamp)) Fault
 next_timestamp e old files now = do
-  f ← fetched timestamp_of timestamp_limit e files
-  signed ← refuse_if (not (is_signed e.ring e.role f.doc)) Unsigned
-  if is_again old f.part.reading then Ok None else newer_timestamp old f.part now
+  c ← signed_candidate timestamp_of timestamp_limit e files
+  newer ← is_newer old c.part.reading now
+  Ok (if newer then Some c.part else None)
 
-abbrev pub snapshot_part : Expectation → Option Snapshot → Files → Moment → Result (Part Snapshot) Fault
+abbrev pub snapshot_part : Expectation → Option Snapshot → Files → Moment
+    → Result (Part Snapshot) Fault
 snapshot_part e old files now = do
-  f ← fetched snapshot_of snapshot_limit e files
-  signed ← refuse_if (not (is_signed e.ring e.role f.doc)) Unsigned
-  versioned ← refuse_if (is_version_wrong (listed_version e.listed) f.part.reading.header) VersionWrong
-  onward ← refuse_if (option_map_or (λ s. lists_less s f.part.reading) old false) Rollback
-  current ← refuse_if (is_expired f.part.reading.header now) Expired
-  Ok f.part
+  c ← signed_candidate snapshot_of snapshot_limit e files
+  checked ← snapshot_checks (listed_version e.listed) old c.part.reading now
+  Ok c.part
 
 abbrev pub targets_part : Expectation → Files → Moment → Result (Part Targets) Fault
 targets_part e files now = do
-  f ← fetched targets_of targets_limit e files
-  signed ← refuse_if (not (is_signed e.ring e.role f.doc)) Unsigned
-  versioned ← refuse_if (is_version_wrong (listed_version e.listed) f.part.reading.header) VersionWrong
-  current ← refuse_if (is_expired f.part.reading.header now) Expired
-  Ok f.part
+  c ← signed_candidate targets_of targets_limit e files
+  checked ← targets_checks (listed_version e.listed) c.part.reading.header now
+  Ok c.part

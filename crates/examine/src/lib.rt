@@ -9,6 +9,8 @@
 
 mod examine;
 mod expect;
+mod fetch;
+mod order;
 mod timing;
 
 pub use examine::{

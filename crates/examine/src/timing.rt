@@ -39,7 +39,8 @@ pub(crate) fn is_earlier(old: &Timestamp, new: &Timestamp) -> bool
 
 /// Whether the snapshot leaves out a name of the trusted one, or lowers its version.
 pub(crate) fn falls_short(old: Option<&Snapshot>, new: &Snapshot) -> bool
-    ensures { result ≡ option_map_or (λ s. spec.lists_less s new.now) (option_map (λ s. s.now) old.entry) false }
+    ensures { result ≡ option_map_or (λ s. spec.lists_less s new.now)
+        (option_map (λ s. s.now) old.entry) false }
 {
     match old {
         Some(old) => lists_less(old, new),

@@ -1,0 +1,115 @@
+ghost use Rattle.std.specs.Prelude.{◌≡◌, ◌≤◌, length, Some};
+ghost use Rattle.std.specs.Result.{result_map_both};
+ghost use Rattle.meta.specs.Answers.{Answers};
+ghost use Rattle.examine.specs.Checks as spec;
+ghost use Rattle.examine.specs.Expecting.{expectation, file_in, listed_of};
+ghost use Rattle.examine.specs.Fetching.{candidate_of};
+
+use crate::expect::{Expect, Listed};
+use cjson::Doc;
+use keys::{Judge, enough};
+use meta::{Content, Fault, Part, Reading, Stop, read_document, refuse_if};
+use std::alloc::Global;
+use std::collections::BTreeMap;
+
+/// A file that was read, and the document that it is.
+#[derive(Drop)]
+pub(crate) struct Candidate<A: Reading> {
+    pub part: Part<A>,
+    pub doc: Doc,
+}
+
+/// The file that is expected, out of the repository's, signed as expected.
+pub(crate) fn fetch_signed<A: Reading + Drop, J: Judge>(
+    alloc: Global,
+    expect: &Expect,
+    files: &BTreeMap<String, Vec<u8>>,
+    judge: &mut J,
+) -> Result<Candidate<A>, Stop>
+    ensures { Answers
+        (spec.signed_candidate A.of_document A.limit (expectation expect.now) (file_in files.now))
+        result candidate_of }
+{
+    let found = fetch(alloc, expect, files, judge)?;
+    let is_signed = enough(
+        alloc,
+        &found.doc,
+        expect.name,
+        expect.ring,
+        expect.role,
+        judge,
+    )?;
+    refuse_if(!is_signed, Fault::Unsigned)?;
+    Ok(found)
+}
+
+/// The file that is expected, out of the repository's, whoever signed it.
+fn fetch<A: Reading + Drop, J: Judge>(
+    alloc: Global,
+    expect: &Expect,
+    files: &BTreeMap<String, Vec<u8>>,
+    judge: &mut J,
+) -> Result<Candidate<A>, Stop>
+    ensures { Answers
+        (spec.candidate A.of_document A.limit (expectation expect.now) (file_in files.now))
+        result candidate_of }
+{
+    let bytes = listed_bytes(expect, files)?;
+    content_of(&expect.listed, A::limit()).check(expect.name, bytes, judge)?;
+    read_candidate(alloc, bytes)
+}
+
+/// The bytes of the file, which must be listed where that is due, and be there.
+fn listed_bytes<'a>(
+    expect: &Expect,
+    files: &'a BTreeMap<String, Vec<u8>>,
+) -> Result<&'a [u8], Fault>
+    ensures { result_map_both (λ b. b.now) (λ e. e) result
+        ≡ spec.listed_bytes (expectation expect.now) (file_in files.now) }
+{
+    refuse_if(matches!(expect.listed, Listed::Absent), Fault::NotListed)?;
+    match files.get(expect.name) {
+        Some(bytes) => Ok(bytes.as_slice()),
+        None => Err(Fault::Missing),
+    }
+}
+
+/// What the bytes of a file are read as, within the limit of its kind.
+fn read_candidate<A: Reading + Drop>(alloc: Global, bytes: &[u8]) -> Result<Candidate<A>, Stop>
+    requires limit { length bytes.now ≤ A.limit }
+    ensures { Answers (spec.read_candidate A.of_document bytes.now) result candidate_of }
+{
+    let doc = read_document(alloc, bytes)?;
+    let reading = A::read(alloc, &doc)?;
+    let part = Part::new(Vec::from_slice(alloc, bytes)?, reading);
+    Ok(Candidate { part, doc })
+}
+
+/// What the file's bytes must be: within the limit of its kind, and as they are listed.
+fn content_of(listed: &Listed, limit: u64) -> Content
+    ensures { let l = listed_of listed.now in result ≡ record {
+      limit = Some limit;
+      length = spec.listed_length l;
+      hashes = spec.listed_hashes l;
+    } }
+{
+    let (length, hashes) = match listed {
+        Listed::As(listing) => (listing.length(), listing.hashes()),
+        _ => (None, None),
+    };
+    Content {
+        limit: Some(limit),
+        length,
+        hashes,
+    }
+}
+
+/// The version that is listed of a file.
+pub(crate) fn listed_version(listed: &Listed) -> Option<u64>
+    ensures { result ≡ spec.listed_version (listed_of listed.now) }
+{
+    match listed {
+        Listed::As(listing) => Some(listing.version()),
+        _ => None,
+    }
+}
