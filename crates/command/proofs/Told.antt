@@ -1,14 +1,18 @@
 -- What a verification did, out of what its steps did.
-use Rattle.std.proofs.Common.{◌≡◌, ◌≢◌, ◌⊎◌, inl, inr, Result, Ok, Err, IfErr, IfOk, OnErr, OnOk, List, ℕ, Bool, true, false, Option, ap, sym, ◌∙◌, true≢false}
+use Rattle.std.proofs.Common.{◌≡◌, ◌≢◌, ◌⊎◌, inl, inr, Result, Ok, Err, IfErr, IfOk, OnErr, OnOk, List, ℕ, Bool, true, false, Option, ap, subst, sym, ◌∙◌, true≢false}
 use Rattle.std.specs.Bool.{⊤}
 use Rattle.std.specs.Io.KnownBytes.{Appends}
+use Rattle.examine.specs.Checks.{Files}
 use Rattle.examine.specs.Expecting.{file_in}
-use Rattle.cycle.specs.Workflow.{Outcome}
+use Rattle.cycle.specs.Workflow.{Outcome, workflow}
 use Rattle.report.specs.Lines.{outcome_text}
 use Rattle.report.specs.Status.{outcome_status}
 use Rattle.report.specs.declared.failure.Failure.{Failure}
 use Rattle.report.specs.declared.failure.Failure.TheVariants as failure
-use Rattle.command.specs.Told.{IsStored, IsTold, Loaded, Start, outcome_of, state_text}
+use Rattle.moment.specs.Moment.{Moment}
+use Rattle.rolechain.specs.State.{State}
+use Rattle.command.specs.Moments.{IsMomentOf}
+use Rattle.command.specs.Told.{Begins, IsRead, IsSampled, IsStored, IsTold, Loaded, Start, outcome_of, state_text}
 
 abbrev is_folder : Failure → Bool
 is_folder failure.Folder = true
@@ -26,6 +30,25 @@ pub told : {E : Type 0} (o : Outcome) (wanted : List (List ℕ)) (old new : Opti
     → IfOk r (λ status. IsTold o wanted status old new)
 told o wanted old new (Ok status) lines answered = record { lines = lines; answered = answered }
 told o wanted old new (Err e) lines answered = tt
+
+-- the lines and the status of an outcome that the workflow gives
+pub sampled : {E : Type 0} (start : Start) (metadata targets : Files) (o : Outcome) (wanted : List (List ℕ)) (old new : Option (List ℕ)) (r : Result ℕ E)
+    → o ≡ workflow metadata targets start.moment start.trusted start.wanted start.limit
+    → OnOk r (Appends old new (outcome_text o wanted)) → IfOk r (λ status. status ≡ outcome_status o)
+    → IfOk r (λ status. IsSampled wanted status old new)
+unfolding outcome_of
+sampled start metadata targets o wanted old new (Ok status) is lines answered = record {
+  start = start; metadata = metadata; targets = targets;
+  told = subst (λ o. IsTold o wanted status old new) is (record { lines = lines; answered = answered }) }
+sampled start metadata targets o wanted old new (Err e) is lines answered = tt
+
+-- what follows from a state and a moment that were read
+pub begun : {E : Type 0} (gives : List ℕ → Bool) (shows : ℕ → Bool) (text : Option (List ℕ)) (follows : ℕ → State → Moment → Type 0)
+    (trusted : State) (moment : Moment) (r : Result ℕ E)
+    → IsRead gives trusted → IsMomentOf shows text moment → IfOk r (λ status. follows status trusted moment)
+    → IfOk r (λ status. Begins gives shows text (follows status))
+begun gives shows text follows trusted moment (Ok status) read shown then = record { trusted = trusted; moment = moment; read = read; of_moment = shown; then = then }
+begun gives shows text follows trusted moment (Err e) read shown then = tt
 
 -- what holds anyway holds after an answer, and after a failure
 pub after_answer : {A E : Type 0} {P : Type 0} (r : Result A E) → P → OnOk r P
