@@ -38,8 +38,11 @@ pub sampled : {E : Type 0} (start : Start) (metadata targets : Files) (o : Outco
     → IfOk r (λ status. IsSampled wanted status old new)
 unfolding outcome_of
 sampled start metadata targets o wanted old new (Ok status) is lines answered = record {
-  start = start; metadata = metadata; targets = targets;
-  told = subst (λ o. IsTold o wanted status old new) is (record { lines = lines; answered = answered }) }
+  start = start;
+  metadata = metadata;
+  targets = targets;
+  told = subst (λ o. IsTold o wanted status old new) is (record { lines = lines; answered = answered });
+}
 sampled start metadata targets o wanted old new (Err e) is lines answered = tt
 
 -- what follows from a state and a moment that were read

@@ -2,7 +2,7 @@
 use Rattle.meta.specs.declared.fault.Fault.{Fault}
 use Rattle.meta.specs.declared.fault.Fault.TheVariants as fault
 use Rattle.rolechain.specs.declared.fault.StateFault.{StateFault}
-use Rattle.rolechain.specs.declared.fault.StateFault.TheVariants.{TooLong, Malformed, NoMemory}
+use Rattle.rolechain.specs.declared.fault.StateFault.TheVariants.{TooLong}
 
 -- a root over its limit, or one without a reading
 abbrev pub fault_of : StateFault → Fault
