@@ -7,21 +7,21 @@
 #![tactic(auto)]
 
 mod case;
+mod cases;
 mod change;
-mod command;
 mod compare;
 mod files;
 mod line;
-mod report;
 mod room;
 mod script;
+mod session;
 mod shell;
 
 use std::io::Write;
 use std::process::ExitCode;
 
 fn main(rt: HostRuntime) -> ExitCode {
-    match report::run_all(&rt, rt.alloc(), &mut rt.stdout()) {
+    match cases::run_all(&rt, rt.alloc(), &mut rt.stdout()) {
         Ok(0) => ExitCode::SUCCESS,
         Ok(_) => ExitCode::FAILURE,
         Err(error) => {

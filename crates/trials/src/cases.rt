@@ -1,9 +1,9 @@
 //! The report of all cases.
 
 use crate::case::{Step, steps_of};
-use crate::command::given_by;
 use crate::compare::is_as_expected;
 use crate::room;
+use crate::session::given_by;
 use anyhow::{Context, Result};
 use std::alloc::Global;
 use std::fs;
