@@ -1,0 +1,4 @@
+pub mod Looks
+pub mod Moment
+pub mod Seats
+pub mod Steps

@@ -1,0 +1,297 @@
+//! The board. Each call on it but [`Board::new`] is one step on one word; a join is two.
+ghost use Rattle.std.specs.Prelude.{◌≡◌, ◌<◌, ◌≤◌, true, false, Some, None, length, nat_eq, IsTrue, IsSome, IfSome, IfOk};
+ghost use Rattle.std.specs.List.{IsDistinct};
+ghost use Rattle.board.specs.Moment.{truth, Knows};
+ghost use Rattle.board.specs.Steps.{newcomer, holding, released, having_seen, having_done, halting, joined};
+ghost use Rattle.board.specs.Seats.{IsSeatOf, IsFree, HasAll, Keeps};
+ghost use Rattle.board.specs.Looks.{IsVerdict};
+
+use crate::checks::{Checks, MOST_CHECKS};
+use crate::look::{INVALID, Look, OPEN, TAKEN, VALID};
+use crate::rule::{Claim, Count, GiveBack, LookAt, Notice, Publish, Rule, Seats, Stop};
+use crate::seat::Seat;
+use crate::truths::Truths;
+use crate::view::View;
+use atomic_table::Table;
+use cjson::NoMemory;
+use std::alloc::Global;
+use std::marker::Model;
+
+// What a seat is to the table.
+type Inner = atomic_table::Seat<(), View>;
+
+// The word that says whether the work was stopped. Word `j + 1` is that of check `j`.
+const STOP: usize = 0;
+
+/// A word for each check, and one that says whether the work was stopped. Threads share it through
+/// a `&`, each with a seat of its own. Contracts see the truths of its checks.
+#[derive(Drop)]
+pub struct Board {
+    table: Table<(), View, Truths, Rule, Global>,
+}
+
+impl Model for Board {
+    ghost use Rattle.std.specs.Prelude.{◌≡◌, ◌+◌, ◌≤◌, length};
+    ghost use Rattle.board.specs.declared.checks.TheConstants.{MOST_CHECKS};
+    ghost use Rattle.board.specs.Seats.{BoardValue};
+
+    ghost Value = { BoardValue };
+
+    ghost view = { λ b. record { id = b.table.shared.table_id; truths = b.table.shared.key.list } };
+
+    ghost invariant = { λ b.
+        (b.table.shared.table_id.words ≡ length b.table.shared.key.list + 1)
+        × (length b.table.shared.key.list ≤ MOST_CHECKS) };
+}
+
+impl Board {
+    /// A board of these checks, all open, and its first seat, which knows nothing and has no right.
+    /// No check is decided here, and the board borrows none. It refuses only for want of memory, of
+    /// which it takes one word of 8 bytes for each check and one more.
+    pub fn new<C: Checks>(alloc: Global, checks: &C) -> Result<(Board, Seat), NoMemory>
+        ensures truths { IfOk result (λ r. r.0.truths ≡ C.truths checks.now) }
+        ensures seat { IfOk result (λ r. IsSeatOf r.0 r.1) }
+        ensures fresh { IfOk result (λ r. r.1.view ≡ newcomer r.0.truths) }
+    {
+        let words = Vec::from_elem(alloc, OPEN, checks.count() + 1)?;
+        let (table, inner) = Table::of_words(alloc, words.as_slice(), &Truths::of(checks))?;
+        let seat = Seat {
+            inner,
+            held: None,
+            published: 0,
+        };
+        Ok((Board { table }, seat))
+    }
+
+    /// What stands at check `j`. A verdict is the truth of the check, and the seat remembers that
+    /// it saw one. It finds `Taken` where it has the right itself, and a verdict where it saw or
+    /// gave one before.
+    #[tactic(auto, using(crate::proofs::Calls::kept_looked, crate::proofs::SeatLemmas::keeps_all))]
+    pub fn look(&self, seat: &mut Seat, j: usize) -> Look
+        requires seat { IsSeatOf self.now seat.old }
+        requires check { j < length self.now.truths }
+        ensures board { seat.new.board ≡ seat.old.board }
+        ensures kept { Keeps seat.old seat.new }
+        ensures valid { result ≡ Look.Valid → truth self.now.truths j ≡ true }
+        ensures invalid { result ≡ Look.Invalid → truth self.now.truths j ≡ false }
+        ensures taken { seat.old.view.right ≡ Some j → result ≡ Look.Taken }
+        ensures known { Knows seat.old.view j → IsVerdict result }
+        ensures seen { IsVerdict result → seat.new.view ≡ having_seen seat.old.view j }
+        ensures same { ¬ IsVerdict result → seat.new.view ≡ seat.old.view }
+    {
+        self.read(&mut seat.inner, j)
+    }
+
+    // Reads the word of check `j`.
+    fn read(&self, seat: &mut Inner, j: usize) -> Look
+        requires table { seat.old.table_id ≡ self.now.id }
+        requires truths { seat.old.me.0.truths ≡ self.now.truths }
+        requires check { j < length self.now.truths }
+        ensures table { seat.new.table_id ≡ seat.old.table_id }
+        ensures kept { HasAll seat.old.me.0 seat.new.me.0 }
+        ensures valid { result ≡ Look.Valid → truth self.now.truths j ≡ true }
+        ensures invalid { result ≡ Look.Invalid → truth self.now.truths j ≡ false }
+        ensures taken { seat.old.me.0.right ≡ Some j → result ≡ Look.Taken }
+        ensures known { Knows seat.old.me.0 j → IsVerdict result }
+        ensures seen { IsVerdict result
+            → seat.new.me ≡ (having_seen seat.old.me.0 j, seat.old.me.1) }
+        ensures same { ¬ IsVerdict result → seat.new.me ≡ seat.old.me }
+    {
+        let shared = &self.table.shared;
+        let found = shared.load::<LookAt>(seat, j + 1);
+        Look::of_word(found)
+    }
+
+    /// Takes check `j` where it is open, and tells whether it did. Then the seat has the right to
+    /// the check, and no other seat has until it is given back. It is tried once, by a seat that
+    /// has no right.
+    #[tactic(auto, using(crate::proofs::Calls::kept_same, crate::proofs::Calls::kept_holding, crate::proofs::SeatLemmas::keeps_all))]
+    pub fn claim(&self, seat: &mut Seat, j: usize) -> bool
+        requires seat { IsSeatOf self.now seat.old }
+        requires check { j < length self.now.truths }
+        requires free { seat.old.view.right ≡ None }
+        ensures board { seat.new.board ≡ seat.old.board }
+        ensures kept { Keeps seat.old seat.new }
+        ensures won { IsTrue result → seat.new.view ≡ holding seat.old.view j }
+        ensures unknown { IsTrue result → ¬ Knows seat.old.view j }
+        ensures lost { result ≡ false → seat.new ≡ seat.old }
+    {
+        if !self.take(&mut seat.inner, j) {
+            return false;
+        }
+        seat.held = Some(j);
+        true
+    }
+
+    // Takes check `j` where it is open. True where it was.
+    fn take(&self, seat: &mut Inner, j: usize) -> bool
+        requires table { seat.old.table_id ≡ self.now.id }
+        requires check { j < length self.now.truths }
+        requires free { seat.old.me.0.right ≡ None }
+        ensures table { seat.new.table_id ≡ seat.old.table_id }
+        ensures kept { HasAll seat.old.me.0 seat.new.me.0 }
+        ensures won { IsTrue result → seat.new.me ≡ (holding seat.old.me.0 j, seat.old.me.1) }
+        ensures unknown { IsTrue result → ¬ Knows seat.old.me.0 j }
+        ensures lost { result ≡ false → seat.new.me ≡ seat.old.me }
+    {
+        let shared = &self.table.shared;
+        let found = shared.compare_exchange::<Claim>(seat, j + 1, OPEN, TAKEN);
+        if found != OPEN {
+            return false;
+        }
+        true
+    }
+
+    /// Gives the verdict of the check that the seat has the right to, and spends the right. The
+    /// verdict has to be the truth. From then on every look finds it.
+    #[tactic(auto, using(crate::proofs::Calls::kept_done, crate::proofs::Calls::told_of, crate::proofs::SeatLemmas::keeps_all))]
+    pub fn publish(&self, seat: &mut Seat, verdict: bool)
+        requires seat { IsSeatOf self.now seat.old }
+        requires holds { IsSome seat.old.view.right }
+        requires truth { IfSome seat.old.view.right (λ j. verdict ≡ truth self.now.truths j) }
+        ensures board { seat.new.board ≡ seat.old.board }
+        ensures kept { Keeps seat.old seat.new }
+        ensures view { IfSome seat.old.view.right (λ j.
+            seat.new.view ≡ having_done seat.old.view j) }
+    {
+        let Some(j) = seat.held else { unreachable!() };
+        self.tell(&mut seat.inner, j, verdict);
+        seat.held = None;
+        seat.published += 1;
+    }
+
+    // Stores the verdict of check `j`.
+    fn tell(&self, seat: &mut Inner, j: usize, verdict: bool)
+        requires table { seat.old.table_id ≡ self.now.id }
+        requires truths { seat.old.me.0.truths ≡ self.now.truths }
+        requires check { j < length self.now.truths }
+        requires right { seat.old.me.0.right ≡ Some j }
+        requires truth { verdict ≡ truth self.now.truths j }
+        ensures table { seat.new.table_id ≡ seat.old.table_id }
+        ensures kept { HasAll seat.old.me.0 seat.new.me.0 }
+        ensures done { seat.new.me ≡ (having_done seat.old.me.0 j, seat.old.me.1) }
+        ensures once { IsDistinct nat_eq seat.new.me.0.done }
+        ensures most { length seat.new.me.0.done ≤ MOST_CHECKS }
+    {
+        let word = if verdict { VALID } else { INVALID };
+        let shared = &self.table.shared;
+        shared.store::<Publish>(seat, j + 1, word);
+    }
+
+    /// Opens the check again that the seat has the right to, undecided, and spends the right.
+    #[tactic(auto, using(crate::proofs::Calls::kept_released))]
+    pub fn give_back(&self, seat: &mut Seat)
+        requires seat { IsSeatOf self.now seat.old }
+        requires holds { IsSome seat.old.view.right }
+        ensures board { seat.new.board ≡ seat.old.board }
+        ensures kept { Keeps seat.old seat.new }
+        ensures view { seat.new.view ≡ released seat.old.view }
+    {
+        let Some(j) = seat.held else { unreachable!() };
+        self.open(&mut seat.inner, j);
+        seat.held = None;
+    }
+
+    // Opens check `j` again.
+    fn open(&self, seat: &mut Inner, j: usize)
+        requires table { seat.old.table_id ≡ self.now.id }
+        requires check { j < length self.now.truths }
+        requires right { seat.old.me.0.right ≡ Some j }
+        ensures table { seat.new.table_id ≡ seat.old.table_id }
+        ensures released { seat.new.me ≡ (released seat.old.me.0, seat.old.me.1) }
+    {
+        let shared = &self.table.shared;
+        shared.store::<GiveBack>(seat, j + 1, OPEN);
+    }
+
+    /// Tells all seats to stop, for good. No check is changed by it.
+    pub fn stop(&self, seat: &mut Seat)
+        requires seat { IsSeatOf self.now seat.old }
+        ensures board { seat.new.board ≡ seat.old.board }
+        ensures kept { Keeps seat.old seat.new }
+        ensures view { seat.new.view ≡ halting seat.old.view }
+    {
+        self.halt(&mut seat.inner);
+    }
+
+    // Sets the stop word.
+    fn halt(&self, seat: &mut Inner)
+        requires table { seat.old.table_id ≡ self.now.id }
+        ensures table { seat.new.table_id ≡ seat.old.table_id }
+        ensures halted { seat.new.me ≡ (halting seat.old.me.0, seat.old.me.1) }
+    {
+        let shared = &self.table.shared;
+        shared.store::<Stop>(seat, STOP, 1);
+    }
+
+    /// Whether some seat said to stop. It stays true once a seat has found it so.
+    #[tactic(auto, using(crate::proofs::Keeps::notices))]
+    pub fn stopped(&self, seat: &mut Seat) -> bool
+        requires seat { IsSeatOf self.now seat.old }
+        ensures board { seat.new.board ≡ seat.old.board }
+        ensures kept { Keeps seat.old seat.new }
+        ensures known { seat.old.view.halted ≡ true → IsTrue result }
+        ensures halted { IsTrue result → seat.new.view ≡ halting seat.old.view }
+        ensures same { result ≡ false → seat.new.view ≡ seat.old.view }
+    {
+        let shared = &self.table.shared;
+        shared.load::<Notice>(&mut seat.inner, STOP) == 1
+    }
+
+    /// A second seat of the board, which knows nothing and has no right. The first one is given
+    /// back as it was.
+    pub fn split(&self, seat: Seat) -> (Seat, Seat)
+        requires free { IsFree self.now seat }
+        ensures first { result.0 ≡ seat }
+        ensures second { IsSeatOf self.now result.1 }
+        ensures fresh { result.1.view ≡ newcomer self.now.truths }
+    {
+        let Seat {
+            mut inner,
+            held,
+            published,
+        } = seat;
+        let shared = &self.table.shared;
+        let other = shared.split_seat::<Seats>(&mut inner);
+        let first = Seat {
+            inner,
+            held,
+            published,
+        };
+        let second = Seat {
+            inner: other,
+            held: None,
+            published: 0,
+        };
+        (first, second)
+    }
+
+    /// One seat that has seen and done what both had, the first one's before the second one's. It
+    /// knows of a stop where either did.
+    pub fn join(&self, first: Seat, second: Seat) -> Seat
+        requires first { IsFree self.now first }
+        requires second { IsFree self.now second }
+        ensures seat { IsSeatOf self.now result }
+        ensures view { result.view ≡ joined first.view second.view }
+        ensures kept { Keeps first result }
+    {
+        let Seat {
+            mut inner,
+            held,
+            published,
+        } = first;
+        let Seat {
+            inner: other,
+            held: _,
+            published: more,
+        } = second;
+        let shared = &self.table.shared;
+        shared.join_seat::<Seats>(&mut inner, other);
+        shared.load::<Count>(&mut inner, STOP);
+        Seat {
+            inner,
+            held,
+            published: published + more,
+        }
+    }
+}

@@ -1,0 +1,44 @@
+//! A thread's part in the work on a board.
+ghost use Rattle.std.specs.Prelude.{◌≡◌, None, length, nat_eq};
+ghost use Rattle.std.specs.List.{IsDistinct};
+
+use crate::view::View;
+use std::marker::Model;
+
+/// A thread's part in the work on one board. It remembers which check it has the right to, and how
+/// many verdicts it gave.
+///
+/// A seat ends by [`Board::join`](crate::Board::join) or by [`retire`]. One that is let go with a
+/// right to a check keeps that check taken for good.
+#[derive(Drop)]
+pub struct Seat {
+    pub(crate) inner: atomic_table::Seat<(), View>,
+    pub(crate) held: Option<usize>,
+    pub(crate) published: usize,
+}
+
+impl Model for Seat {
+    ghost use Rattle.board.specs.Seats.{SeatValue, IsKept};
+
+    ghost Value = { SeatValue };
+
+    ghost view = { λ s. record { board = s.inner.table_id; view = s.inner.me.0 } };
+
+    ghost invariant = { λ s. IsKept s.inner.me s.held s.published };
+}
+
+/// How many verdicts the seat gave, with those of the seats that joined it. No check is counted
+/// twice.
+pub fn done(seat: &Seat) -> usize
+    ensures count { result ≡ length seat.now.view.done }
+    ensures once { IsDistinct nat_eq seat.now.view.done }
+{
+    seat.published
+}
+
+/// Ends a seat that has no right.
+pub fn retire(seat: Seat)
+    requires free { seat.view.right ≡ None }
+{
+    drop(seat);
+}

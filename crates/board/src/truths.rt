@@ -1,0 +1,35 @@
+//! The truths of a board's checks, for contracts alone.
+ghost use Rattle.std.specs.Prelude.{◌≡◌, Bool, List};
+ghost use Rattle.std.specs.Coded.{coded_list, coded_bool};
+ghost use base.Fml.{ftrue};
+
+use crate::checks::Checks;
+use std::marker::{Model, PhantomData};
+
+/// The truths of some checks, as clauses see them. It has no bytes, and borrows no check.
+pub struct Truths {
+    marker: PhantomData<()>,
+    pub ghost list: { List Bool } by { coded_list coded_bool },
+}
+
+impl Model for Truths {
+    ghost also_owns = { λ _. ftrue };
+}
+
+impl Truths {
+    /// The truths of these checks. Nothing is decided.
+    pub fn of<C: Checks>(checks: &C) -> Truths
+        ensures { result.list ≡ C.truths checks.now }
+    {
+        let _ = checks;
+        Truths {
+            marker: PhantomData,
+        }
+    }
+}
+
+impl Drop for Truths {
+    fn drop(self) {
+        let Self { marker: _ } = self;
+    }
+}

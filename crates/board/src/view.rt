@@ -1,0 +1,17 @@
+//! What a seat knows, for contracts alone.
+use std::collections::LinkedList;
+
+/// What a seat knows. No value of it is made: contracts speak of it, and they read the lists as
+/// plain lists.
+pub struct View {
+    /// The truths of the board's checks, in order.
+    pub truths: LinkedList<bool>,
+    /// The check that the seat has the right to decide.
+    pub right: Option<usize>,
+    /// The checks whose verdicts the seat has seen.
+    pub seen: LinkedList<usize>,
+    /// The checks whose verdicts the seat gave, its own and those of seats that joined it.
+    pub done: LinkedList<usize>,
+    /// Whether the seat knows of a stop.
+    pub halted: bool,
+}
