@@ -1,0 +1,163 @@
+//! A worker's numbers.
+ghost use Rattle.std.specs.Prelude.{◌≡◌, ◌≤◌, ◌<◌, IfOk, IfSome};
+ghost use Rattle.crossbeam_deque.specs.Handles.{stealer_deque, worker_deque};
+ghost use Rattle.hands.specs.Held.{IsOwn, IsOther, Thief};
+
+use crate::deck::{Deck, Thief, another, filled, pop, steal};
+use crate::rule::Took;
+use cjson::NoMemory;
+use crossbeam_deque::Pass;
+use std::alloc::Global;
+use std::marker::Model;
+
+/// A way to another worker's deque. Contracts see the count that its numbers are below.
+#[derive(Drop)]
+pub(crate) struct Other {
+    count: usize,
+    thief: Thief,
+    pass: Pass<usize, Took>,
+}
+
+impl Model for Other {
+    ghost use Rattle.std.specs.Prelude.{ℕ};
+    ghost use Rattle.hands.specs.Held.{IsOther};
+
+    ghost Value = { ℕ };
+
+    ghost view = { λ o. o.count };
+
+    ghost invariant = { λ o. IsOther o.count o.thief o.pass };
+}
+
+impl Other {
+    // Tries once.
+    fn steal(&mut self) -> Option<usize>
+        ensures same { self.new ≡ self.old }
+        ensures below { IfSome result (λ n. n < self.old) }
+    {
+        steal_below(&self.thief, &mut self.pass, self.count)
+    }
+}
+
+/// A worker's numbers: a deque to which its whole part was pushed, and ways to steal from the other
+/// workers' deques. Contracts see the part, which stays what it is when numbers are taken.
+#[derive(Drop)]
+pub struct Hand {
+    count: usize,
+    from: usize,
+    end: usize,
+    own: Deck,
+    others: Vec<Other>,
+}
+
+impl Model for Hand {
+    ghost use Rattle.std.specs.Prelude.{◌≡◌, All};
+    ghost use Rattle.hands.specs.Parts.{Part};
+    ghost use Rattle.hands.specs.Held.{IsOwn};
+
+    ghost Value = { Part };
+
+    ghost view = { λ h. record { count = h.count; from = h.from; end = h.end } };
+
+    ghost invariant = { λ h.
+        IsOwn h.count h.from h.end h.own × All (λ o. o ≡ h.count) h.others.items };
+}
+
+impl Hand {
+    // A hand of the numbers from `from` up to `end`, of those below `count`, with no way to others.
+    pub(crate) fn filled(
+        alloc: Global,
+        count: usize,
+        from: usize,
+        end: usize,
+    ) -> Result<Hand, NoMemory>
+        requires order { from ≤ end }
+        requires below { end ≤ count }
+        ensures part { IfOk result (λ h. h ≡ record { count = count; from = from; end = end }) }
+    {
+        Ok(Hand {
+            count,
+            from,
+            end,
+            own: filled_below(alloc, count, from, end)?,
+            others: Vec::new(alloc),
+        })
+    }
+
+    // A way to this hand's deque.
+    pub(crate) fn way(&mut self) -> Result<Other, NoMemory>
+        ensures same { self.new ≡ self.old }
+        ensures count { IfOk result (λ o. o ≡ self.old.count) }
+    {
+        let pass = another_below(&mut self.own, self.count, self.from, self.end);
+        Ok(Other {
+            count: self.count,
+            thief: self.own.stealer()?,
+            pass,
+        })
+    }
+
+    // Adds a way to another hand's deque, behind those that are there.
+    pub(crate) fn add(&mut self, other: Other) -> Result<(), NoMemory>
+        requires count { other ≡ self.old.count }
+        ensures same { self.new ≡ self.old }
+    {
+        self.others.push(other)?;
+        Ok(())
+    }
+
+    /// The next number: one of its own, or else one that it steals, with one try at each of the
+    /// other hands, from the next one upwards and round. None where no try gave a number, so
+    /// another hand may have some left. It waits for nobody and takes no memory.
+    pub fn next(&mut self) -> Option<usize>
+        ensures same { self.new ≡ self.old }
+        ensures below { IfSome result (λ n. n < self.old.count) }
+    {
+        if let Some(n) = pop_below(&mut self.own, self.count, self.from, self.end) {
+            return Some(n);
+        }
+        for k in 0..self.others.len() {
+            if let Some(n) = self.others[k].steal() {
+                return Some(n);
+            }
+        }
+        None
+    }
+}
+
+// A deque of the numbers from `from` up to `end`, which are below `count`.
+fn filled_below(alloc: Global, count: usize, from: usize, end: usize) -> Result<Deck, NoMemory>
+    requires order { from ≤ end }
+    requires below { end ≤ count }
+    ensures { IfOk result (λ d. IsOwn count from end d) }
+{
+    filled(alloc, from, end)
+}
+
+// Lets another worker take.
+fn another_below(own: &mut Deck, count: usize, from: usize, end: usize) -> Pass<usize, Took>
+    requires { IsOwn count from end own.old }
+    ensures own { IsOwn count from end own.new }
+    ensures pass { (thief : Thief) → stealer_deque thief ≡ worker_deque own.new
+        → IsOther count thief result }
+{
+    another(own)
+}
+
+// Takes from one's own deque.
+fn pop_below(own: &mut Deck, count: usize, from: usize, end: usize) -> Option<usize>
+    requires { IsOwn count from end own.old }
+    ensures own { IsOwn count from end own.new }
+    ensures below { IfSome result (λ n. n < count) }
+{
+    pop(own)
+}
+
+// Tries another worker's deque once.
+fn steal_below(thief: &Thief, pass: &mut Pass<usize, Took>, count: usize) -> Option<usize>
+    requires { IsOther count thief.now pass.old }
+    ensures same { IsOther count thief.now pass.new }
+    ensures below { IfSome result (λ n. n < count) }
+{
+    steal(thief, pass)
+}
