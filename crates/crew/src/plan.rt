@@ -1,0 +1,212 @@
+//! The questions that are likely to be asked.
+
+ghost use Rattle.std.specs.Prelude.{◌≡◌, ◌≢◌, ◌≤◌, ◌<◌, ℕ, IfOk, IfSome, IfNone, All, Some, length, slice_get, vec_len};
+ghost use Rattle.crew.specs.Questions as spec;
+ghost use Rattle.crew.specs.Questions.{IsIndex, IsDistinct, question_of, truths_of};
+ghost use Rattle.crew.specs.Held.{IsWhole, question_in};
+ghost use Rattle.crew.specs.Drafts.{IsDraft, Grows};
+
+use crate::ahead::{Scope, read_ahead};
+use crate::document::Document;
+use crate::draft::{Draft, put};
+use crate::mark::mark;
+use crate::signing::{lists, sign_all};
+use crate::wanted::digests;
+use cjson::NoMemory;
+use cjson::text::Text;
+use keys::{Algorithm, Ask, Direct, Judge};
+use lms::Public;
+use meta::Repo;
+use rolechain::Trusted;
+use std::alloc::Global;
+use std::collections::BTreeMap;
+use std::marker::Model;
+
+/// A question, whose parts lie in a document or in the repository.
+#[derive(Drop)]
+pub(crate) enum Planned<'a> {
+    Signature {
+        document: usize,
+        place: usize,
+        public: Public,
+    },
+    Digest {
+        file: Text,
+        algorithm: Algorithm,
+        bytes: &'a [u8],
+        digest: Vec<u8>,
+    },
+}
+
+/// Questions that a run is likely to ask, at most 4,096, each once. Contracts see the list of questions. An index
+/// finds a question by a digest of its names, and so at the price of one digest.
+#[derive(Drop)]
+pub struct Plan<'a> {
+    documents: Vec<Document>,
+    questions: Vec<Planned<'a>>,
+    index: BTreeMap<[u8; 32], usize>,
+}
+
+impl<'a> Model for Plan<'a> {
+    ghost use Rattle.std.specs.Prelude.{List, All, ◌≤◌, vec_len};
+    ghost use Rattle.crew.specs.Questions.{Question, IsIndex};
+    ghost use Rattle.crew.specs.Held.{IsWhole, questions_in};
+
+    ghost Value = { List Question };
+
+    ghost view = { λ p. questions_in p.documents.items p.questions.items };
+
+    ghost invariant = { λ p. All (IsWhole p.documents.items) p.questions.items
+        × IsIndex (questions_in p.documents.items p.questions.items) p.index.entries
+        × (vec_len p.questions ≤ 4096) };
+}
+
+impl<'a> Plan<'a> {
+    /// The questions that a run from this state on is likely to ask about the repository and the wanted
+    /// paths: at most `most`, none of them twice. `roles` is the number of roles that a search visits at
+    /// most; as many targets files are read as the searches for all wanted paths could visit. The
+    /// metadata is read as it stands, each file at most once, and nobody has verified it; a file that
+    /// can't be read is passed over, and so is what it would lead to.
+    ///
+    /// First come the signatures: of each successive root, by the keys of the root before it and by its
+    /// own; of timestamp, snapshot and top-level targets, by the last root's keys; of each delegated
+    /// role, by the keys of each delegation that leads to it. For each key that the role lists, each
+    /// entry under its id is a question, whatever its text looks like. Then come the listed digests of
+    /// the wanted targets whose files are there with the listed length.
+    ///
+    /// Where `most` is 0, nothing is read. It refuses for want of memory alone.
+    pub fn of(
+        alloc: Global,
+        trusted: &Trusted,
+        repo: &'a Repo,
+        wanted: &[String],
+        roles: usize,
+        most: usize,
+    ) -> Result<Plan<'a>, NoMemory>
+        requires most { most ≤ 4096 }
+        ensures most { IfOk result (λ p. length p ≤ most) }
+        ensures distinct { IfOk result (λ p. IsDistinct p) }
+    {
+        if most == 0 {
+            return Ok(Plan::of_draft(Draft::new(alloc, Vec::new(alloc), 0)));
+        }
+        let below = roles.saturating_sub(1).saturating_mul(wanted.len());
+        let scope = Scope {
+            alloc,
+            trusted,
+            repo,
+            wanted,
+            files: below.saturating_add(1),
+            most,
+        };
+        let mut documents = Vec::new(alloc);
+        let ahead = read_ahead(&scope, &mut documents)?;
+        let mut draft = Draft::new(alloc, documents, most);
+        sign_all(&mut draft, lists(&scope, &ahead)?.as_slice())?;
+        put_all(&mut draft, digests(&scope, repo, &ahead)?)?;
+        Ok(Plan::of_draft(draft))
+    }
+
+    /// The plan of a draft.
+    fn of_draft(draft: Draft<'a>) -> Plan<'a>
+        requires draft { IsDraft draft }
+        requires most { draft.most ≤ 4096 }
+        ensures most { length result ≤ draft.entry.most }
+        ensures distinct { IsDistinct result }
+    {
+        let Draft {
+            documents,
+            questions,
+            index,
+            ..
+        } = draft;
+        Plan {
+            documents,
+            questions,
+            index,
+        }
+    }
+
+    /// How many questions it has, at most 4,096.
+    pub fn len(&self) -> usize
+        ensures count { result ≡ length self.now }
+        ensures most { result ≤ 4096 }
+    {
+        self.questions.len()
+    }
+
+    /// The question of that number, from 0.
+    pub fn ask(&self, j: usize) -> Ask<'_>
+        requires below { j < length self.now }
+        ensures question { slice_get self.now j ≡ Some (question_of result) }
+    {
+        ask_of(self.documents.as_slice(), &self.questions[j])
+    }
+
+    /// The answer to the question of that number. It takes no memory, so it never refuses.
+    pub fn answer(&self, j: usize) -> Result<bool, NoMemory>
+        requires below { j < length self.now }
+        ensures truth { IfOk result (λ b. slice_get (truths_of self.now) j ≡ Some b) }
+    {
+        Direct.valid(&self.ask(j))
+    }
+
+    /// The number of the question all of whose parts are equal, and None exactly where the plan hasn't
+    /// it. It costs one digest of the question's names, and the comparison with one question at most.
+    pub fn place_of(&self, ask: &Ask) -> Option<usize>
+        ensures some { IfSome result (λ j. slice_get self.now j ≡ Some (question_of ask.now)) }
+        ensures none { IfNone result ((j : ℕ) → slice_get self.now j ≢ Some (question_of ask.now)) }
+    {
+        let mark = mark(ask);
+        let j = *self.index.get(&mark)?;
+        if self.ask(j).same(ask) { Some(j) } else { None }
+    }
+}
+
+/// Adds questions about digests.
+#[tactic(auto, using(crate::proofs::Drafting::grows_none, crate::proofs::Drafting::grows_on))]
+fn put_all<'a>(draft: &mut Draft<'a>, all: Vec<Planned<'a>>) -> Result<(), NoMemory>
+    requires { IsDraft draft.old }
+    ensures { Grows draft.old draft.new }
+{
+    for planned in all {
+        if let Planned::Digest { .. } = &planned {
+            put(draft, planned)?;
+        }
+    }
+    Ok(())
+}
+
+/// The question with its parts.
+pub(crate) fn ask_of<'b>(documents: &'b [Document], planned: &'b Planned<'_>) -> Ask<'b>
+    requires { IsWhole documents.now planned.now }
+    ensures { question_of result ≡ question_in documents.now planned.now }
+{
+    match planned {
+        Planned::Signature {
+            document,
+            place,
+            public,
+        } => {
+            let document = &documents[*document];
+            Ask::Signature {
+                file: document.file.as_str(),
+                place: *place,
+                public,
+                message: document.message.as_slice(),
+                sig: document.entries[*place].sig.as_str(),
+            }
+        }
+        Planned::Digest {
+            file,
+            algorithm,
+            bytes,
+            digest,
+        } => Ask::Digest {
+            file: file.as_str(),
+            algorithm: *algorithm,
+            bytes,
+            digest: digest.as_slice(),
+        },
+    }
+}

@@ -1,0 +1,196 @@
+//! The questions about signatures.
+
+ghost use Rattle.std.specs.Prelude.{◌≡◌, IsTrue, slice_get};
+ghost use Rattle.crew.specs.Held.{HasEntry};
+ghost use Rattle.crew.specs.Drafts.{IsDraft, Grows};
+
+use crate::ahead::{Ahead, Read, RoleFile, Roles, Scope, last_root};
+use crate::draft::{Draft, put};
+use crate::plan::Planned;
+use crate::wanted::is_followed;
+use cjson::NoMemory;
+use keys::{Key, KeyRing, RoleKeys};
+use meta::Root;
+use rolechain::Trusted;
+
+/// Whose signatures are asked of a document.
+#[derive(Clone, Copy)]
+pub(crate) struct Signers<'a> {
+    document: usize,
+    ring: &'a KeyRing,
+    role: &'a RoleKeys,
+}
+
+/// Who has to sign the files that were read: a root by the keys before it and by its own, the others by
+/// the last root's, and a delegated role by those of each delegation that reaches it.
+pub(crate) fn lists<'b>(scope: &Scope<'b>, ahead: &'b Ahead) -> Result<Vec<Signers<'b>>, NoMemory> {
+    let mut all = Vec::new(scope.alloc);
+    add_roots(scope.trusted, ahead.roots.as_slice(), &mut all)?;
+    add_top(
+        last_root(scope.trusted, ahead.roots.as_slice()),
+        ahead,
+        &mut all,
+    )?;
+    for file in ahead.roles.files.iter() {
+        if all.len() >= scope.most {
+            break;
+        }
+        add_delegated(file, &ahead.roles, &mut all)?;
+    }
+    Ok(all)
+}
+
+/// Adds for each root the keys of the root before it, and its own.
+fn add_roots<'b>(
+    trusted: &'b Trusted,
+    roots: &'b [Read<Root>],
+    all: &mut Vec<Signers<'b>>,
+) -> Result<(), NoMemory> {
+    let mut before = trusted.root().reading();
+    for root in roots {
+        all.push(Signers {
+            document: root.document,
+            ring: before.ring(),
+            role: before.root(),
+        })?;
+        all.push(Signers {
+            document: root.document,
+            ring: root.reading.ring(),
+            role: root.reading.root(),
+        })?;
+        before = &root.reading;
+    }
+    Ok(())
+}
+
+/// Adds the last root's keys for the timestamp, the snapshot and the top-level targets file.
+fn add_top<'b>(
+    root: &'b Root,
+    ahead: &'b Ahead,
+    all: &mut Vec<Signers<'b>>,
+) -> Result<(), NoMemory> {
+    let timestamp = ahead.timestamp.as_ref().map(|file| file.document);
+    let snapshot = ahead.snapshot.as_ref().map(|file| file.document);
+    let top = ahead.roles.files.first().map(|file| file.document);
+    let rows = [
+        (timestamp, root.timestamp()),
+        (snapshot, root.snapshot()),
+        (top, root.targets()),
+    ];
+    for (document, role) in rows {
+        if let Some(document) = document {
+            all.push(Signers {
+                document,
+                ring: root.ring(),
+                role,
+            })?;
+        }
+    }
+    Ok(())
+}
+
+/// Adds those of the file's delegations that are followed.
+fn add_delegated<'b>(
+    file: &'b RoleFile,
+    roles: &'b Roles,
+    all: &mut Vec<Signers<'b>>,
+) -> Result<(), NoMemory> {
+    let Some(delegations) = file.targets.delegations() else {
+        return Ok(());
+    };
+    for (place, delegation) in delegations.roles().iter().enumerate() {
+        if !is_followed(file.followed.as_slice(), place) || delegation.name() == "targets" {
+            continue;
+        }
+        if let Some(document) = document_of(roles, delegation.name()) {
+            all.push(Signers {
+                document,
+                ring: delegations.ring(),
+                role: delegation.keys(),
+            })?;
+        }
+    }
+    Ok(())
+}
+
+/// The document of a role's file, where it was read.
+fn document_of(roles: &Roles, role: &str) -> Option<usize> {
+    let place = (*roles.places.get(role)?)?;
+    Some(roles.files.get(place)?.document)
+}
+
+/// Plans the questions about the signatures of these signers.
+#[tactic(auto, using(crate::proofs::Drafting::grows_none, crate::proofs::Drafting::grows_on))]
+pub(crate) fn sign_all<'a>(draft: &mut Draft<'a>, all: &[Signers]) -> Result<(), NoMemory>
+    requires { IsDraft draft.old }
+    ensures { Grows draft.old draft.new }
+{
+    for signers in all {
+        sign(draft, signers)?;
+    }
+    Ok(())
+}
+
+/// Plans a question for each entry under the id of a key that the role lists.
+#[tactic(auto, using(crate::proofs::Drafting::grows_none, crate::proofs::Drafting::grows_on))]
+fn sign<'a>(draft: &mut Draft<'a>, signers: &Signers) -> Result<(), NoMemory>
+    requires { IsDraft draft.old }
+    ensures { Grows draft.old draft.new }
+{
+    for key in signers.ring.keys() {
+        if is_listed(signers.role, key) {
+            sign_by(draft, signers.document, key)?;
+        }
+    }
+    Ok(())
+}
+
+fn is_listed(role: &RoleKeys, key: &Key) -> bool {
+    let id = key.id();
+    role.ids().iter().any(|listed| id == listed.as_str())
+}
+
+/// Plans a question for each entry under the key's id.
+#[tactic(auto, using(crate::proofs::Drafting::grows_none, crate::proofs::Drafting::grows_on))]
+fn sign_by<'a>(draft: &mut Draft<'a>, document: usize, key: &Key) -> Result<(), NoMemory>
+    requires { IsDraft draft.old }
+    ensures { Grows draft.old draft.new }
+{
+    for place in 0..entry_count(draft, document) {
+        if draft.is_full() {
+            break;
+        }
+        if is_by(draft, document, place, key) {
+            let public = *key.public();
+            put(
+                draft,
+                Planned::Signature {
+                    document,
+                    place,
+                    public,
+                },
+            )?;
+        }
+    }
+    Ok(())
+}
+
+fn entry_count(draft: &Draft, document: usize) -> usize {
+    match draft.documents.get(document) {
+        Some(document) => document.entries.len(),
+        None => 0,
+    }
+}
+
+/// Whether the document has an entry at the place, and it is under the key's id.
+fn is_by(draft: &Draft, document: usize, place: usize, key: &Key) -> bool
+    ensures { IsTrue result → HasEntry place (slice_get draft.now.documents.items document) }
+{
+    let Some(document) = draft.documents.get(document) else {
+        return false;
+    };
+    let Some(entry) = document.entries.get(place) else {
+        return false;
+    };
+    entry.keyid.as_str() == key.id()
+}

@@ -1,0 +1,161 @@
+//! Which delegations and targets bear on the wanted paths.
+
+use crate::ahead::{Ahead, Scope, last_root};
+use crate::plan::Planned;
+use cjson::NoMemory;
+use cjson::text::Text;
+use deleg::{matches, prefix_matches};
+use keys::Algorithm;
+use meta::names::hashed;
+use meta::{Delegations, Paths, Repo, Target, Targets};
+use std::alloc::Global;
+
+/// Which delegations of a file are followed for some wanted path: those that match it, in order, up to
+/// the first that is terminating; none for a path that the file itself lists.
+pub(crate) fn followed(
+    alloc: Global,
+    targets: &Targets,
+    wanted: &[String],
+) -> Result<Vec<bool>, NoMemory> {
+    let mut marks = Vec::new(alloc);
+    let Some(delegations) = targets.delegations() else {
+        return Ok(marks);
+    };
+    marks.resize(delegations.roles().len(), false)?;
+    for path in wanted {
+        if target_of(targets, path.as_str()).is_none() {
+            follow(delegations, path.as_str(), &mut marks);
+        }
+    }
+    Ok(marks)
+}
+
+/// Marks the delegations that match the path, in order, up to the first that is terminating.
+fn follow(delegations: &Delegations, path: &str, marks: &mut Vec<bool>) {
+    for (mark, delegation) in marks.iter_mut().zip(delegations.roles()) {
+        if is_for(delegation.paths(), path) {
+            *mark = true;
+            if delegation.is_terminating() {
+                break;
+            }
+        }
+    }
+}
+
+/// Whether the delegation of that place is followed.
+pub(crate) fn is_followed(marks: &[bool], place: usize) -> bool {
+    match marks.get(place) {
+        Some(mark) => *mark,
+        None => false,
+    }
+}
+
+fn is_for(paths: &Paths, path: &str) -> bool {
+    match paths {
+        Paths::Patterns(patterns) => patterns
+            .as_slice()
+            .iter()
+            .any(|pattern| matches(pattern.as_str(), path)),
+        Paths::Prefixes(prefixes) => prefixes
+            .as_slice()
+            .iter()
+            .any(|prefix| prefix_matches(prefix.digits(), path)),
+    }
+}
+
+fn target_of<'b>(targets: &'b Targets, path: &str) -> Option<&'b Target> {
+    targets
+        .targets()
+        .iter()
+        .find(|target| target.path() == path)
+}
+
+/// The questions about the digests of the wanted targets, as each file that was read lists them.
+pub(crate) fn digests<'a>(
+    scope: &Scope,
+    repo: &'a Repo,
+    ahead: &Ahead,
+) -> Result<Vec<Planned<'a>>, NoMemory> {
+    let consistent = last_root(scope.trusted, ahead.roots.as_slice()).consistent();
+    let mut found = Vec::new(scope.alloc);
+    for path in scope.wanted {
+        for file in ahead.roles.files.iter() {
+            if found.len() >= scope.most {
+                return Ok(found);
+            }
+            if let Some(target) = target_of(&file.targets, path.as_str()) {
+                add_digests(scope.alloc, repo, consistent, target, &mut found)?;
+            }
+        }
+    }
+    Ok(found)
+}
+
+fn add_digests<'a>(
+    alloc: Global,
+    repo: &'a Repo,
+    consistent: bool,
+    target: &Target,
+    found: &mut Vec<Planned<'a>>,
+) -> Result<(), NoMemory> {
+    let Some(bytes) = first_there(alloc, repo, consistent, target)? else {
+        return Ok(());
+    };
+    if target.length() != bytes.len() as u64 {
+        return Ok(());
+    }
+    if let Some(digest) = target.hashes().sha256() {
+        let digest = Vec::from_slice(alloc, &digest)?;
+        found.push(digest_of(alloc, target, Algorithm::Sha256, bytes, digest)?)?;
+    }
+    if let Some(digest) = target.hashes().sha512() {
+        let digest = Vec::from_slice(alloc, &digest)?;
+        found.push(digest_of(alloc, target, Algorithm::Sha512, bytes, digest)?)?;
+    }
+    Ok(())
+}
+
+fn digest_of<'a>(
+    alloc: Global,
+    target: &Target,
+    algorithm: Algorithm,
+    bytes: &'a [u8],
+    digest: Vec<u8>,
+) -> Result<Planned<'a>, NoMemory> {
+    Ok(Planned::Digest {
+        file: Text::new(String::from_str(alloc, target.path())?),
+        algorithm,
+        bytes,
+        digest,
+    })
+}
+
+/// The file under the first of the target's names that is there.
+fn first_there<'a>(
+    alloc: Global,
+    repo: &'a Repo,
+    consistent: bool,
+    target: &Target,
+) -> Result<Option<&'a [u8]>, NoMemory> {
+    if !consistent {
+        return Ok(file_of(repo, target.path()));
+    }
+    if let Some(digest) = target.hashes().sha256() {
+        let name = hashed(alloc, &digest, target.path())?;
+        if let Some(found) = file_of(repo, name.as_str()) {
+            return Ok(Some(found));
+        }
+    }
+    let Some(digest) = target.hashes().sha512() else {
+        return Ok(None);
+    };
+    let name = hashed(alloc, &digest, target.path())?;
+    Ok(file_of(repo, name.as_str()))
+}
+
+fn file_of<'a>(repo: &'a Repo, name: &str) -> Option<&'a [u8]> {
+    match repo.targets.get(name) {
+        Some(bytes) => Some(bytes.as_slice()),
+        None => None,
+    }
+}
