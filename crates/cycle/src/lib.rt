@@ -1,20 +1,25 @@
-//! The client workflow of The Update Framework for a list of wanted paths, on one thread (TUF 1.0
-//! section 5).
+//! The client workflow of The Update Framework for a list of wanted paths (TUF 1.0 section 5), on one
+//! thread or with workers that decide checks ahead.
 #![tactic(auto)]
 
 mod limits;
+mod order;
 mod outcome;
 mod roles;
-mod run;
+mod running;
+mod stats;
 mod target;
 mod verdict;
+mod workers;
 
 pub use cjson::NoMemory;
 pub use cjson::text::Text;
+pub use crew::{Gate, Open};
 pub use deleg::Accepted;
 pub use limits::Limits;
 pub use meta::{Fault, Moment, Repo};
 pub use outcome::Outcome;
 pub use rolechain::{End, StateFault, Step, Trusted};
-pub use run::run_alone;
+pub use running::{run, run_alone};
+pub use stats::Stats;
 pub use verdict::Verdict;

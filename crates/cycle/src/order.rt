@@ -9,44 +9,52 @@ use crate::roles::gathered;
 use crate::target::verdicts_of;
 use cjson::NoMemory;
 use deleg::{Searched, search};
-use keys::{Direct, Judge};
+use keys::Judge;
 use meta::{Moment, Repo};
 use rolechain::{End, Trusted, advance};
 use std::alloc::Global;
 
-/// One cycle of the client workflow on one thread, and the verdict of each wanted path (TUF 1.0
-/// section 5). Each path is searched on its own, in order, through at most as many roles as the
-/// limits say.
-pub fn run_alone(
-    alloc: Global,
-    trusted: &Trusted,
-    repo: &Repo,
-    now: Moment,
-    wanted: &[String],
-    limits: &Limits,
-) -> Result<Outcome, NoMemory>
-    ensures workflow { IfOk result (λ o. o ≡ spec.workflow (file_in repo.now.metadata) (file_in repo.now.targets)
-        now trusted.now (map string_bytes wanted.now) limits.now.roles) }
-{
-    let mut judge = Direct;
-    let (trusted, end) = advance(alloc, trusted, repo, now, &mut judge)?;
-    let cycle = Cycle {
-        alloc,
-        repo,
-        moment: now,
-        limits,
-    };
-    let searches = searches(&cycle, &trusted, end, wanted, &mut judge)?;
-    close(&cycle, trusted, end, searches.as_slice(), &mut judge)
+/// Work that is done in order, by any judge, and has one outcome.
+pub(crate) trait Ordered {
+    ghost use Rattle.cycle.specs.Workflow as spec;
+
+    /// The outcome, on which no judge has any influence.
+    ghost outcome: { Self → spec.Outcome };
+
+    /// Does the work.
+    fn in_order<J: Judge>(&self, judge: &mut J) -> Result<Outcome, NoMemory>
+        ensures { IfOk result (λ o. o ≡ outcome self.now) };
 }
 
-/// What a cycle looks at.
+/// What a run begins with and looks at.
 #[derive(Clone, Copy)]
-struct Cycle<'a> {
-    alloc: Global,
-    repo: &'a Repo,
-    moment: Moment,
-    limits: &'a Limits,
+pub(crate) struct Cycle<'a> {
+    pub alloc: Global,
+    pub trusted: &'a Trusted,
+    pub repo: &'a Repo,
+    pub moment: Moment,
+    pub wanted: &'a [String],
+    pub limits: &'a Limits,
+}
+
+impl Ordered for Cycle<'_> {
+    ghost outcome = { λ c. spec.workflow (file_in c.repo.now.metadata) (file_in c.repo.now.targets)
+        c.moment c.trusted.now (map string_bytes c.wanted.now) c.limits.now.roles };
+
+    fn in_order<J: Judge>(&self, judge: &mut J) -> Result<Outcome, NoMemory> {
+        in_order(self, judge)
+    }
+}
+
+/// The workflow with this judge: each file is judged when its turn comes, and each wanted path is
+/// searched on its own, in order.
+fn in_order<J: Judge>(cycle: &Cycle, judge: &mut J) -> Result<Outcome, NoMemory>
+    ensures { IfOk result (λ o. o ≡ spec.workflow (file_in cycle.now.repo.now.metadata) (file_in cycle.now.repo.now.targets)
+        cycle.now.moment cycle.now.trusted.now (map string_bytes cycle.now.wanted.now) cycle.now.limits.now.roles) }
+{
+    let (trusted, end) = advance(cycle.alloc, cycle.trusted, cycle.repo, cycle.moment, judge)?;
+    let searches = searches(cycle, &trusted, end, judge)?;
+    close(cycle, trusted, end, searches.as_slice(), judge)
 }
 
 /// The outcome of a cycle whose searches are done.
@@ -83,15 +91,15 @@ fn searches<J: Judge>(
     cycle: &Cycle,
     trusted: &Trusted,
     end: End,
-    wanted: &[String],
     judge: &mut J,
 ) -> Result<Vec<Option<Searched>>, NoMemory>
     requires { end ≡ End.Ready → is_ready trusted.now ≡ true }
     ensures { IfOk result (λ all. all.items
-        ≡ map (spec.searched (file_in cycle.now.repo.now.metadata) cycle.now.moment cycle.now.limits.now.roles trusted.now end) (map string_bytes wanted.now)) }
+        ≡ map (spec.searched (file_in cycle.now.repo.now.metadata) cycle.now.moment cycle.now.limits.now.roles trusted.now end)
+        (map string_bytes cycle.now.wanted.now)) }
 {
-    let mut all = Vec::with_capacity(cycle.alloc, wanted.len())?;
-    for path in wanted {
+    let mut all = Vec::with_capacity(cycle.alloc, cycle.wanted.len())?;
+    for path in cycle.wanted {
         all.push(searched(cycle, trusted, end, path.as_str(), judge)?)?;
     }
     Ok(all)
