@@ -47,31 +47,3 @@ pub fn hashed(alloc: Global, digest: &[u8], path: &str) -> Result<String, AllocE
         None => format!(in alloc; "{hash}.{path}"),
     }
 }
-
-#[cfg(test)]
-mod tests {
-    use super::{hashed, role_name, root_name, versioned};
-    use std::test::Fail;
-
-    #[test]
-    fn names(rt: HostRuntime) -> Result<(), Fail> {
-        let alloc = rt.alloc();
-        assert_eq!(rt; root_name(alloc, 1)?.as_str(), "1.root.json");
-        assert_eq!(rt; role_name(alloc, "targets")?.as_str(), "targets.json");
-        assert_eq!(rt;
-            versioned(alloc, true, 42, "snapshot.json")?.as_str(),
-            "42.snapshot.json"
-        );
-        assert_eq!(rt;
-            versioned(alloc, false, 42, "snapshot.json")?.as_str(),
-            "snapshot.json"
-        );
-        let digest = [0xe3, 0xb0, 0xc4, 0x42];
-        assert_eq!(rt;
-            hashed(alloc, &digest, "a/b/c.txt")?.as_str(),
-            "a/b/e3b0c442.c.txt"
-        );
-        assert_eq!(rt; hashed(alloc, &digest, "c.txt")?.as_str(), "e3b0c442.c.txt");
-        Ok(())
-    }
-}

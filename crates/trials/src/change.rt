@@ -1,19 +1,20 @@
 //! Files with one part changed.
 
-use crate::script::joined;
-use crate::shell::{Shell, Told};
+use crate::shell::Shell;
 use anyhow::{Context, Result, bail};
 use cjson::{canonical, read_tree, signed_bytes};
 use lms::Height;
 use maker::{Signer, seal, secret};
 use serde_json::Value;
+use sessions::{Told, joined};
 use std::alloc::Global;
 use std::fs;
 use std::rt::{Clock, Files};
 
-/// Puts a text in the place of another where this stands first in the file. The first line is the old text, in which
-/// `...` stands for as little as may be, and the others are the new one. With the byte of a key, the change is made in
-/// what the file signs, and the key signs it under the id that signed it before.
+/// Puts a text in the place of another where this stands first in the file. The first line is the
+/// old text, in which `...` stands for as little as may be, and the others are the new one. With
+/// the byte of a key, the change is made in what the file signs, and the key signs it under the id
+/// that signed it before.
 pub fn change<R: Files + Clock + AllocGlobal + Clone + Drop>(
     shell: &Shell<'_, R>,
     name: &str,

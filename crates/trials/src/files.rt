@@ -1,86 +1,14 @@
-//! The commands that look at files and change them.
+//! The commands that write state files and look at what is made.
 
-use crate::script::joined;
-use crate::shell::{Shell, Told};
+use crate::shell::Shell;
 use anyhow::{Context, Result};
+use folder::{Depth, Disk, load};
+use sessions::Told;
+use sha2::{Digest, Sha256};
+use std::alloc::Global;
+use std::collections::BTreeMap;
 use std::fs;
 use std::rt::{Clock, Files};
-
-/// Writes a file with the text of the lines.
-pub fn put<R: Files + Clock + AllocGlobal + Clone + Drop>(
-    shell: &Shell<'_, R>,
-    name: &str,
-    lines: &[String],
-) -> Result<Told> {
-    let text = joined(shell.alloc, lines)?;
-    fs::write(shell.rt, name, text.as_str())?;
-    Ok(Told::nothing(shell.alloc))
-}
-
-/// Writes a file with the bytes of another.
-pub fn copy<R: Files + Clock + AllocGlobal + Clone + Drop>(
-    shell: &Shell<'_, R>,
-    from: &str,
-    to: &str,
-) -> Result<Told> {
-    let bytes = fs::read(shell.rt, from)?;
-    fs::write(shell.rt, to, bytes.as_slice())?;
-    Ok(Told::nothing(shell.alloc))
-}
-
-/// Removes a file, or a folder with all that is in it.
-pub fn remove<R: Files + Clock + AllocGlobal + Clone + Drop>(
-    shell: &Shell<'_, R>,
-    name: &str,
-) -> Result<Told> {
-    if fs::symlink_metadata(shell.rt, name)?.is_dir() {
-        fs::remove_dir_all(shell.rt, name)?;
-    } else {
-        fs::remove_file(shell.rt, name)?;
-    }
-    Ok(Told::nothing(shell.alloc))
-}
-
-/// Makes a folder, with those in which it lies.
-pub fn folder<R: Files + Clock + AllocGlobal + Clone + Drop>(
-    shell: &Shell<'_, R>,
-    name: &str,
-) -> Result<Told> {
-    fs::create_dir_all(shell.rt, name)?;
-    Ok(Told::nothing(shell.alloc))
-}
-
-/// Appends blanks to a file until it has so many bytes, or cuts it off there.
-pub fn pad<R: Files + Clock + AllocGlobal + Clone + Drop>(
-    shell: &Shell<'_, R>,
-    name: &str,
-    length: &str,
-) -> Result<Told> {
-    let length = length.parse::<u32>()?;
-    let mut bytes = fs::read(shell.rt, name)?;
-    bytes.resize(length as usize, b' ')?;
-    fs::write(shell.rt, name, bytes.as_slice())?;
-    Ok(Told::nothing(shell.alloc))
-}
-
-/// Whether there is a file or a folder of that name.
-pub fn has<R: Files + Clock + AllocGlobal + Clone + Drop>(
-    shell: &Shell<'_, R>,
-    name: &str,
-) -> Result<Told> {
-    Ok(Told::answer(shell.alloc, fs::exists(shell.rt, name)?))
-}
-
-/// Whether two files have the same bytes.
-pub fn same<R: Files + Clock + AllocGlobal + Clone + Drop>(
-    shell: &Shell<'_, R>,
-    one: &str,
-    other: &str,
-) -> Result<Told> {
-    let one = fs::read(shell.rt, one)?;
-    let other = fs::read(shell.rt, other)?;
-    Ok(Told::answer(shell.alloc, one == other))
-}
 
 /// Writes a state file with members `NAME=FILE`, in the order in which they are given.
 pub fn state<R: Files + Clock + AllocGlobal + Clone + Drop>(
@@ -118,7 +46,32 @@ pub fn keeps<R: Files + Clock + AllocGlobal + Clone + Drop>(
         }
     }
     line.push('\n')?;
-    let mut told = Told::nothing(shell.alloc);
-    told.out.extend_from_slice(line.as_bytes())?;
-    Ok(told)
+    Ok(Told::printed(shell.alloc, line))
+}
+
+/// Tells the name of each file that was made and its SHA-256, in the order of the names' bytes.
+pub fn digests<R: Files + Clock + AllocGlobal + Clone + Drop>(
+    shell: &Shell<'_, R>,
+) -> Result<Told> {
+    let mut text = String::new(shell.alloc);
+    for name in ["metadata", "targets"] {
+        let mut folder = Disk::new(shell.rt, name, Depth::Below);
+        let files = load(shell.alloc, &mut folder)?;
+        push_digests(shell.alloc, &mut text, name, &files)?;
+    }
+    Ok(Told::printed(shell.alloc, text))
+}
+
+fn push_digests(
+    alloc: Global,
+    text: &mut String,
+    folder: &str,
+    files: &BTreeMap<String, Vec<u8>>,
+) -> Result<()> {
+    for (name, bytes) in files.iter() {
+        let digest: [u8; 32] = Sha256::digest(bytes.as_slice());
+        let digits = hex::encode(alloc, digest)?;
+        writeln!(text, "{folder}/{name} {digits}")?;
+    }
+    Ok(())
 }

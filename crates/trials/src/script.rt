@@ -5,23 +5,9 @@ use std::alloc::Global;
 use std::fs;
 use std::rt::Files;
 
-/// The text of the lines, joined by line feeds.
-pub fn joined(alloc: Global, lines: &[String]) -> Result<String> {
-    let mut text = String::new(alloc);
-    let mut is_first = true;
-    for line in lines {
-        if !is_first {
-            text.push('\n')?;
-        }
-        is_first = false;
-        text.push_str(line.as_str())?;
-    }
-    Ok(text)
-}
-
-/// The script that the lines spell, each ended by a line feed. `@NAME` stands for the lines of the file `NAME.script`
-/// among the cases, and `@FIRST..LAST TEXT` for a line TEXT for each number, in which `{}` is the number and `{+}` the
-/// one after it.
+/// The script that the lines spell, each ended by a line feed. `@NAME` stands for the lines of the
+/// file `NAME.script` among the cases, and `@FIRST..LAST TEXT` for a line TEXT for each number, in
+/// which `{}` is the number and `{+}` the one after it.
 pub fn script_of<R: Files + AllocGlobal>(
     rt: &R,
     alloc: Global,

@@ -1,66 +1,15 @@
 //! What runs the commands of a session.
 
-use crate::line::words_of;
 use crate::script::script_of;
 use anyhow::Result;
 use command::perform;
+use sessions::{Told, words_of};
 use std::alloc::Global;
 use std::fs;
 use std::rt::{Clock, Files};
 
 /// The moment of the verifications that name none.
-const NOW: &str = "2026-01-01T00:00:00Z";
-
-/// What a command gave.
-#[derive(Drop)]
-pub struct Told {
-    pub status: u8,
-    pub out: Vec<u8>,
-    pub err: Vec<u8>,
-}
-
-impl Told {
-    /// What a command gives that tells nothing.
-    pub fn nothing(alloc: Global) -> Told {
-        Told {
-            status: 0,
-            out: Vec::new(alloc),
-            err: Vec::new(alloc),
-        }
-    }
-
-    /// What a question gives: the status 0 for yes and 1 for no.
-    pub fn answer(alloc: Global, is_so: bool) -> Told {
-        Told {
-            status: if is_so { 0 } else { 1 },
-            out: Vec::new(alloc),
-            err: Vec::new(alloc),
-        }
-    }
-
-    /// The lines of a session.
-    pub fn lines(&self, alloc: Global) -> Result<Vec<String>> {
-        let mut lines = Vec::new(alloc);
-        push_lines(alloc, &mut lines, "", self.out.as_slice())?;
-        push_lines(alloc, &mut lines, "! ", self.err.as_slice())?;
-        let status = self.status;
-        if status != 0 {
-            lines.push(format!(in alloc; "[{status}]")?)?;
-        }
-        Ok(lines)
-    }
-}
-
-fn push_lines(alloc: Global, lines: &mut Vec<String>, front: &str, bytes: &[u8]) -> Result<()> {
-    let text = std::str::from_utf8(bytes)?;
-    for line in text.lines() {
-        lines.push(format!(in alloc; "{front}{line}")?)?;
-    }
-    if !text.is_empty() && !text.ends_with("\n") {
-        lines.push(format!(in alloc; "{front}(no line feed)")?)?;
-    }
-    Ok(())
-}
+pub const NOW: &str = "2026-01-01T00:00:00Z";
 
 /// The system as a session sees it.
 #[derive(Clone, Copy, Drop)]
@@ -75,16 +24,16 @@ impl<'a, R: Files + Clock + AllocGlobal + Clone + Drop> Shell<'a, R> {
     }
 
     /// Runs the command line with the words.
-    pub fn perform(&self, words: &[String]) -> Result<Told> {
+    pub fn run(&self, words: &[String]) -> Result<Told> {
         let mut told = Told::nothing(self.alloc);
         told.status = perform(self.rt, self.alloc, words, &mut told.out, &mut told.err);
         Ok(told)
     }
 
     /// Runs the command line with the words of a line.
-    fn perform_line(&self, line: &str) -> Result<Told> {
+    fn run_line(&self, line: &str) -> Result<Told> {
         let words = words_of(self.alloc, line)?;
-        self.perform(words.as_slice())
+        self.run(words.as_slice())
     }
 
     /// Makes what the script says in place of the folders `metadata` and `targets`.
@@ -97,13 +46,13 @@ impl<'a, R: Files + Clock + AllocGlobal + Clone + Drop> Shell<'a, R> {
         }
         let script = script_of(self.rt, self.alloc, lines)?;
         fs::write(self.rt, "script", script.as_str())?;
-        self.perform_line("make script .")
+        self.run_line("make script .")
     }
 
     /// Trusts the root of version 1.
     pub fn init(&self, state: &str) -> Result<Told> {
         let line = format!(in self.alloc; "init metadata/1.root.json --out {state}")?;
-        self.perform_line(line.as_str())
+        self.run_line(line.as_str())
     }
 
     /// Verifies the folders `metadata` and `targets` from the state `old`, with further words.
@@ -119,6 +68,6 @@ impl<'a, R: Files + Clock + AllocGlobal + Clone + Drop> Shell<'a, R> {
         for word in more {
             words.push(word.clone()?)?;
         }
-        self.perform(words.as_slice())
+        self.run(words.as_slice())
     }
 }

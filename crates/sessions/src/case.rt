@@ -1,0 +1,91 @@
+//! The steps of a case.
+
+use crate::line::{Line, words_of};
+use anyhow::{Context, Result};
+use std::alloc::Global;
+
+/// A command, what is handed to it, and what it should give.
+#[derive(Drop)]
+pub struct Step {
+    /// The number of the command's line in its file.
+    pub(crate) line: usize,
+    /// The command as it is written.
+    pub(crate) command: String,
+    /// The command's words, of which the first is its name.
+    words: Vec<String>,
+    /// The lines that are handed to it.
+    pub script: Vec<String>,
+    pub(crate) expected: Vec<String>,
+}
+
+impl Step {
+    fn new(alloc: Global, line: usize, command: &str) -> Result<Step> {
+        Ok(Step {
+            line,
+            command: String::from_str(alloc, command)?,
+            words: words_of(alloc, command)?,
+            script: Vec::new(alloc),
+            expected: Vec::new(alloc),
+        })
+    }
+
+    /// The command's name.
+    pub fn name(&self) -> Result<&str> {
+        Ok(self.words.first().context("no word")?.as_str())
+    }
+
+    /// The words behind the name.
+    pub fn words(&self) -> &[String] {
+        self.words.get(1..).unwrap_or(&[])
+    }
+
+    /// The word at a place behind the name, from 0.
+    pub fn word(&self, place: usize) -> Result<&str> {
+        Ok(
+            self.words()
+                .get(place)
+                .context("a word is missing")?
+                .as_str(),
+        )
+    }
+
+    /// The text behind the name, so many words, and a blank behind each of them.
+    pub fn text_behind(&self, words: usize) -> &str {
+        let mut text = self.command.as_str();
+        for _ in 0..=words {
+            text = match text.split_once(" ") {
+                Some((_, behind)) => behind,
+                None => "",
+            };
+        }
+        text
+    }
+}
+
+/// The steps that a case's text has, in order.
+pub fn steps_of(alloc: Global, text: &str) -> Result<Vec<Step>> {
+    let mut steps: Vec<Step> = Vec::new(alloc);
+    let mut number: usize = 0;
+    for line in text.lines() {
+        number = number.saturating_add(1);
+        match Line::of(line) {
+            Line::Prose => {}
+            Line::Command(words) => steps.push(Step::new(alloc, number, words)?)?,
+            Line::Script(text) => {
+                let text = String::from_str(alloc, text)?;
+                last(&mut steps)?.script.push(text)?;
+            }
+            Line::Expected(text) => {
+                let text = String::from_str(alloc, text)?;
+                last(&mut steps)?.expected.push(text)?;
+            }
+        }
+    }
+    Ok(steps)
+}
+
+fn last(steps: &mut Vec<Step>) -> Result<&mut Step> {
+    steps
+        .last_mut()
+        .context("a line of a session stands before its first command")
+}

@@ -1,0 +1,49 @@
+//! What a step gave against what is written.
+
+use anyhow::Result;
+use std::alloc::Global;
+
+/// Whether the lines are as expected. An expected `...` stands for any lines, and `...` at a line's
+/// end for any text.
+pub fn is_as_expected(alloc: Global, expected: &[String], given: &[String]) -> Result<bool> {
+    // for each count of given lines, whether the expected lines so far stand for so many
+    let mut reached = Vec::new(alloc);
+    reached.push(true)?;
+    for _ in given {
+        reached.push(false)?;
+    }
+    for line in expected {
+        reached = if line.as_str() == "..." {
+            after_any(alloc, reached.as_slice())?
+        } else {
+            after_line(alloc, reached.as_slice(), line.as_str(), given)?
+        };
+    }
+    Ok(reached.last() == Some(&true))
+}
+
+fn after_any(alloc: Global, reached: &[bool]) -> Result<Vec<bool>> {
+    let mut next = Vec::new(alloc);
+    let mut is_reached = false;
+    for here in reached {
+        is_reached = is_reached || *here;
+        next.push(is_reached)?;
+    }
+    Ok(next)
+}
+
+fn after_line(alloc: Global, reached: &[bool], line: &str, given: &[String]) -> Result<Vec<bool>> {
+    let mut next = Vec::new(alloc);
+    next.push(false)?;
+    for (here, given) in reached.iter().zip(given.iter()) {
+        next.push(*here && fits(line, given.as_str()))?;
+    }
+    Ok(next)
+}
+
+fn fits(expected: &str, given: &str) -> bool {
+    match expected.strip_suffix("...") {
+        Some(front) => given.starts_with(front),
+        None => given == expected,
+    }
+}

@@ -1,0 +1,38 @@
+//! What a step gives.
+
+use crate::case::Step;
+use crate::commands::Commands;
+use crate::files;
+use crate::told::Told;
+use anyhow::Result;
+use std::alloc::Global;
+use std::rt::Files;
+
+/// The lines that a step gives. Where it can't be done, a line says why.
+pub fn given_by<R: Files + AllocGlobal + Clone + Drop, C: Commands>(
+    rt: &R,
+    alloc: Global,
+    commands: &C,
+    step: &Step,
+) -> Result<Vec<String>> {
+    match done(rt, alloc, commands, step) {
+        Ok(told) => told.lines(alloc),
+        Err(error) => {
+            let mut lines = Vec::new(alloc);
+            lines.push(format!(in alloc; "the step can't be done: {error}")?)?;
+            Ok(lines)
+        }
+    }
+}
+
+fn done<R: Files + AllocGlobal + Clone + Drop, C: Commands>(
+    rt: &R,
+    alloc: Global,
+    commands: &C,
+    step: &Step,
+) -> Result<Told> {
+    match files::perform(rt, alloc, step)? {
+        Some(told) => Ok(told),
+        None => commands.perform(step),
+    }
+}

@@ -1,0 +1,63 @@
+use anyhow::Result;
+use std::alloc::Global;
+
+/// What a command gave.
+#[derive(Drop)]
+pub struct Told {
+    pub status: u8,
+    pub out: Vec<u8>,
+    pub err: Vec<u8>,
+}
+
+impl Told {
+    /// What a command gives that tells nothing.
+    pub fn nothing(alloc: Global) -> Told {
+        Told {
+            status: 0,
+            out: Vec::new(alloc),
+            err: Vec::new(alloc),
+        }
+    }
+
+    /// What a command gives that prints a text.
+    pub fn printed(alloc: Global, text: String) -> Told {
+        Told {
+            status: 0,
+            out: text.into_bytes(),
+            err: Vec::new(alloc),
+        }
+    }
+
+    /// What a question gives: the status 0 for yes and 1 for no.
+    pub fn answer(alloc: Global, is_so: bool) -> Told {
+        Told {
+            status: if is_so { 0 } else { 1 },
+            out: Vec::new(alloc),
+            err: Vec::new(alloc),
+        }
+    }
+
+    /// The lines of a session: those of standard output, those of standard error, each behind `! `,
+    /// and a status other than 0 in brackets.
+    pub(crate) fn lines(&self, alloc: Global) -> Result<Vec<String>> {
+        let mut lines = Vec::new(alloc);
+        push_lines(alloc, &mut lines, "", self.out.as_slice())?;
+        push_lines(alloc, &mut lines, "! ", self.err.as_slice())?;
+        let status = self.status;
+        if status != 0 {
+            lines.push(format!(in alloc; "[{status}]")?)?;
+        }
+        Ok(lines)
+    }
+}
+
+fn push_lines(alloc: Global, lines: &mut Vec<String>, front: &str, bytes: &[u8]) -> Result<()> {
+    let text = std::str::from_utf8(bytes)?;
+    for line in text.lines() {
+        lines.push(format!(in alloc; "{front}{line}")?)?;
+    }
+    if !text.is_empty() && !text.ends_with("\n") {
+        lines.push(format!(in alloc; "{front}(no line feed)")?)?;
+    }
+    Ok(())
+}

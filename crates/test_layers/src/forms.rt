@@ -1,0 +1,62 @@
+//! Values of a Rust type of the test's own that are read from JSON.
+
+ghost use Rattle.std.specs.Prelude.{List, ℕ, option_map};
+ghost use Rattle.cjson.specs.Form as form_of;
+
+use cjson::Misread;
+use cjson::form::FromJson;
+use cjson::list::Items;
+use cjson::members::{FromMember, read_members};
+use cjson::number::Length;
+use cjson::text::Text;
+use serde_json::Value;
+use std::alloc::Global;
+use std::marker::Model;
+use std::test::Fail;
+
+/// A name with its length, which an object's members are read as here.
+#[derive(Drop)]
+struct Named {
+    name: Text,
+    length: Length,
+}
+
+impl Model for Named {
+    ghost Value = { List ℕ × ℕ };
+
+    ghost view = { λ n. (n.name, n.length) };
+}
+
+impl FromMember for Named {
+    ghost member_form = { λ name d. option_map (λ n. (name, n)) (form_of.whole 0 d) };
+
+    fn from_member(alloc: Global, name: &str, value: &Value) -> Result<Named, Misread> {
+        let length = Length::from_json(alloc, value)?;
+        let name = Text::new(String::from_str(alloc, name)?);
+        Ok(Named { name, length })
+    }
+}
+
+#[test]
+fn objects(rt: HostRuntime) -> Result<(), Fail> {
+    let alloc = rt.alloc();
+    let value = Value::from_str(alloc, "{\"b\":2,\"a\":1,\"b\":3}")?;
+    let named: Items<Named> = read_members(alloc, &value)?;
+    let named = named.as_slice();
+    assert_eq!(rt; named.len(), 2);
+    let first = &named[0];
+    assert_eq!(rt; first.name.as_str(), "a");
+    assert_eq!(rt; first.length.get(), 1);
+    let second = &named[1];
+    assert_eq!(rt; second.name.as_str(), "b");
+    assert_eq!(rt; second.length.get(), 3);
+    for json in ["{\"a\":1,\"b\":-1}", "[1]", "1"] {
+        let value = Value::from_str(alloc, json)?;
+        assert_eq!(rt;
+            read_members::<Named>(alloc, &value).err(),
+            Some(Misread::Malformed),
+            "{json}"
+        );
+    }
+    Ok(())
+}

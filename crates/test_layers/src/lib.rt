@@ -1,0 +1,16 @@
+//! Tests of several layers that take Rust: folders, judges and writers that refuse, links, and a form
+//! of a test's own.
+#![tactic(auto)]
+
+#[cfg(test)]
+mod folders;
+#[cfg(test)]
+mod forms;
+#[cfg(test)]
+mod memory;
+#[cfg(test)]
+mod outputs;
+#[cfg(test)]
+mod seals;
+#[cfg(test)]
+mod thresholds;

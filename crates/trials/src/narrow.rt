@@ -1,0 +1,58 @@
+//! Outputs that refuse what is written.
+
+use crate::shell::Shell;
+use anyhow::Result;
+use command::perform;
+use sessions::Told;
+use std::io::{self, ErrorKind, Write};
+use std::rt::{Clock, Files};
+
+/// A writer that takes so many bytes, and then refuses to write and to flush.
+#[derive(Drop)]
+struct Narrow {
+    room: usize,
+}
+
+impl Write for Narrow {
+    fn write(&mut self, bytes: &[u8]) -> io::Result<usize> {
+        self.flush()?;
+        let taken = self.room.min(bytes.len());
+        self.room -= taken;
+        Ok(taken)
+    }
+
+    fn flush(&mut self) -> io::Result<()> {
+        if self.room == 0 {
+            return Err(io::Error::from(ErrorKind::BrokenPipe));
+        }
+        Ok(())
+    }
+}
+
+/// Runs the command line where standard output takes so many bytes.
+pub fn with_narrow_output<R: Files + Clock + AllocGlobal + Clone + Drop>(
+    shell: &Shell<'_, R>,
+    room: &str,
+    words: &[String],
+) -> Result<Told> {
+    let mut out = Narrow {
+        room: room.parse::<usize>()?,
+    };
+    let mut told = Told::nothing(shell.alloc);
+    told.status = perform(shell.rt, shell.alloc, words, &mut out, &mut told.err);
+    Ok(told)
+}
+
+/// Runs the command line where standard error takes so many bytes.
+pub fn with_narrow_error<R: Files + Clock + AllocGlobal + Clone + Drop>(
+    shell: &Shell<'_, R>,
+    room: &str,
+    words: &[String],
+) -> Result<Told> {
+    let mut err = Narrow {
+        room: room.parse::<usize>()?,
+    };
+    let mut told = Told::nothing(shell.alloc);
+    told.status = perform(shell.rt, shell.alloc, words, &mut told.out, &mut err);
+    Ok(told)
+}

@@ -1,0 +1,69 @@
+Keys, their ids, and roles.
+
+The id of a key is the SHA-256 of its canonical text.
+  $ key-id { "scheme": "lms-sha256", "keyval": { "public": "0000000500000004ababababababababababababababababcdcdcdcdcdcdcdcdcdcdcdcdcdcdcdcdcdcdcdcdcdcdcdcdcdcdcdcdcdcdcdcd" }, "keytype": "lms" }
+  828950978bfc843d3644f8c64d4ea64b95c2737cf304a4153893f958ad9c018d
+  $ key-id {"scheme":"ed25519","note":["\u00e9","\u0022",-1,null],"keytype":"ed25519","keyval":{"public":"AB"}}
+  7e03ece421af7f18276c2e70df6abd55ca423edddf4e699afdcec20e5d2078bf
+  $ key-id {"a":1.5}
+  Float
+
+An object of keys has those that are of the known type and stand under their ids.
+  $ ring []
+  none
+  $ ring {"828950978bfc843d3644f8c64d4ea64b95c2737cf304a4153893f958ad9c018d":1}
+  none
+  $ ring {}
+  keys 0
+  $ ring {"7e03ece421af7f18276c2e70df6abd55ca423edddf4e699afdcec20e5d2078bf":{"scheme":"ed25519","note":["\u00e9","\u0022",-1,null],"keytype":"ed25519","keyval":{"public":"AB"}}}
+  keys 0
+  $ ring {"0000000000000000000000000000000000000000000000000000000000000000":{ "scheme": "lms-sha256", "keyval": { "public": "0000000500000004ababababababababababababababababcdcdcdcdcdcdcdcdcdcdcdcdcdcdcdcdcdcdcdcdcdcdcdcdcdcdcdcdcdcdcdcd" }, "keytype": "lms" }}
+  keys 0
+  $ ring {"0000000000000000000000000000000000000000000000000000000000000000":{},"828950978bfc843d3644f8c64d4ea64b95c2737cf304a4153893f958ad9c018d":{ "scheme": "lms-sha256", "keyval": { "public": "0000000500000004ababababababababababababababababcdcdcdcdcdcdcdcdcdcdcdcdcdcdcdcdcdcdcdcdcdcdcdcdcdcdcdcdcdcdcdcd" }, "keytype": "lms" }}
+  keys 1
+  key 828950978bfc843d3644f8c64d4ea64b95c2737cf304a4153893f958ad9c018d 0000000500000004ababababababababababababababababcdcdcdcdcdcdcdcdcdcdcdcdcdcdcdcdcdcdcdcdcdcdcdcdcdcdcdcdcdcdcdcd
+  $ ring {"828950978bfc843d3644f8c64d4ea64b95c2737cf304a4153893f958ad9c018d":{ "scheme": "lms-sha256", "keyval": { "public": "0000000500000004ababababababababababababababababcdcdcdcdcdcdcdcdcdcdcdcdcdcdcdcdcdcdcdcdcdcdcdcdcdcdcdcdcdcdcdcd" }, "keytype": "lms" }}
+  keys 1
+  key 828950978bfc843d3644f8c64d4ea64b95c2737cf304a4153893f958ad9c018d 0000000500000004ababababababababababababababababcdcdcdcdcdcdcdcdcdcdcdcdcdcdcdcdcdcdcdcdcdcdcdcdcdcdcdcdcdcdcdcd
+
+A role has a threshold and ids, and ids may be there twice.
+  $ role []
+  none
+  $ role {"threshold":1}
+  none
+  $ role {"keyids":{},"threshold":1}
+  none
+  $ role {"keyids":[1],"threshold":1}
+  none
+  $ role {"keyids":[]}
+  none
+  $ role {"keyids":[],"threshold":0}
+  none
+  $ role {"keyids":[],"threshold":"1"}
+  none
+  $ role {"keyids":[],"threshold":9223372036854775808}
+  none
+  $ role {"keyids":["b","a","b"],"threshold":9223372036854775807,"x":1}
+  9223372036854775807 of "b" "a" "b"
+
+Public keys are of the types 5 or 6, with one-time keys of type 4, and have 56 bytes.
+  $ public-key 0000000500000004010101010101010101010101010101010101010101010101010101010101010101010101010101010101010101010101
+  0000000500000004010101010101010101010101010101010101010101010101010101010101010101010101010101010101010101010101
+  read again: yes
+  $ public-key 0000000600000004010101010101010101010101010101010101010101010101010101010101010101010101010101010101010101010101
+  0000000600000004010101010101010101010101010101010101010101010101010101010101010101010101010101010101010101010101
+  read again: yes
+  $ public-key 0000000700000004010101010101010101010101010101010101010101010101010101010101010101010101010101010101010101010101
+  none
+  $ public-key 0000000500000003010101010101010101010101010101010101010101010101010101010101010101010101010101010101010101010101
+  none
+  $ public-key 0000000600000003010101010101010101010101010101010101010101010101010101010101010101010101010101010101010101010101
+  none
+  $ public-key 0000000400000004010101010101010101010101010101010101010101010101010101010101010101010101010101010101010101010101
+  none
+  $ public-key 0000000500000005010101010101010101010101010101010101010101010101010101010101010101010101010101010101010101010101
+  none
+  $ public-key 00000005000000040101010101010101010101010101010101010101010101010101010101010101010101010101010101010101010101
+  none
+  $ public-key 000000050000000401010101010101010101010101010101010101010101010101010101010101010101010101010101010101010101010101
+  none

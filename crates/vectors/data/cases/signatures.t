@@ -1,0 +1,190 @@
+Signatures that Bouncy Castle made, by two leaves of a key of height 5 and one of a key of height 10. Each is valid, and
+isn't with a bit turned in any of its fields, in the message or in the key, nor with a byte more or less. The bits 3 put
+the types of the two heights, 5 and 6, in the place of one another.
+  $ verify cases/bouncy-5-4.vector
+  yes
+  $ verify cases/bouncy-5-4.vector message 0 1
+  no
+  $ verify cases/bouncy-5-4.vector public 8 1
+  no
+  $ verify cases/bouncy-5-4.vector public 55 1
+  no
+  $ verify cases/bouncy-5-4.vector signature 3 1
+  no
+  $ verify cases/bouncy-5-4.vector signature 7 1
+  no
+  $ verify cases/bouncy-5-4.vector signature 8 1
+  no
+  $ verify cases/bouncy-5-4.vector signature 600 1
+  no
+  $ verify cases/bouncy-5-4.vector signature 1131 1
+  no
+  $ verify cases/bouncy-5-4.vector signature 1131 3
+  no
+  $ verify cases/bouncy-5-4.vector signature 1200 1
+  no
+  $ verify cases/bouncy-5-4.vector longer
+  no
+  $ verify cases/bouncy-5-4.vector shorter
+  no
+  $ verify cases/bouncy-5-7.vector
+  yes
+  $ verify cases/bouncy-5-7.vector message 0 1
+  no
+  $ verify cases/bouncy-5-7.vector public 8 1
+  no
+  $ verify cases/bouncy-5-7.vector public 55 1
+  no
+  $ verify cases/bouncy-5-7.vector signature 3 1
+  no
+  $ verify cases/bouncy-5-7.vector signature 7 1
+  no
+  $ verify cases/bouncy-5-7.vector signature 8 1
+  no
+  $ verify cases/bouncy-5-7.vector signature 600 1
+  no
+  $ verify cases/bouncy-5-7.vector signature 1131 1
+  no
+  $ verify cases/bouncy-5-7.vector signature 1131 3
+  no
+  $ verify cases/bouncy-5-7.vector signature 1200 1
+  no
+  $ verify cases/bouncy-5-7.vector longer
+  no
+  $ verify cases/bouncy-5-7.vector shorter
+  no
+  $ verify cases/bouncy-10-5.vector
+  yes
+  $ verify cases/bouncy-10-5.vector message 0 1
+  no
+  $ verify cases/bouncy-10-5.vector public 8 1
+  no
+  $ verify cases/bouncy-10-5.vector public 55 1
+  no
+  $ verify cases/bouncy-10-5.vector signature 3 1
+  no
+  $ verify cases/bouncy-10-5.vector signature 7 1
+  no
+  $ verify cases/bouncy-10-5.vector signature 8 1
+  no
+  $ verify cases/bouncy-10-5.vector signature 600 1
+  no
+  $ verify cases/bouncy-10-5.vector signature 1131 1
+  no
+  $ verify cases/bouncy-10-5.vector signature 1131 3
+  no
+  $ verify cases/bouncy-10-5.vector signature 1200 1
+  no
+  $ verify cases/bouncy-10-5.vector longer
+  no
+  $ verify cases/bouncy-10-5.vector shorter
+  no
+
+Signatures of abc by a key whose identifier and seed have the byte 1 throughout, at height 5. The root, the SHA-256 of the
+first signature and the sixth one are from a program that shares no code with this one.
+  $ sign 5 abc first sixth
+  root 599d16861dc9aacdc40b4275991c60ebdf9decfb219eb795df51d5c9a347762a
+  1292 bytes of 1452
+  SHA-256 4a6ffc8bf6d95c56f514e0fee496e3309e9bb02a1fae0f95d16f2349006e1e34
+  $ same sixth cases/leaf-5-5.vector
+  $ verify first
+  yes
+  $ verify first message 0 1
+  no
+  $ verify first public 8 1
+  no
+  $ verify first public 55 1
+  no
+  $ verify first signature 3 1
+  no
+  $ verify first signature 7 1
+  no
+  $ verify first signature 8 1
+  no
+  $ verify first signature 600 1
+  no
+  $ verify first signature 1131 1
+  no
+  $ verify first signature 1131 3
+  no
+  $ verify first signature 1200 1
+  no
+  $ verify first longer
+  no
+  $ verify first shorter
+  no
+
+Leaf 32 of 32.
+  $ verify first signature 3 32
+  no
+
+The same at height 10, whose signatures are the longest.
+  $ sign 10 abc first sixth
+  root 63f3aa29d987632d5bddaa237e3d676706638f8bb9dd19da28c8fce34d2f3ccf
+  1452 bytes of 1452
+  SHA-256 8b6519e5d41c04a930b5f59b57511d0f094879238865c279ad0947b6f15ca39f
+  $ same sixth cases/leaf-10-5.vector
+  $ verify first
+  yes
+  $ verify first message 0 1
+  no
+  $ verify first public 8 1
+  no
+  $ verify first public 55 1
+  no
+  $ verify first signature 3 1
+  no
+  $ verify first signature 7 1
+  no
+  $ verify first signature 8 1
+  no
+  $ verify first signature 600 1
+  no
+  $ verify first signature 1131 1
+  no
+  $ verify first signature 1131 3
+  no
+  $ verify first signature 1200 1
+  no
+  $ verify first longer
+  no
+  $ verify first shorter
+  no
+
+Each leaf signs once.
+  $ leaves 32 hello
+  leaf 00000000, 1292 bytes, valid: yes
+  leaf 00000001, 1292 bytes, valid: yes
+  leaf 00000002, 1292 bytes, valid: yes
+  leaf 00000003, 1292 bytes, valid: yes
+  leaf 00000004, 1292 bytes, valid: yes
+  leaf 00000005, 1292 bytes, valid: yes
+  leaf 00000006, 1292 bytes, valid: yes
+  leaf 00000007, 1292 bytes, valid: yes
+  leaf 00000008, 1292 bytes, valid: yes
+  leaf 00000009, 1292 bytes, valid: yes
+  leaf 0000000a, 1292 bytes, valid: yes
+  leaf 0000000b, 1292 bytes, valid: yes
+  leaf 0000000c, 1292 bytes, valid: yes
+  leaf 0000000d, 1292 bytes, valid: yes
+  leaf 0000000e, 1292 bytes, valid: yes
+  leaf 0000000f, 1292 bytes, valid: yes
+  leaf 00000010, 1292 bytes, valid: yes
+  leaf 00000011, 1292 bytes, valid: yes
+  leaf 00000012, 1292 bytes, valid: yes
+  leaf 00000013, 1292 bytes, valid: yes
+  leaf 00000014, 1292 bytes, valid: yes
+  leaf 00000015, 1292 bytes, valid: yes
+  leaf 00000016, 1292 bytes, valid: yes
+  leaf 00000017, 1292 bytes, valid: yes
+  leaf 00000018, 1292 bytes, valid: yes
+  leaf 00000019, 1292 bytes, valid: yes
+  leaf 0000001a, 1292 bytes, valid: yes
+  leaf 0000001b, 1292 bytes, valid: yes
+  leaf 0000001c, 1292 bytes, valid: yes
+  leaf 0000001d, 1292 bytes, valid: yes
+  leaf 0000001e, 1292 bytes, valid: yes
+  leaf 0000001f, 1292 bytes, valid: yes
+  Used
+  Used
+  same key: yes

@@ -1,0 +1,41 @@
+//! Runs rows of worked values through the crates below the command line, and prints a line for each
+//! file of them, with the rows that gave something else than is written.
+//!
+//! It takes no word. It is run in a folder that holds the folder `cases` and nothing else. The
+//! status is 0 where all was as written, else 1, and 2 where the cases couldn't be run.
+//! `cases/README.md` says how a row is written.
+#![tactic(auto)]
+
+mod contents;
+mod forms;
+mod key_rings;
+mod layers;
+mod moments;
+mod names;
+mod plain;
+mod questions;
+mod readings;
+mod searches;
+mod signatures;
+mod signed;
+mod states;
+mod texts;
+mod thresholds;
+mod verdicts;
+
+use layers::Layers;
+use sessions::run_all;
+use std::io::Write;
+use std::process::ExitCode;
+
+fn main(rt: HostRuntime) -> ExitCode {
+    let layers = Layers::new(&rt, rt.alloc());
+    match run_all(&rt, rt.alloc(), &mut rt.stdout(), &layers) {
+        Ok(0) => ExitCode::SUCCESS,
+        Ok(_) => ExitCode::FAILURE,
+        Err(error) => {
+            let _ = writeln!(rt.stderr(), "vectors: {error}");
+            ExitCode::from(2)
+        }
+    }
+}

@@ -1,0 +1,68 @@
+//! Truths of questions, and when two questions are the same.
+
+use crate::plain::told;
+use anyhow::{Context, Result, bail};
+use keys::{Algorithm, Ask, Direct, Judge};
+use lms::Public;
+use sessions::Step;
+use std::alloc::Global;
+
+/// A public key of a supported kind.
+const PUBLIC: [u8; 56] = [
+    0, 0, 0, 5, 0, 0, 0, 4, 1, 1, 1, 1, 1, 1, 1, 1, 1, 1, 1, 1, 1, 1, 1, 1, 2, 2, 2, 2, 2, 2, 2, 2,
+    2, 2, 2, 2, 2, 2, 2, 2, 2, 2, 2, 2, 2, 2, 2, 2, 2, 2, 2, 2, 2, 2, 2, 2,
+];
+
+/// What the step prints, if it is of these commands.
+pub fn given(alloc: Global, step: &Step) -> Result<Option<String>> {
+    let is_so = match step.name()? {
+        "digest" => is_digest(alloc, step)?,
+        "alike" => is_alike(step)?,
+        _ => return Ok(None),
+    };
+    Ok(Some(told(alloc, is_so)?))
+}
+
+/// Whether the digest is that of the text.
+fn is_digest(alloc: Global, step: &Step) -> Result<bool> {
+    let algorithm = match step.word(0)? {
+        "sha256" => Algorithm::Sha256,
+        "sha512" => Algorithm::Sha512,
+        _ => bail!("no such algorithm"),
+    };
+    let digest = hex::decode(alloc, step.word(1)?)?;
+    let ask = Ask::Digest {
+        file: "a",
+        algorithm,
+        bytes: step.word(2)?.as_bytes(),
+        digest: &digest,
+    };
+    Ok(Direct.valid(&ask)?)
+}
+
+/// Whether two questions are the same.
+fn is_alike(step: &Step) -> Result<bool> {
+    let public = Public::read(&PUBLIC).context("no public key")?;
+    let one = ask_of(step.word(0)?, &public)?;
+    let other = ask_of(step.word(1)?, &public)?;
+    Ok(one.same(&other))
+}
+
+/// The question of a signature in a file at a place, as `a:0`, or of a file's digest, as `a`.
+fn ask_of<'a>(word: &'a str, public: &'a Public) -> Result<Ask<'a>> {
+    match word.split_once(":") {
+        Some((file, place)) => Ok(Ask::Signature {
+            file,
+            place: place.parse::<usize>()?,
+            public,
+            message: b"m",
+            sig: "00",
+        }),
+        None => Ok(Ask::Digest {
+            file: word,
+            algorithm: Algorithm::Sha256,
+            bytes: b"m",
+            digest: b"d",
+        }),
+    }
+}

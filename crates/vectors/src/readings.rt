@@ -1,0 +1,210 @@
+//! What the readers give of metadata files.
+
+use crate::key_rings::{keys_of, push_role};
+use crate::layers::Layers;
+use crate::moments::spelled;
+use crate::plain::yes_or_no;
+use crate::signed::{changed, file, good};
+use anyhow::{Result, bail};
+use keys::{KeyRing, RoleKeys};
+use meta::{
+    Delegation, Hashes, Header, Listing, Part, Paths, Reading, Root, Snapshot, Stop, Target,
+    Targets, Timestamp,
+};
+use sessions::Step;
+use std::alloc::Global;
+use std::rt::Files;
+
+/// What the step prints, if it is of these commands.
+pub fn given<R: Files + AllocGlobal + Clone + Drop>(
+    layers: &Layers<'_, R>,
+    step: &Step,
+) -> Result<Option<String>> {
+    match step.name()? {
+        "read" => Ok(Some(read(layers, step)?)),
+        _ => Ok(None),
+    }
+}
+
+/// What the good file of a kind is read as, after the change that the lines make: the first one is
+/// the old text, and the second the new one.
+fn read<R: Files + AllocGlobal + Clone + Drop>(
+    layers: &Layers<'_, R>,
+    step: &Step,
+) -> Result<String> {
+    let alloc = layers.alloc;
+    let kind = step.word(0)?;
+    let good = good(layers, kind)?;
+    let bytes = match step.script.as_slice() {
+        [] => file(alloc, good.as_str())?,
+        [old, new] => {
+            let signed = changed(alloc, good.as_str(), old.as_str(), new.as_str())?;
+            file(alloc, signed.as_str())?
+        }
+        _ => bail!("a change has two lines"),
+    };
+    read_as(alloc, kind, bytes)
+}
+
+fn read_as(alloc: Global, kind: &str, bytes: Vec<u8>) -> Result<String> {
+    match kind {
+        "root" => told::<Root>(alloc, bytes),
+        "timestamp" => told::<Timestamp>(alloc, bytes),
+        "snapshot" => told::<Snapshot>(alloc, bytes),
+        "targets" => told::<Targets>(alloc, bytes),
+        _ => bail!("no such kind"),
+    }
+}
+
+/// What the file says, after a copy, and whether the copy has its bytes.
+fn told<A: Reading + Shown + Drop>(alloc: Global, bytes: Vec<u8>) -> Result<String> {
+    let given = bytes.clone()?;
+    let mut text = String::new(alloc);
+    match Part::<A>::read(alloc, bytes) {
+        Ok(part) => {
+            let copy = part.copy(alloc)?;
+            copy.reading().push(alloc, &mut text)?;
+            writeln!(
+                text,
+                "same bytes: {}",
+                yes_or_no(copy.bytes() == given.as_slice())
+            )?;
+        }
+        Err(Stop::Refused(fault)) => writeln!(text, "{fault:?}")?,
+        Err(Stop::NoMemory) => bail!("out of memory"),
+    }
+    Ok(text)
+}
+
+/// What is printed of a reading.
+trait Shown {
+    /// Adds the lines of what the readers give.
+    fn push(&self, alloc: Global, text: &mut String) -> Result<()>;
+}
+
+impl Shown for Root {
+    fn push(&self, alloc: Global, text: &mut String) -> Result<()> {
+        push_header(alloc, text, self.header())?;
+        writeln!(text, "consistent: {}", yes_or_no(self.consistent()))?;
+        push_keys(alloc, text, self.ring())?;
+        push_roles(text, self)
+    }
+}
+
+fn push_keys(alloc: Global, text: &mut String, ring: &KeyRing) -> Result<()> {
+    let keys = keys_of(alloc, ring)?;
+    text.push_str(keys.as_str())?;
+    Ok(())
+}
+
+fn push_roles(text: &mut String, root: &Root) -> Result<()> {
+    push_named(text, "root", root.root())?;
+    push_named(text, "timestamp", root.timestamp())?;
+    push_named(text, "snapshot", root.snapshot())?;
+    push_named(text, "targets", root.targets())
+}
+
+fn push_named(text: &mut String, name: &str, role: &RoleKeys) -> Result<()> {
+    write!(text, "{name} ")?;
+    push_role(text, role)
+}
+
+impl Shown for Timestamp {
+    fn push(&self, alloc: Global, text: &mut String) -> Result<()> {
+        push_header(alloc, text, self.header())?;
+        push_listing(alloc, text, "snapshot.json", self.snapshot())
+    }
+}
+
+impl Shown for Snapshot {
+    fn push(&self, alloc: Global, text: &mut String) -> Result<()> {
+        push_header(alloc, text, self.header())?;
+        for named in self.files() {
+            push_listing(alloc, text, named.name(), named.listing())?;
+        }
+        Ok(())
+    }
+}
+
+impl Shown for Targets {
+    fn push(&self, alloc: Global, text: &mut String) -> Result<()> {
+        push_header(alloc, text, self.header())?;
+        for target in self.targets() {
+            push_target(alloc, text, target)?;
+        }
+        let Some(delegations) = self.delegations() else {
+            text.push_str("no delegations\n")?;
+            return Ok(());
+        };
+        push_keys(alloc, text, delegations.ring())?;
+        push_delegations(text, delegations.roles())
+    }
+}
+
+fn push_header(alloc: Global, text: &mut String, header: &Header) -> Result<()> {
+    let expires = spelled(alloc, header.expires())?;
+    writeln!(text, "version {}, expires {expires}", header.version())?;
+    Ok(())
+}
+
+fn push_listing(alloc: Global, text: &mut String, name: &str, listing: &Listing) -> Result<()> {
+    write!(text, "{name} version {}", listing.version())?;
+    if let Some(length) = listing.length() {
+        write!(text, " length {length}")?;
+    }
+    text.push('\n')?;
+    match listing.hashes() {
+        Some(hashes) => push_hashes(alloc, text, hashes),
+        None => Ok(()),
+    }
+}
+
+fn push_hashes(alloc: Global, text: &mut String, hashes: Hashes) -> Result<()> {
+    if let Some(digest) = hashes.sha256() {
+        writeln!(text, "sha256 {}", hex::encode(alloc, digest)?)?;
+    }
+    if let Some(digest) = hashes.sha512() {
+        writeln!(text, "sha512 {}", hex::encode(alloc, digest)?)?;
+    }
+    Ok(())
+}
+
+fn push_target(alloc: Global, text: &mut String, target: &Target) -> Result<()> {
+    let target = target.copy(alloc)?;
+    writeln!(
+        text,
+        "target {:?} length {}",
+        target.path(),
+        target.length()
+    )?;
+    push_hashes(alloc, text, target.hashes())
+}
+
+fn push_delegations(text: &mut String, roles: &[Delegation]) -> Result<()> {
+    for role in roles {
+        let end = if role.is_terminating() { "stop" } else { "go" };
+        write!(text, "role {:?} {end}", role.name())?;
+        push_paths(text, role.paths())?;
+        text.push(' ')?;
+        push_role(text, role.keys())?;
+    }
+    Ok(())
+}
+
+fn push_paths(text: &mut String, paths: &Paths) -> Result<()> {
+    match paths {
+        Paths::Patterns(patterns) => {
+            text.push_str(" paths")?;
+            for pattern in patterns.as_slice() {
+                write!(text, " {:?}", pattern.as_str())?;
+            }
+        }
+        Paths::Prefixes(prefixes) => {
+            text.push_str(" prefixes")?;
+            for prefix in prefixes.as_slice() {
+                write!(text, " {:?}", prefix.digits())?;
+            }
+        }
+    }
+    Ok(())
+}

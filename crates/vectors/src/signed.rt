@@ -1,0 +1,30 @@
+//! Files that nobody signed, made of good ones by a change.
+
+use crate::layers::Layers;
+use anyhow::{Context, Result, bail};
+use std::alloc::Global;
+use std::rt::Files;
+
+/// What the good file of a kind signs.
+pub fn good<R: Files + AllocGlobal + Clone + Drop>(
+    layers: &Layers<'_, R>,
+    kind: &str,
+) -> Result<String> {
+    let file = format!(in layers.alloc; "cases/{kind}.json")?;
+    let text = layers.text(file.as_str())?;
+    Ok(String::from_str(layers.alloc, text.as_str().trim_end())?)
+}
+
+/// The text with the new part in place of the old, which stands there once.
+pub fn changed(alloc: Global, text: &str, old: &str, new: &str) -> Result<String> {
+    let (before, after) = text.split_once(old).context("no place for the change")?;
+    if after.split_once(old).is_some() {
+        bail!("two places for the change");
+    }
+    Ok(format!(in alloc; "{before}{new}{after}")?)
+}
+
+/// A file that signs this text, and that nobody signed.
+pub fn file(alloc: Global, signed: &str) -> Result<Vec<u8>> {
+    Ok(format!(in alloc; "{{\"signatures\":[],\"signed\":{signed}}}")?.into_bytes())
+}

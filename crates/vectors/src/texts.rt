@@ -1,0 +1,78 @@
+//! Canonical texts and documents.
+
+use crate::plain::push_plain;
+use anyhow::Result;
+use cjson::{Doc, canonical, signed_bytes};
+use serde_json::Value;
+use sessions::{Step, joined};
+use std::alloc::Global;
+
+/// What the step prints, if it is of these commands.
+pub fn given(alloc: Global, step: &Step) -> Result<Option<String>> {
+    let text = match step.name()? {
+        "canonical" => canonical_text(alloc, step.text_behind(0))?,
+        "document" => document(alloc, joined(alloc, step.script.as_slice())?.as_bytes())?,
+        "document-hex" => document(alloc, &hex::decode(alloc, step.word(0)?)?)?,
+        "nests" => nests(alloc, step.word(0)?.parse::<u32>()?)?,
+        _ => return Ok(None),
+    };
+    Ok(Some(text))
+}
+
+/// The canonical text of a tree, or why it has none.
+fn canonical_text(alloc: Global, json: &str) -> Result<String> {
+    let tree = Value::from_str(alloc, json)?;
+    let mut text = String::new(alloc);
+    match canonical(alloc, &tree) {
+        Ok(bytes) => push_plain(&mut text, &bytes)?,
+        Err(fault) => write!(text, "{fault:?}")?,
+    }
+    text.push('\n')?;
+    Ok(text)
+}
+
+/// What a file is as a document, or its first fault.
+fn document(alloc: Global, file: &[u8]) -> Result<String> {
+    let mut text = String::new(alloc);
+    match signed_bytes(alloc, file) {
+        Ok(doc) => push_document(alloc, &mut text, &doc)?,
+        Err(fault) => writeln!(text, "{fault:?}")?,
+    }
+    Ok(text)
+}
+
+/// Adds what a document signs, the tree of it, and the entries.
+fn push_document(alloc: Global, text: &mut String, doc: &Doc) -> Result<()> {
+    text.push_str("signed ")?;
+    push_plain(text, doc.bytes())?;
+    let tree = doc.tree().to_string(alloc)?;
+    writeln!(text, "\ntree {tree}")?;
+    for entry in doc.entries() {
+        writeln!(text, "entry {:?} {:?}", entry.keyid(), entry.sig())?;
+    }
+    Ok(())
+}
+
+/// How many bytes are signed of a file in which so many lists stand in one another.
+fn nests(alloc: Global, lists: u32) -> Result<String> {
+    let file = nested(alloc, lists)?;
+    Ok(match signed_bytes(alloc, file.as_bytes()) {
+        Ok(doc) => format!(in alloc; "{} bytes\n", doc.bytes().len())?,
+        Err(fault) => format!(in alloc; "{fault:?}\n")?,
+    })
+}
+
+fn nested(alloc: Global, lists: u32) -> Result<String> {
+    let mut file = String::from_str(alloc, "{\"signatures\":[],\"signed\":{\"a\":")?;
+    push_often(&mut file, '[', lists)?;
+    push_often(&mut file, ']', lists)?;
+    file.push_str("}}")?;
+    Ok(file)
+}
+
+fn push_often(text: &mut String, mark: char, times: u32) -> Result<()> {
+    for _ in 0..times {
+        text.push(mark)?;
+    }
+    Ok(())
+}

@@ -1,0 +1,257 @@
+//! Whether enough of a role's keys signed a file.
+
+use crate::layers::Layers;
+use crate::plain::told;
+use anyhow::{Context, Result, bail};
+use cjson::{NoMemory, signed_bytes};
+use keys::{Ask, Direct, Judge, KeyRing, RoleKeys, enough, key_id};
+use lms::{Height, Public, Secret};
+use serde_json::Value;
+use sessions::Step;
+use std::alloc::Global;
+use std::rt::Files;
+
+/// The canonical text of what is signed, which the files here spell otherwise.
+const SIGNED: &[u8] = b"{\"a\":1,\"b\":[]}";
+
+/// The file of the members of the object of keys.
+const RING: &str = "ring";
+
+/// What the step prints, if it is of these commands.
+pub fn given<R: Files + AllocGlobal + Clone + Drop>(
+    layers: &Layers<'_, R>,
+    step: &Step,
+) -> Result<Option<String>> {
+    let text = match step.name()? {
+        "signer" => signer(layers, step)?,
+        "enough" => told(layers.alloc, asked(layers, step, &mut Direct)?)?,
+        "asks" => asks(layers, step)?,
+        _ => return Ok(None),
+    };
+    Ok(Some(text))
+}
+
+/// Makes a key of a byte, with a type and further members, which signs once. It stands in the ring
+/// under its own id, or under that of the line.
+fn signer<R: Files + AllocGlobal + Clone + Drop>(
+    layers: &Layers<'_, R>,
+    step: &Step,
+) -> Result<String> {
+    let alloc = layers.alloc;
+    let name = step.word(0)?;
+    let (public, sig) = signed_once(alloc, step.word(1)?)?;
+    let key = key_text(alloc, &public, step.word(2)?, step.text_behind(3))?;
+    add(layers, name, "sig", sig.as_str())?;
+    let id = match step.script.first() {
+        Some(id) => id.clone()?,
+        None => own_id(alloc, key.as_str())?,
+    };
+    add_key(layers, name, id.as_str(), key.as_str())?;
+    Ok(String::new(alloc))
+}
+
+/// The public key of a byte, and a signature.
+fn signed_once(alloc: Global, byte: &str) -> Result<(Public, String)> {
+    let byte = byte.parse::<u8>()?;
+    let mut secret = Secret::new(alloc, [byte; 16], [byte; 32], Height::H5)?;
+    let sig = hex::encode(alloc, secret.sign(SIGNED)?)?;
+    Ok((secret.public(), sig))
+}
+
+fn key_text(alloc: Global, public: &Public, kind: &str, more: &str) -> Result<String> {
+    let public = hex::encode(alloc, *public.bytes())?;
+    Ok(format!(in alloc;
+        "{{\"scheme\":\"lms-sha256\",\"keytype\":\"{kind}\",\
+\"keyval\":{{\"public\":\"{public}\"}}{more}}}"
+    )?)
+}
+
+fn own_id(alloc: Global, key: &str) -> Result<String> {
+    let value = Value::from_str(alloc, key)?;
+    Ok(key_id(alloc, &value)?)
+}
+
+/// Writes what belongs to a signer.
+fn add<R: Files + AllocGlobal + Clone + Drop>(
+    layers: &Layers<'_, R>,
+    name: &str,
+    part: &str,
+    text: &str,
+) -> Result<()> {
+    let file = format!(in layers.alloc; "{name}.{part}")?;
+    layers.write(file.as_str(), text)
+}
+
+/// Writes the id of a signer, and puts its key into the ring.
+fn add_key<R: Files + AllocGlobal + Clone + Drop>(
+    layers: &Layers<'_, R>,
+    name: &str,
+    id: &str,
+    key: &str,
+) -> Result<()> {
+    add(layers, name, "id", id)?;
+    let mut members = String::new(layers.alloc);
+    if layers.has(RING)? {
+        members.push_str(layers.text(RING)?.as_str())?;
+        members.push(',')?;
+    }
+    write!(members, "\"{id}\":{key}")?;
+    layers.write(RING, members.as_str())
+}
+
+/// What stands in a file of a signer.
+fn part<R: Files + AllocGlobal + Clone + Drop>(
+    layers: &Layers<'_, R>,
+    name: &str,
+    part: &str,
+) -> Result<String> {
+    let file = format!(in layers.alloc; "{name}.{part}")?;
+    layers.text(file.as_str())
+}
+
+/// The id of a signer. A name that no signer has is an id itself.
+fn id_of<R: Files + AllocGlobal + Clone + Drop>(
+    layers: &Layers<'_, R>,
+    name: &str,
+) -> Result<String> {
+    let file = format!(in layers.alloc; "{name}.id")?;
+    if layers.has(file.as_str())? {
+        layers.text(file.as_str())
+    } else {
+        Ok(String::from_str(layers.alloc, name)?)
+    }
+}
+
+fn ring<R: Files + AllocGlobal + Clone + Drop>(layers: &Layers<'_, R>) -> Result<KeyRing> {
+    let members = layers.text(RING)?;
+    let json = format!(in layers.alloc; "{{{members}}}")?;
+    let value = Value::from_str(layers.alloc, json.as_str())?;
+    Ok(KeyRing::read(layers.alloc, &value)?.context("no ring")?)
+}
+
+/// The role that lists signers, whose names are joined by commas.
+fn role<R: Files + AllocGlobal + Clone + Drop>(
+    layers: &Layers<'_, R>,
+    threshold: &str,
+    names: &str,
+) -> Result<RoleKeys> {
+    let mut ids = String::new(layers.alloc);
+    for name in names.split(",") {
+        let id = id_of(layers, name)?;
+        push_comma(&mut ids)?;
+        write!(ids, "\"{id}\"")?;
+    }
+    let json = format!(in layers.alloc; "{{\"keyids\":[{ids}],\"threshold\":{threshold}}}")?;
+    let value = Value::from_str(layers.alloc, json.as_str())?;
+    Ok(RoleKeys::read(layers.alloc, &value)?.context("no role")?)
+}
+
+fn push_comma(text: &mut String) -> Result<()> {
+    if !text.is_empty() {
+        text.push(',')?;
+    }
+    Ok(())
+}
+
+/// The file with the entries.
+fn file<R: Files + AllocGlobal + Clone + Drop>(
+    layers: &Layers<'_, R>,
+    entries: &[String],
+) -> Result<String> {
+    let mut listed = String::new(layers.alloc);
+    for entry in entries {
+        push_comma(&mut listed)?;
+        push_entry(layers, &mut listed, entry.as_str())?;
+    }
+    Ok(format!(in layers.alloc;
+        "{{\"signatures\":[{listed}],\"signed\":{{ \"b\" : [ ], \"a\" : 1 }}}}"
+    )?)
+}
+
+/// Adds the entry that is written as `ID=SIGNATURE`.
+fn push_entry<R: Files + AllocGlobal + Clone + Drop>(
+    layers: &Layers<'_, R>,
+    listed: &mut String,
+    entry: &str,
+) -> Result<()> {
+    let (name, sig) = entry.split_once("=").context("no entry")?;
+    let id = id_of(layers, name)?;
+    let sig = signature(layers, sig)?;
+    write!(listed, "{{\"sig\":\"{sig}\",\"keyid\":\"{id}\"}}")?;
+    Ok(())
+}
+
+/// A signer's signature, `NAME`, or one that is spelled otherwise: `NAME.capitals`, `NAME.short`
+/// without its last digit, `NAME.bad` with a letter in the place of it, or `empty`.
+fn signature<R: Files + AllocGlobal + Clone + Drop>(
+    layers: &Layers<'_, R>,
+    word: &str,
+) -> Result<String> {
+    if word == "empty" {
+        return Ok(String::new(layers.alloc));
+    }
+    let (name, how) = word.split_once(".").unwrap_or((word, ""));
+    let mut text = part(layers, name, "sig")?;
+    match how {
+        "" => {}
+        "capitals" => text.make_ascii_uppercase(),
+        "short" => {
+            text.pop();
+        }
+        "bad" => {
+            text.pop();
+            text.push('g')?;
+        }
+        _ => bail!("no such spelling"),
+    }
+    Ok(text)
+}
+
+/// Whether enough keys signed the file that is named `root.json`.
+fn asked<R: Files + AllocGlobal + Clone + Drop, J: Judge>(
+    layers: &Layers<'_, R>,
+    step: &Step,
+    judge: &mut J,
+) -> Result<bool> {
+    let role = role(layers, step.word(0)?, step.word(1)?)?;
+    let file = file(layers, step.words().get(2..).unwrap_or(&[]))?;
+    let doc = signed_bytes(layers.alloc, file.as_bytes())?;
+    let ring = ring(layers)?;
+    Ok(enough(layers.alloc, &doc, "root.json", &ring, &role, judge)?)
+}
+
+/// Answers as the plain judge does, and notes which signatures it is asked about.
+#[derive(Drop)]
+struct Witness {
+    asks: String,
+}
+
+impl Witness {
+    fn note(&mut self, ask: &Ask) -> Result<(), NoMemory> {
+        if let Ask::Signature { file, place, .. } = *ask {
+            writeln!(self.asks, "asked of {file} {place}")?;
+        }
+        Ok(())
+    }
+}
+
+impl Judge for Witness {
+    fn valid(&mut self, ask: &Ask) -> Result<bool, NoMemory> {
+        self.note(ask)?;
+        Direct.valid(ask)
+    }
+}
+
+/// The same answer, with what the judge was asked.
+fn asks<R: Files + AllocGlobal + Clone + Drop>(
+    layers: &Layers<'_, R>,
+    step: &Step,
+) -> Result<String> {
+    let mut witness = Witness {
+        asks: String::new(layers.alloc),
+    };
+    let is_met = asked(layers, step, &mut witness)?;
+    let mut text = told(layers.alloc, is_met)?;
+    text.push_str(witness.asks.as_str())?;
+    Ok(text)
+}

@@ -1,0 +1,78 @@
+//! Lines that a run prints.
+
+use anyhow::{Result, bail};
+use cycle::{End, Fault, Step as Stage, Text, Verdict};
+use report::{push_end, push_verdict};
+use sessions::Step;
+use std::alloc::Global;
+
+/// The line of a verdict on the path that the first word spells in hexadecimal digits.
+pub fn verdict(alloc: Global, step: &Step) -> Result<String> {
+    let path = hex::decode(alloc, step.word(0)?)?;
+    let path = std::str::from_utf8(&path)?;
+    let verdict = verdict_of(alloc, step)?;
+    let mut text = String::new(alloc);
+    push_verdict(alloc, &mut text, path, &verdict)?;
+    Ok(text)
+}
+
+fn verdict_of(alloc: Global, step: &Step) -> Result<Verdict> {
+    Ok(match step.word(1)? {
+        "Good" => Verdict::Good {
+            role: role(alloc, step.word(3)?)?,
+            length: step.word(2)?.parse::<u64>()?,
+        },
+        "RoleRefused" => Verdict::RoleRefused {
+            role: role(alloc, step.word(3)?)?,
+            fault: fault_of(step.word(2)?)?,
+        },
+        "NotFound" => Verdict::NotFound,
+        "LimitReached" => Verdict::LimitReached,
+        "NotSearched" => Verdict::NotSearched,
+        fault => Verdict::FileRefused(fault_of(fault)?),
+    })
+}
+
+fn role(alloc: Global, name: &str) -> Result<Text> {
+    Ok(Text::new(String::from_str(alloc, name)?))
+}
+
+/// The line of a cycle that is ready, or that stopped at a step by a fault.
+pub fn end(alloc: Global, words: &[String]) -> Result<String> {
+    let end = match words {
+        [] => End::Ready,
+        [stage, fault] => End::Stopped(stage_of(stage.as_str())?, fault_of(fault.as_str())?),
+        _ => bail!("no such end"),
+    };
+    let mut text = String::new(alloc);
+    push_end(&mut text, end)?;
+    Ok(text)
+}
+
+fn stage_of(name: &str) -> Result<Stage> {
+    Ok(match name {
+        "root" => Stage::Root,
+        "timestamp" => Stage::Timestamp,
+        "snapshot" => Stage::Snapshot,
+        "targets" => Stage::Targets,
+        _ => bail!("no such step"),
+    })
+}
+
+fn fault_of(name: &str) -> Result<Fault> {
+    Ok(match name {
+        "NotListed" => Fault::NotListed,
+        "Missing" => Fault::Missing,
+        "TooLong" => Fault::TooLong,
+        "LengthWrong" => Fault::LengthWrong,
+        "HashWrong" => Fault::HashWrong,
+        "NoKnownHash" => Fault::NoKnownHash,
+        "Malformed" => Fault::Malformed,
+        "Unsigned" => Fault::Unsigned,
+        "VersionWrong" => Fault::VersionWrong,
+        "Rollback" => Fault::Rollback,
+        "Expired" => Fault::Expired,
+        "SuccinctRoles" => Fault::SuccinctRoles,
+        _ => bail!("no such fault"),
+    })
+}
