@@ -34,16 +34,16 @@ told o wanted old new (Err e) lines answered = tt
 -- the lines and the status of an outcome that the workflow gives
 pub sampled : {E : Type 0} (start : Start) (metadata targets : Files) (o : Outcome) (wanted : List (List ℕ)) (old new : Option (List ℕ)) (r : Result ℕ E)
     → o ≡ workflow metadata targets start.moment start.trusted start.wanted start.limit
-    → OnOk r (Appends old new (outcome_text o wanted)) → IfOk r (λ status. status ≡ outcome_status o)
+    → IfOk r (λ status. IsTold o wanted status old new)
     → IfOk r (λ status. IsSampled wanted status old new)
 unfolding outcome_of
-sampled start metadata targets o wanted old new (Ok status) is lines answered = record {
+sampled start metadata targets o wanted old new (Ok status) is told = record {
   start = start;
   metadata = metadata;
   targets = targets;
-  told = subst (λ o. IsTold o wanted status old new) is (record { lines = lines; answered = answered });
+  told = subst (λ o. IsTold o wanted status old new) is told;
 }
-sampled start metadata targets o wanted old new (Err e) is lines answered = tt
+sampled start metadata targets o wanted old new (Err e) is told = tt
 
 -- what follows from a state and a moment that were read
 pub begun : {E : Type 0} (gives : List ℕ → Bool) (shows : ℕ → Bool) (text : Option (List ℕ)) (follows : ℕ → State → Moment → Type 0)
@@ -52,6 +52,15 @@ pub begun : {E : Type 0} (gives : List ℕ → Bool) (shows : ℕ → Bool) (tex
     → IfOk r (λ status. Begins gives shows text (follows status))
 begun gives shows text follows trusted moment (Ok status) read shown then = record { trusted = trusted; moment = moment; read = read; of_moment = shown; then = then }
 begun gives shows text follows trusted moment (Err e) read shown then = tt
+
+-- the start and the place by other names
+pub renamed : {E : Type 0} (of_metadata of_targets : Loaded → Type 0) (keeps : List ℕ → List ℕ → Bool) (s t : Start) (place other : List ℕ) (old new : Option (List ℕ)) (r : Result ℕ E)
+    → s ≡ t → place ≡ other
+    → IfOk r (λ status. IsStored of_metadata of_targets s (keeps place) (λ o. IsTold o s.wanted status old new))
+    → IfOk r (λ status. IsStored of_metadata of_targets t (keeps other) (λ o. IsTold o t.wanted status old new))
+renamed of_metadata of_targets keeps s t place other old new r same at h =
+    subst (λ q. IfOk r (λ status. IsStored of_metadata of_targets t (keeps q) (λ o. IsTold o t.wanted status old new))) at
+    (subst (λ u. IfOk r (λ status. IsStored of_metadata of_targets u (keeps place) (λ o. IsTold o u.wanted status old new))) same h)
 
 -- what holds anyway holds after an answer, and after a failure
 pub after_answer : {A E : Type 0} {P : Type 0} (r : Result A E) → P → OnOk r P

@@ -3,7 +3,7 @@
 //! - [`run`] does what the words of the process ask for, and [`perform`] what given words ask for.
 //! - [`verify_from`] is a verification of two [`Folders`] from a [`Start`]: its status, its lines and the state that it
 //!   stores are the workflow's.
-//! - [`System`] is what it asks for single files and the clock.
+//! - [`System`] is what it asks for single files and the clock, and [`moment`] what it makes of the clock.
 #![tactic(auto)]
 
 mod clock;
@@ -14,12 +14,12 @@ mod process;
 mod sample;
 mod state;
 mod system;
-#[cfg(test)]
-mod tests;
 mod update;
 mod words;
 
+pub use clock::moment;
 pub use dispatch::perform;
+pub use machine::whole_seconds;
 pub use process::run;
 pub use system::System;
 pub use update::{Folders, Start, verify_from};

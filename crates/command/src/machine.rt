@@ -39,8 +39,8 @@ impl<'a, R: Files + Clock + AllocGlobal> System for Machine<'a, R> {
     }
 }
 
-/// The whole seconds that the clock shows since 1970-01-01T00:00:00Z.
-pub(crate) fn whole_seconds<R: Clock>(rt: &R) -> Option<u64> {
+/// The whole seconds that the clock shows since 1970-01-01T00:00:00Z, or None where it can't be read or is before that.
+pub fn whole_seconds<R: Clock>(rt: &R) -> Option<u64> {
     let Ok(time) = SystemTime::now(rt) else {
         return None;
     };

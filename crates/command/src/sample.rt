@@ -2,14 +2,15 @@
 ghost use Rattle.std.specs.Prelude.{◌≤◌, ℕ, List, IfOk, map, string_bytes};
 ghost use Rattle.command.specs.Told.{IsSampled};
 
+use crate::update::tell_outcome;
 use cycle::{Limits, Moment, Repo, Trusted, run_alone};
-use report::{Failure, tell};
+use report::Failure;
 use std::alloc::Global;
 use std::collections::BTreeMap;
 use std::io::Write;
 
 /// The script that makes the repository.
-pub const SCRIPT: &str = "\
+const SCRIPT: &str = "\
 key 1 5
 key 2 5
 key 3 5
@@ -28,13 +29,13 @@ write timestamp 1 2
 /// When the repository is verified.
 const MOMENT: &str = "2026-01-01T00:00:00Z";
 
-/// The repository that a script makes.
-pub fn repository(alloc: Global, script: &str) -> Result<Repo, Failure> {
+/// The repository that the script makes.
+fn repository(alloc: Global) -> Result<Repo, Failure> {
     let mut repo = Repo {
         metadata: BTreeMap::new(alloc),
         targets: BTreeMap::new(alloc),
     };
-    for (name, bytes) in maker::make(alloc, script)? {
+    for (name, bytes) in maker::make(alloc, SCRIPT)? {
         keep(alloc, &mut repo, name.as_str(), bytes)?;
     }
     Ok(repo)
@@ -80,10 +81,10 @@ fn verify<W: Write>(alloc: Global, wanted: &[String], out: &mut W) -> Result<u8,
         (W.contents out.old) (W.contents out.new)) }
     ensures known { IfOk result (λ status. status ≤ 2) }
 {
-    let repo = repository(alloc, SCRIPT)?;
+    let repo = repository(alloc)?;
     let now = Moment::read(MOMENT).ok_or(Failure::Now)?;
     let limits = Limits::new(32, 4096).ok_or(Failure::Words)?;
     let trusted = first_state(alloc, &repo)?;
     let outcome = run_alone(alloc, &trusted, &repo, now, wanted, &limits)?;
-    tell(alloc, &outcome, wanted, out)
+    tell_outcome(alloc, &outcome, wanted, out)
 }

@@ -2,7 +2,8 @@
 ghost use Rattle.std.specs.Prelude.{◌≡◌, ◌≢◌, ◌≤◌, ◌⊎◌, ⊤, true, IfErr, IfOk, OnErr, OnOk, option_map, map, string_bytes};
 ghost use Rattle.folder.specs.Folders.{IsLoaded};
 ghost use Rattle.examine.specs.Expecting.{file_in};
-ghost use Rattle.command.specs.Told.{Begins, IsStored, IsTold, outcome_of, state_text};
+ghost use Rattle.command.specs.Moments.{IsMomentOf};
+ghost use Rattle.command.specs.Told.{Begins, IsRead, IsStored, IsTold, outcome_of, state_text};
 ghost use Rattle.command.specs.Starting.{start_from, start_of};
 
 use crate::clock::moment;
@@ -54,15 +55,30 @@ pub(crate) fn verify<S: System, M: Folder, T: Folder, W: Write>(
         (λ o. IsTold o (map string_bytes task.now.wanted.items) status (W.contents out.old)
         (W.contents out.new)))) }
 {
+    let start = begin(alloc, system, task)?;
+    verify_from(alloc, system, &start, folders, out)
+}
+
+/// What the words name, with the moment and the trusted state that are read.
+fn begin<'a, S: System>(
+    alloc: Global,
+    system: &S,
+    task: &'a Verify<'_>,
+) -> Result<Start<'a>, Failure>
+    ensures read { IfOk result (λ s. IsRead (S.gives system.now task.now.state.now) s.trusted) }
+    ensures moment { IfOk result (λ s. IsMomentOf (S.shows system.now)
+        (option_map (λ t. t.now) task.now.moment) s.moment) }
+    ensures start { IfOk result (λ s. start_of s ≡ start_from task.now s.trusted s.moment) }
+    ensures place { IfOk result (λ s. s.state.now ≡ task.now.out.now) }
+{
     let moment = moment(system, task.moment)?;
-    let start = Start {
+    Ok(Start {
         trusted: read_state(alloc, system, task.state)?,
         moment,
         wanted: task.wanted.as_slice(),
         limit: task.limit,
         state: task.out,
-    };
-    verify_from(alloc, system, &start, folders, out)
+    })
 }
 
 /// Verifies what the folders hold, stores the new state, prints the lines and answers the status: 2 where the update
@@ -114,8 +130,38 @@ fn verify_in<S: System, W: Write>(
     ensures refused { IfErr result (λ f. f ≢ Failure.Folder) }
 {
     let outcome = outcome(alloc, start, repo)?;
-    keep_state(alloc, system, start.state, outcome.trusted())?;
-    tell(alloc, &outcome, start.wanted, out)
+    keep_outcome(alloc, system, start, &outcome)?;
+    tell_outcome(alloc, &outcome, start.wanted, out)
+}
+
+/// Stores the outcome's new state.
+fn keep_outcome<S: System>(
+    alloc: Global,
+    system: &mut S,
+    start: &Start<'_>,
+    outcome: &Outcome,
+) -> Result<(), Failure>
+    ensures kept { OnOk result (S.keeps system.new start.now.state.now
+        (state_text outcome.now.trusted) ≡ true) }
+    ensures refused { IfErr result (λ f. f ≢ Failure.Folder) }
+{
+    keep_state(alloc, system, start.state, outcome.trusted())
+}
+
+/// Prints the lines of the outcome, and answers its status.
+#[tactic(auto, using(crate::proofs::Told::told, crate::proofs::Told::no_folder))]
+pub(crate) fn tell_outcome<W: Write>(
+    alloc: Global,
+    outcome: &Outcome,
+    wanted: &[String],
+    out: &mut W,
+) -> Result<u8, Failure>
+    ensures known { IfOk result (λ status. status ≤ 2) }
+    ensures told { IfOk result (λ status. IsTold outcome.now (map string_bytes wanted.now) status
+        (W.contents out.old) (W.contents out.new)) }
+    ensures refused { IfErr result (λ f. f ≢ Failure.Folder) }
+{
+    tell(alloc, outcome, wanted, out)
 }
 
 /// The files of both folders.

@@ -4,4 +4,4 @@ use Rattle.command.proofs.sample.verify.Goals as goal
 pub returns-clause-sampled : goal.returns-clause-sampled
 returns-clause-sampled g c =
     sampled (record { trusted = c.in_ok-trusted.trusted; moment = c.in_ok-now.now; wanted = _; limit = c.in_ok-limits.limits.roles }) _ _ _ _ _ _
-    c.tell.result c.in_ok-outcome.ensures.workflow c.tell.ensures.written c.tell.ensures.status
+    c.tell_outcome.result c.in_ok-outcome.ensures.workflow c.tell_outcome.ensures.told

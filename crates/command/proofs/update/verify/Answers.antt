@@ -1,16 +1,19 @@
-use Rattle.std.proofs.Common.{IfOk, map, string_bytes, subst}
+use Rattle.std.proofs.Common.{map, string_bytes}
 use Rattle.folder.specs.Folders.{IsLoaded}
+use Rattle.command.specs.Starting.{start_from, start_of}
 use Rattle.command.specs.Told.{IsStored, IsTold}
-use Rattle.command.proofs.Told.{begun}
+use Rattle.command.proofs.Told.{begun, renamed}
 use Rattle.command.proofs.update.verify.Goals as goal
 
 pub returns-clause-verified : goal.returns-clause-verified
 returns-clause-verified g c =
-    begun _ _ _ _ _ _ c.verify_from.result c.in_ok-read_state.ensures.read c.in_ok-moment.ensures.moment
-    (subst (λ wanted. IfOk c.verify_from.result (λ status. IsStored
+    begun _ _ _
+    (λ status trusted moment. IsStored
     (IsLoaded (g.M.Folder.lists c.args.folders.now.metadata) (g.M.Folder.holds c.args.folders.now.metadata))
     (IsLoaded (g.T.Folder.lists c.args.folders.now.targets) (g.T.Folder.holds c.args.folders.now.targets))
-    (record { trusted = c.in_ok-read_state.field-0; moment = c.in_ok-moment.moment; wanted = map string_bytes wanted; limit = c.args.task.now.limit })
-    (g.S.System.keeps c.verify_from.new.system c.args.task.now.out.now)
-    (λ o. IsTold o (map string_bytes wanted) status (g.W.Write.contents c.args.out.now) (g.W.Write.contents c.verify_from.new.out))))
-    c.as_slice.ensures.value c.verify_from.ensures.verified)
+    (start_from c.args.task.now trusted moment) (g.S.System.keeps c.verify_from.new.system c.args.task.now.out.now)
+    (λ o. IsTold o (map string_bytes c.args.task.now.wanted.items) status (g.W.Write.contents c.args.out.now) (g.W.Write.contents c.verify_from.new.out)))
+    _ _ c.verify_from.result c.in_ok-start.ensures.read c.in_ok-start.ensures.moment
+    (renamed _ _ (g.S.System.keeps c.verify_from.new.system) (start_of c.in_ok-start.start)
+    (start_from c.args.task.now c.in_ok-start.start.trusted c.in_ok-start.start.moment) c.in_ok-start.start.state.now c.args.task.now.out.now _ _
+    c.verify_from.result c.in_ok-start.ensures.start c.in_ok-start.ensures.place c.verify_from.ensures.verified)
