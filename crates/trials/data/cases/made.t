@@ -1,4 +1,4 @@
-What scripts make that replace and forget, and a key of height 10. The SHA-256 of each file is from a program that
+What a script makes whose lines replace and forget. The SHA-256 of each file is from a program that
 shares no code with this one.
   $ make
   > # A comment, an empty line, a repeated target, an empty target, and roles forgotten.
@@ -37,9 +37,3 @@ shares no code with this one.
   targets/a/b.txt 08cf51fe8f3e7b9c9b08f6ae4803831975d480e39bc806ed7c8120fd66d8086d
   targets/empty e3b0c44298fc1c149afbf4c8996fb92427ae41e4649b934ca495991b7852b855
   targets/x 06eb7d6a69ee19e5fbdf749018d3d2abfa04bcbd1365db312eb86dc7169389b8
-  $ make
-  > key 0 10
-  > top targets 1 0
-  > write targets 1 0
-  $ digests
-  metadata/targets.json 630f742d86f93e3cbb52172596eb4b95c386ceb672e85d338245f5935dc691b1

@@ -19,13 +19,12 @@ An expired root on the way.
 
 An expired last root.
   $ make
-  > @keys
+  > @one
   > write root 1 1
   > expires 2025-01-01T00:00:00Z
   > write root 2 1
   > write root 3 1
   > expires 2030-01-01T00:00:00Z
-  > @files
   $ init old
   root 1
   $ verify old new
@@ -37,12 +36,11 @@ An expired last root.
 
 Signed by the new keys only.
   $ make
-  > @keys
+  > @one
   > write root 1 1
   > key 5 5
   > top root 1 5
   > write root 2 5
-  > @files
   $ init old
   root 1
   $ verify old new
@@ -54,12 +52,11 @@ Signed by the new keys only.
 
 Signed by the old keys only.
   $ make
-  > @keys
+  > @one
   > write root 1 1
   > key 5 5
   > top root 1 5
   > write root 2 1
-  > @files
   $ init old
   root 1
   $ verify old new
@@ -116,12 +113,12 @@ A gap after a root.
 
 An unsigned root on the way.
   $ make
-  > @keys
+  > @one
+  > key 2 5
   > write root 1 1
   > write root 2 1
   > write root 3 2
   > write root 4 1
-  > @files
   $ init old
   root 1
   $ verify old new
@@ -154,7 +151,7 @@ thresholds are to be met.
 
 Signed by 1,5,6.
   $ make
-  > @keys
+  > @one
   > key 5 5
   > key 6 5
   > key 7 5
@@ -166,7 +163,6 @@ Signed by 1,5,6.
   > write root 1 1
   > top root 3 1,5,9,10,11
   > write root 2 1,5,6
-  > @files
   $ init old
   root 1
   $ verify old new
@@ -176,7 +172,7 @@ Signed by 1,5,6.
 
 Signed by 9,10,1.
   $ make
-  > @keys
+  > @one
   > key 5 5
   > key 6 5
   > key 7 5
@@ -188,7 +184,6 @@ Signed by 9,10,1.
   > write root 1 1
   > top root 3 1,5,9,10,11
   > write root 2 9,10,1
-  > @files
   $ init old
   root 1
   $ verify old new
@@ -198,7 +193,7 @@ Signed by 9,10,1.
 
 Signed by 1,5,9,10,11.
   $ make
-  > @keys
+  > @one
   > key 5 5
   > key 6 5
   > key 7 5
@@ -210,7 +205,6 @@ Signed by 1,5,9,10,11.
   > write root 1 1
   > top root 3 1,5,9,10,11
   > write root 2 1,5,9,10,11
-  > @files
   $ init old
   root 1
   $ verify old new
@@ -262,10 +256,9 @@ Signed by 9,6,5,1.
 
 Version 3 stands in the place of version 2, signed by its key.
   $ make
-  > @keys
+  > @one
   > write root 1 1
   > write root 3 1
-  > @files
   $ copy metadata/3.root.json metadata/2.root.json
   $ init old
   root 1
@@ -276,10 +269,10 @@ Version 3 stands in the place of version 2, signed by its key.
 
 Version 3 stands in the place of version 2, signed by another key.
   $ make
-  > @keys
+  > @one
+  > key 2 5
   > write root 1 1
   > write root 3 2
-  > @files
   $ copy metadata/3.root.json metadata/2.root.json
   $ init old
   root 1

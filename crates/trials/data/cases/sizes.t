@@ -89,12 +89,20 @@ A root has 512,000 bytes at most: the next one, and the first one.
 
 A cycle accepts 256 roots, and the next one goes on.
   $ make
-  > key 1 10
-  > top root 1 1
+  > @1..9 key {} 5
+  > top root 1 1,2,3,4,5,6,7,8,9
   > top timestamp 1 1
   > top snapshot 1 1
   > top targets 1 1
-  > @1..258 write root {} 1
+  > @1..29 write root {} 1
+  > @30..59 write root {} 2
+  > @60..89 write root {} 3
+  > @90..119 write root {} 4
+  > @120..149 write root {} 5
+  > @150..179 write root {} 6
+  > @180..209 write root {} 7
+  > @210..239 write root {} 8
+  > @240..258 write root {} 9
   > write targets 1 1
   > write snapshot 1 1
   > write timestamp 1 1
