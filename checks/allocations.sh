@@ -4,13 +4,15 @@
 #   checks/allocations.sh [FIRST [LAST [STEP]]]      1, 100000 and 1 unless given
 #
 # A run that meets the refusal must print nothing, tell `tufcheck: memory` and end with status 4, or else print all that
-# it prints with ample memory, tell nothing and end with status 0 (a sort that is refused its buffer does without). The
-# sweep ends with the run that asks for memory fewer than N times. Swept are a run without a word, and `make`, `init`,
-# `verify` and `--help` over examples/first.script. The script ends with status 1 at the first run that does otherwise.
+# it prints with ample memory, tell nothing and end with status 0 (a sort that is refused its buffer does without, and so
+# does a run with workers that is refused its plan). The sweep ends with the run that asks for memory fewer than N times. Swept are a run without a word, and `make`, `init`,
+# `verify` (by no worker and by two) and `--help` over examples/first.script. The script ends with status 1 at the first
+# run that does otherwise.
 #
 # `rt run` proves and builds the program, once. A small library, made with `cc`, stands before the C library's `malloc`
 # and `realloc` and refuses the Nth call. (`rt try --fail-alloc N` gives the same answers, and builds the program for
-# each N, which takes a minute or two.) All five sweeps are some 2,500 runs, seven to twelve minutes in all.
+# each N, which takes a minute or two.) Five sweeps, from before `verify` had workers, were some
+# 2,500 runs and took seven to twelve minutes; as it stands the script wasn't run yet.
 set -u
 first=${1:-1} last=${2:-100000} step=${3:-1}
 top=$(cd "$(dirname "$0")/.." && pwd) || exit 2
@@ -28,7 +30,7 @@ static unsigned long calls, refused;
 
 static int is_refused(void) {
     if (!calls) refused = strtoul(getenv("REFUSED"), 0, 10);
-    if (++calls != refused) return 0;
+    if (__atomic_add_fetch(&calls, 1, __ATOMIC_SEQ_CST) != refused) return 0;
     close(creat("met", 0600));
     return 1;
 }
@@ -77,6 +79,8 @@ printf 'root 1\n' > root
 sweep sample lines
 sweep make nothing make first.script again
 sweep init root init repo/metadata/1.root.json --out new
-sweep verify lines verify --state old --metadata repo/metadata --targets repo/targets \
-    --now 2026-01-01T00:00:00Z --out new abc.txt
+for workers in 0 2; do
+    sweep "verify by $workers workers" lines verify --state old --metadata repo/metadata --targets repo/targets \
+        --now 2026-01-01T00:00:00Z --workers $workers --out new abc.txt
+done
 sweep help help --help

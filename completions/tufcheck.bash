@@ -4,7 +4,7 @@ _tufcheck() {
     case $before in
     --state | --out) mapfile -t COMPREPLY < <(compgen -f -- "$word"); return ;;
     --metadata | --targets) mapfile -t COMPREPLY < <(compgen -d -- "$word"); return ;;
-    --now | --limit) return ;;
+    --now | --limit | --workers) return ;;
     esac
     if ((COMP_CWORD == 1)); then
         mapfile -t COMPREPLY < <(compgen -W "init verify make help --help -h" -- "$word")
@@ -12,7 +12,7 @@ _tufcheck() {
     fi
     case ${COMP_WORDS[1]} in
     init) mapfile -t COMPREPLY < <(compgen -W "--out --help -h" -f -- "$word") ;;
-    verify) mapfile -t COMPREPLY < <(compgen -W "--state --metadata --targets --now --limit --out --help -h" -- "$word") ;;
+    verify) mapfile -t COMPREPLY < <(compgen -W "--state --metadata --targets --now --limit --workers --out --help -h" -- "$word") ;;
     make) mapfile -t COMPREPLY < <(compgen -W "--help -h" -f -- "$word") ;;
     help) mapfile -t COMPREPLY < <(compgen -W "init verify make" -- "$word") ;;
     esac

@@ -15,30 +15,38 @@ use report::{Failure, put, tell_failure};
 use std::alloc::Global;
 use std::io::Write;
 use std::rt::{Clock, Files};
+use std::sync::Wait;
+use std::thread::Threads;
 
 /// Does what the words after the program's name ask for, or without a word verifies the sample
 /// repository, and answers the exit status: 0 where all wanted targets are good,
 /// 1 where one is refused, 2 where the update stopped or the root was refused, 3 for a mistake of the caller and 4 for
-/// a refusal of the system. The lines go to `out`, and what is said of a mistake or a refusal goes to `err`.
-pub fn perform<R: Files + Clock + AllocGlobal + Clone + Drop, W: Write, E: Write>(
-    rt: &R,
-    alloc: Global,
-    words: &[String],
-    out: &mut W,
-    err: &mut E,
-) -> u8
+/// a refusal of the system. The lines go to `out`, and what is said of a mistake or a refusal goes to `err`. Files and
+/// clock are those of `rt`, and what checks ahead is started by `threads`.
+pub fn perform<
+    R: Files + Clock + AllocGlobal + Clone + Drop,
+    T: Threads + Wait + Sync,
+    W: Write,
+    E: Write,
+>(rt: &R, threads: &T, alloc: Global, words: &[String], out: &mut W, err: &mut E) -> u8
     ensures known { result ≤ 4 }
 {
     let done = if words.is_empty() {
         sample::run(alloc, out)
     } else {
-        perform_words(rt, alloc, words, out, err)
+        perform_words(rt, threads, alloc, words, out, err)
     };
     status_of(done, err)
 }
 
-fn perform_words<R: Files + Clock + AllocGlobal + Clone + Drop, W: Write, E: Write>(
+fn perform_words<
+    R: Files + Clock + AllocGlobal + Clone + Drop,
+    T: Threads + Wait + Sync,
+    W: Write,
+    E: Write,
+>(
     rt: &R,
+    threads: &T,
     alloc: Global,
     words: &[String],
     out: &mut W,
@@ -47,13 +55,14 @@ fn perform_words<R: Files + Clock + AllocGlobal + Clone + Drop, W: Write, E: Wri
     ensures known { IfOk result (λ status. status ≤ 3) }
 {
     match words::parse(alloc, words) {
-        Ok(matches) => perform_task(rt, alloc, &matches, out),
+        Ok(matches) => perform_task(rt, threads, alloc, &matches, out),
         Err(error) => refuse_words(alloc, &error, out, err),
     }
 }
 
-fn perform_task<R: Files + Clock + AllocGlobal + Clone + Drop, W: Write>(
+fn perform_task<R: Files + Clock + AllocGlobal + Clone + Drop, T: Threads + Wait + Sync, W: Write>(
     rt: &R,
+    threads: &T,
     alloc: Global,
     matches: &ArgMatches<'_>,
     out: &mut W,
@@ -66,24 +75,30 @@ fn perform_task<R: Files + Clock + AllocGlobal + Clone + Drop, W: Write>(
             init(alloc, &mut Machine::new(rt), root, state, out)
         }
         Some(Task::Make { script, folder }) => make_from(rt, alloc, script, folder),
-        Some(Task::Verify(task)) => verify_on_disk(rt, alloc, &task, out),
+        Some(Task::Verify(task)) => verify_on_disk(rt, threads, alloc, &task, out),
     }
 }
 
 /// Verifies the folders of the file system that the words name.
-fn verify_on_disk<R: Files + Clock + AllocGlobal + Clone + Drop, W: Write>(
-    rt: &R,
-    alloc: Global,
-    task: &Verify<'_>,
-    out: &mut W,
-) -> Result<u8, Failure>
+fn verify_on_disk<
+    R: Files + Clock + AllocGlobal + Clone + Drop,
+    T: Threads + Wait + Sync,
+    W: Write,
+>(rt: &R, threads: &T, alloc: Global, task: &Verify<'_>, out: &mut W) -> Result<u8, Failure>
     ensures known { IfOk result (λ status. status ≤ 2) }
 {
     let mut folders = Folders {
         metadata: Disk::new(rt, task.metadata, Depth::Here),
         targets: Disk::new(rt, task.targets, Depth::Below),
     };
-    verify(alloc, &mut Machine::new(rt), task, &mut folders, out)
+    verify(
+        threads,
+        alloc,
+        &mut Machine::new(rt),
+        task,
+        &mut folders,
+        out,
+    )
 }
 
 /// The status, after a failure was told.

@@ -1,6 +1,7 @@
 //! The system that a process runs on.
 ghost use Rattle.std.specs.Prelude.{◌≡◌, true};
 
+use crate::files::store;
 use crate::system::System;
 use std::rt::{Clock, Files};
 use std::time::SystemTime;
@@ -31,7 +32,7 @@ impl<'a, R: Files + Clock + AllocGlobal> System for Machine<'a, R> {
     }
 
     fn store(&mut self, path: &str, bytes: &[u8]) -> io::Result<()> {
-        fs::write(self.rt, path, bytes)
+        store(self.rt, path, bytes)
     }
 
     fn seconds(&self) -> Option<u64> {

@@ -1,5 +1,5 @@
 //! The state file.
-ghost use Rattle.std.specs.Prelude.{◌≡◌, ◌⊎◌, true, IfErr, IfOk, OnOk};
+ghost use Rattle.std.specs.Prelude.{◌≡◌, ◌⊎◌, true, IfErr, IfOk, OnErr, OnOk};
 ghost use Rattle.std.specs.Io.KnownBytes.{Appends};
 ghost use Rattle.report.specs.Lines.{end_text, root_text};
 ghost use Rattle.rolechain.specs.declared.end.End.TheVariants.{Stopped};
@@ -40,7 +40,7 @@ pub(crate) fn read_state<S: System>(
     Ok(Trusted::from_text(alloc, text.as_slice())?)
 }
 
-/// Stores the state as a file.
+/// Stores the state as a file. After a refusal the file is what it was.
 #[tactic(auto, unfolding(crate::specs::Told::state_text))]
 pub(crate) fn keep_state<S: System>(
     alloc: Global,
@@ -49,6 +49,7 @@ pub(crate) fn keep_state<S: System>(
     trusted: &Trusted,
 ) -> Result<(), Failure>
     ensures kept { OnOk result (S.keeps system.new path.now (state_text trusted.now) ≡ true) }
+    ensures unchanged { OnErr result (S.keeps system.new ≡ S.keeps system.old) }
     ensures refused { IfErr result (λ f. (f ≡ Failure.Memory) ⊎ (f ≡ Failure.Output)) }
 {
     let text = trusted.to_text(alloc)?;

@@ -1,5 +1,5 @@
 //! What a run asks of the system beside its folders and its streams: single files, and the clock.
-ghost use Rattle.std.specs.Prelude.{◌≡◌, List, ℕ, Bool, true, IfOk, IfSome, OnOk};
+ghost use Rattle.std.specs.Prelude.{◌≡◌, List, ℕ, Bool, true, IfOk, IfSome, OnErr, OnOk};
 
 use std::io;
 
@@ -18,9 +18,10 @@ pub trait System {
     fn read(&self, path: &str) -> io::Result<Vec<u8>>
         ensures given { IfOk result (λ bytes. gives self.now path.now bytes.items ≡ true) };
 
-    /// Stores the bytes as the file of that path, in place of what it held.
+    /// Stores the bytes as the file of that path, in place of what it held. After a refusal it is what it was.
     fn store(&mut self, path: &str, bytes: &[u8]) -> io::Result<()>
-        ensures kept { OnOk result (keeps self.new path.now bytes.now ≡ true) };
+        ensures kept { OnOk result (keeps self.new path.now bytes.now ≡ true) }
+        ensures refused { OnErr result (keeps self.new ≡ keeps self.old) };
 
     /// The whole seconds since 1970-01-01T00:00:00Z, or None where the clock can't be read or is before that.
     fn seconds(&self) -> Option<u64>

@@ -10,14 +10,19 @@ use crate::clock::moment;
 use crate::state::{keep_state, read_state};
 use crate::system::System;
 use crate::words::Verify;
-use cycle::{Limits, Moment, Outcome, Repo, Trusted, run_alone};
+use cycle::{Limits, Moment, Open, Outcome, Repo, Trusted, run};
 use folder::{Folder, load};
 use report::{Failure, tell};
 use std::alloc::Global;
 use std::io::Write;
+use std::sync::Wait;
+use std::thread::Threads;
 
 /// How many checks a plan has at most.
 const CHECKS: usize = 4096;
+
+/// How many workers a run has at most.
+const WORKERS: usize = 64;
 
 /// The folder of metadata files and the folder of target files.
 #[derive(Drop)]
@@ -27,19 +32,21 @@ pub struct Folders<M, T> {
 }
 
 /// What a verification begins with: the trusted state, the moment, the wanted paths, how many roles a search visits at
-/// most (1 to 256), and the path of the file for the new state.
+/// most (1 to 256), how many threads check ahead (0 to 64), and the path of the file for the new state.
 #[derive(Drop)]
 pub struct Start<'a> {
     pub trusted: Trusted,
     pub moment: Moment,
     pub wanted: &'a [String],
     pub limit: usize,
+    pub workers: usize,
     pub state: &'a str,
 }
 
 /// Verifies what the words name: the moment is read first, then the state file, and then the folders, as
 /// [`verify_from`] does.
-pub(crate) fn verify<S: System, M: Folder, T: Folder, W: Write>(
+pub(crate) fn verify<R: Threads + Wait + Sync, S: System, M: Folder, T: Folder, W: Write>(
+    rt: &R,
     alloc: Global,
     system: &mut S,
     task: &Verify<'_>,
@@ -56,7 +63,7 @@ pub(crate) fn verify<S: System, M: Folder, T: Folder, W: Write>(
         (W.contents out.new)))) }
 {
     let start = begin(alloc, system, task)?;
-    verify_from(alloc, system, &start, folders, out)
+    verify_from(rt, alloc, system, &start, folders, out)
 }
 
 /// What the words name, with the moment and the trusted state that are read.
@@ -77,6 +84,7 @@ fn begin<'a, S: System>(
         moment,
         wanted: task.wanted.as_slice(),
         limit: task.limit,
+        workers: task.workers,
         state: task.out,
     })
 }
@@ -84,8 +92,11 @@ fn begin<'a, S: System>(
 /// Verifies what the folders hold, stores the new state, prints the lines and answers the status: 2 where the update
 /// stopped, else 1 where some target isn't good, else 0. It is the status of the workflow on the files that the folders
 /// gave; a writer whose bytes are known was given its lines and nothing else, and the stored state is its new one.
-/// Where a folder fails, nothing is stored and nothing printed; and no line is printed before the state is stored.
-pub fn verify_from<S: System, M: Folder, T: Folder, W: Write>(
+/// Where a folder fails, nothing is stored and nothing printed; and no line is printed before the state is stored. After
+/// any failure either nothing is printed and what was stored before is as it was, or the new state is stored whole. It
+/// waits for the threads that check ahead, and then stores the state.
+pub fn verify_from<R: Threads + Wait + Sync, S: System, M: Folder, T: Folder, W: Write>(
+    rt: &R,
     alloc: Global,
     system: &mut S,
     start: &Start<'_>,
@@ -99,7 +110,8 @@ pub fn verify_from<S: System, M: Folder, T: Folder, W: Write>(
         (start_of start.now) (S.keeps system.new start.now.state.now)
         (λ o. IsTold o (map string_bytes start.now.wanted.now) status (W.contents out.old)
         (W.contents out.new))) }
-    ensures order { OnErr result ((W.contents out.new ≡ W.contents out.old) ⊎ IsStored
+    ensures order { OnErr result (((S.keeps system.new ≡ S.keeps system.old)
+        × (W.contents out.new ≡ W.contents out.old)) ⊎ IsStored
         (IsLoaded (M.lists folders.old.metadata) (M.holds folders.old.metadata))
         (IsLoaded (T.lists folders.old.targets) (T.holds folders.old.targets))
         (start_of start.now) (S.keeps system.new start.now.state.now) (λ _. ⊤)) }
@@ -107,11 +119,12 @@ pub fn verify_from<S: System, M: Folder, T: Folder, W: Write>(
         → (S.keeps system.new ≡ S.keeps system.old) × (W.contents out.new ≡ W.contents out.old)) }
 {
     let repo = loaded(alloc, folders)?;
-    verify_in(alloc, system, start, &repo, out)
+    verify_in(rt, alloc, system, start, &repo, out)
 }
 
 /// Verifies the repository, stores the new state, and then prints the lines.
-fn verify_in<S: System, W: Write>(
+fn verify_in<R: Threads + Wait + Sync, S: System, W: Write>(
+    rt: &R,
     alloc: Global,
     system: &mut S,
     start: &Start<'_>,
@@ -124,17 +137,18 @@ fn verify_in<S: System, W: Write>(
         (map string_bytes start.now.wanted.now) status (W.contents out.old) (W.contents out.new)) }
     ensures kept { OnOk result (S.keeps system.new start.now.state.now (state_text (outcome_of
         (start_of start.now) (file_in repo.now.metadata) (file_in repo.now.targets)).trusted) ≡ true) }
-    ensures order { OnErr result ((W.contents out.new ≡ W.contents out.old)
+    ensures order { OnErr result (((S.keeps system.new ≡ S.keeps system.old)
+        × (W.contents out.new ≡ W.contents out.old))
         ⊎ (S.keeps system.new start.now.state.now (state_text (outcome_of (start_of start.now)
         (file_in repo.now.metadata) (file_in repo.now.targets)).trusted) ≡ true)) }
     ensures refused { IfErr result (λ f. f ≢ Failure.Folder) }
 {
-    let outcome = outcome(alloc, start, repo)?;
+    let outcome = outcome(rt, alloc, start, repo)?;
     keep_outcome(alloc, system, start, &outcome)?;
     tell_outcome(alloc, &outcome, start.wanted, out)
 }
 
-/// Stores the outcome's new state.
+/// Stores the outcome's new state. After a refusal its place holds what it held.
 fn keep_outcome<S: System>(
     alloc: Global,
     system: &mut S,
@@ -143,6 +157,7 @@ fn keep_outcome<S: System>(
 ) -> Result<(), Failure>
     ensures kept { OnOk result (S.keeps system.new start.now.state.now
         (state_text outcome.now.trusted) ≡ true) }
+    ensures unchanged { OnErr result (S.keeps system.new ≡ S.keeps system.old) }
     ensures refused { IfErr result (λ f. f ≢ Failure.Folder) }
 {
     keep_state(alloc, system, start.state, outcome.trusted())
@@ -176,14 +191,34 @@ fn loaded<M: Folder, T: Folder>(alloc: Global, folders: &mut Folders<M, T>) -> R
     Ok(Repo { metadata, targets })
 }
 
-/// The workflow's outcome, by one thread.
+/// The workflow's outcome, by the number of workers that the start names. More than 64 are a mistake of the caller, and
+/// so is a limit that is none.
 #[tactic(auto, unfolding(crate::specs::Told::outcome_of))]
-fn outcome(alloc: Global, start: &Start<'_>, repo: &Repo) -> Result<Outcome, Failure>
+fn outcome<R: Threads + Wait + Sync>(
+    rt: &R,
+    alloc: Global,
+    start: &Start<'_>,
+    repo: &Repo,
+) -> Result<Outcome, Failure>
     ensures workflow { IfOk result (λ o. o
         ≡ outcome_of (start_of start.now) (file_in repo.now.metadata) (file_in repo.now.targets)) }
     ensures refused { IfErr result (λ f. (f ≡ Failure.Words) ⊎ (f ≡ Failure.Memory)) }
 {
+    if start.workers > WORKERS {
+        return Err(Failure::Words);
+    }
     let limits = Limits::new(start.limit, CHECKS).ok_or(Failure::Words)?;
     let trusted = &start.trusted;
-    Ok(run_alone(alloc, trusted, repo, start.moment, start.wanted, &limits)?)
+    let (now, wanted) = (start.moment, start.wanted);
+    Ok(run(
+        rt,
+        alloc,
+        trusted,
+        repo,
+        now,
+        wanted,
+        &limits,
+        start.workers,
+        &Open,
+    )?)
 }

@@ -36,7 +36,8 @@ It writes the new state first, also where the update stopped, and then prints
   role NAME VERSION       for each delegated role that was accepted
   ok NAME LENGTH ROLE     or `no NAME WHY`, for each wanted target in order
 
-Put `--` before the first PATH where one begins with `-`. Links in the folders are passed over.
+Put `--` before the first PATH where one begins with `-`. Links in the folders are passed over. What is
+printed, written and answered is the same for any number of workers.
 
 EXAMPLES:
   tufcheck verify --state state --metadata repo/metadata --targets repo/targets --out state abc.txt
@@ -77,6 +78,8 @@ pub struct Verify<'a> {
     /// The text of `--now`.
     pub moment: Option<&'a str>,
     pub limit: usize,
+    /// How many threads check ahead, 0 to 64.
+    pub workers: usize,
     pub out: &'a str,
     /// The wanted paths, in order.
     pub wanted: Vec<String>,
@@ -130,6 +133,7 @@ fn verify_command<'a>(alloc: Global) -> Result<Command<'a>, AllocError> {
             ),
         )?
         .arg(limit_option(alloc))?
+        .arg(workers_option(alloc))?
         .arg(option(alloc, "out", "STATE", "Where the new state is written"))?
         .arg(
             Arg::new(alloc, "PATH")
@@ -158,6 +162,15 @@ fn limit_option<'a>(alloc: Global) -> Arg<'a> {
         .value_parser(ValueParser::unsigned(1, 256))
         .default_value("32")
         .help("How many roles the search for a target visits at most, 1 to 256")
+}
+
+fn workers_option<'a>(alloc: Global) -> Arg<'a> {
+    Arg::new(alloc, "workers")
+        .long("workers")
+        .value_name("N")
+        .value_parser(ValueParser::unsigned(0, 64))
+        .default_value("4")
+        .help("How many threads check signatures and digests ahead, 0 to 64")
 }
 
 fn option<'a>(alloc: Global, name: &'a str, value: &'a str, help: &'a str) -> Arg<'a> {
@@ -204,6 +217,7 @@ fn verify_task<'a>(matches: &ArgMatches<'a>, wanted: Vec<String>) -> Option<Task
         targets: matches.get_str("targets")?,
         moment: matches.get_str("now"),
         limit: matches.get_one::<usize>("limit")?,
+        workers: matches.get_one::<usize>("workers")?,
         out: matches.get_str("out")?,
         wanted,
     }))

@@ -77,17 +77,28 @@ impl<'a, P: Questions, K: Sitting> BoardJudge<'a, P, K> {
         seat
     }
 
-    /// The board's answer, if it has one.
+    /// The board's answer, if it has one. What costs no digest to decide isn't looked up.
     #[tactic(auto, using(board::proofs::SeatLemmas::keeps_trans, board::proofs::SeatLemmas::free_kept))]
     fn found(&mut self, ask: &Ask) -> Option<bool>
         ensures { IfSome result (λ b. b ≡ truth ask.now) }
     {
+        if !is_dear(ask) {
+            return None;
+        }
         let j = self.plan.find(ask)?;
         match self.board.look(&mut self.seat, j) {
             Look::Open | Look::Taken => None,
             Look::Valid => Some(true),
             Look::Invalid => Some(false),
         }
+    }
+}
+
+/// Whether deciding it costs a digest. A text of another length than the key's signatures is refused without one.
+fn is_dear(ask: &Ask) -> bool {
+    match *ask {
+        Ask::Signature { public, sig, .. } => sig.len() / 2 == public.signature_len(),
+        Ask::Digest { .. } => true,
     }
 }
 

@@ -2,10 +2,13 @@
 //! thread or with workers that decide checks ahead.
 #![tactic(auto)]
 
+mod keeper;
 mod limits;
 mod order;
 mod outcome;
+mod recall;
 mod roles;
+mod round;
 mod running;
 mod stats;
 mod target;
@@ -16,10 +19,12 @@ pub use cjson::NoMemory;
 pub use cjson::text::Text;
 pub use crew::{Gate, Open};
 pub use deleg::Accepted;
+pub use keeper::Keeper;
 pub use limits::Limits;
 pub use meta::{Fault, Moment, Repo};
 pub use outcome::Outcome;
 pub use rolechain::{End, StateFault, Step, Trusted};
+pub use round::Round;
 pub use running::{run, run_alone};
 pub use stats::Stats;
 pub use verdict::Verdict;

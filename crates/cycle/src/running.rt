@@ -5,6 +5,7 @@ ghost use Rattle.cycle.specs.Workflow as spec;
 use crate::limits::Limits;
 use crate::order::Cycle;
 use crate::outcome::Outcome;
+use crate::recall::{Nothing, Recall};
 use crate::workers::{alone, with_plan, without_plan};
 use cjson::NoMemory;
 use crew::{Gate, Plan};
@@ -36,7 +37,7 @@ pub fn run_alone(
         wanted,
         limits,
     };
-    alone(&cycle)
+    alone(&cycle, &mut Nothing)
 }
 
 /// The same cycle, where up to 64 workers decide ahead, in threads of their own, what is likely to be
@@ -69,9 +70,34 @@ pub fn run<R: Threads + Wait + Sync, G: Gate + Sync>(
         wanted,
         limits,
     };
+    beside_workers(rt, &cycle, workers, gate, &mut Nothing)
+}
+
+/// The cycle in order, while workers decide ahead what it is likely to ask.
+pub(crate) fn beside_workers<R: Threads + Wait + Sync, G: Gate + Sync, M: Recall>(
+    rt: &R,
+    cycle: &Cycle,
+    workers: usize,
+    gate: &G,
+    memory: &mut M,
+) -> Result<Outcome, NoMemory>
+    requires { workers ≤ 64 }
+    ensures { IfOk result (λ o. o ≡ spec.workflow (file_in cycle.now.repo.now.metadata)
+        (file_in cycle.now.repo.now.targets) cycle.now.moment cycle.now.trusted.now
+        (map string_bytes cycle.now.wanted.now) cycle.now.limits.now.roles) }
+{
+    let alloc = cycle.alloc;
+    let limits = cycle.limits;
     let most = if workers == 0 { 0 } else { limits.plan() };
-    match Plan::of(alloc, trusted, repo, wanted, limits.roles(), most) {
-        Ok(plan) => with_plan(rt, alloc, &cycle, &plan, workers, gate),
-        Err(NoMemory) => without_plan(&cycle, gate),
+    match Plan::of(
+        alloc,
+        cycle.trusted,
+        cycle.repo,
+        cycle.wanted,
+        limits.roles(),
+        most,
+    ) {
+        Ok(plan) => with_plan(rt, alloc, cycle, &plan, workers, gate, memory),
+        Err(NoMemory) => without_plan(cycle, gate, memory),
     }
 }

@@ -4,7 +4,7 @@
 pub struct Stats {
     /// The questions of the plan.
     pub planned: u64,
-    /// The questions asked in order whose answers a worker had found.
+    /// The questions asked in order whose answers a worker had found or a keeper remembered.
     pub taken_over: u64,
     /// The questions asked in order that were decided when they were asked.
     pub alone: u64,

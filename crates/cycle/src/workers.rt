@@ -4,6 +4,7 @@ ghost use Rattle.board.specs.Seats.{IsFree, Keeps};
 
 use crate::order::Ordered;
 use crate::outcome::Outcome;
+use crate::recall::Recall;
 use crate::stats::Stats;
 use board::{Board, Checks, Seat, retire};
 use cjson::NoMemory;
@@ -28,11 +29,11 @@ impl Promise<Seat> for SeatOf {
 type Worker = PromisedHandle<Seat, SeatOf>;
 
 /// The work in order, where each question is decided when it is asked.
-pub(crate) fn alone<T: Ordered>(task: &T) -> Result<Outcome, NoMemory>
+pub(crate) fn alone<T: Ordered, M: Recall>(task: &T, memory: &mut M) -> Result<Outcome, NoMemory>
     ensures { IfOk result (λ o. o ≡ T.outcome task.now) }
 {
     let mut judge = Alone::new();
-    let outcome = task.in_order(&mut judge)?;
+    let outcome = memory.in_order(task, &mut judge)?;
     Ok(outcome.counted(Stats {
         planned: 0,
         taken_over: 0,
@@ -41,32 +42,43 @@ pub(crate) fn alone<T: Ordered>(task: &T) -> Result<Outcome, NoMemory>
 }
 
 /// The work in order beside no worker.
-pub(crate) fn without_plan<T: Ordered, G: Gate>(task: &T, gate: &G) -> Result<Outcome, NoMemory>
+pub(crate) fn without_plan<T: Ordered, G: Gate, M: Recall>(
+    task: &T,
+    gate: &G,
+    memory: &mut M,
+) -> Result<Outcome, NoMemory>
     ensures { IfOk result (λ o. o ≡ T.outcome task.now) }
 {
     gate.begin();
-    let outcome = alone(task);
+    let outcome = alone(task, memory);
     gate.end();
     outcome
 }
 
 /// The work in order, while workers decide the questions of the plan.
-pub(crate) fn with_plan<R: Threads + Wait + Sync, T: Ordered, P: Questions + Sync, G: Gate + Sync>(
+pub(crate) fn with_plan<
+    R: Threads + Wait + Sync,
+    T: Ordered,
+    P: Questions + Sync,
+    G: Gate + Sync,
+    M: Recall,
+>(
     rt: &R,
     alloc: Global,
     task: &T,
     plan: &P,
     workers: usize,
     gate: &G,
+    memory: &mut M,
 ) -> Result<Outcome, NoMemory>
     requires { workers ≤ 64 }
     ensures { IfOk result (λ o. o ≡ T.outcome task.now) }
 {
     let Ok(hands) = hands_for(alloc, plan.count(), workers) else {
-        return without_plan(task, gate);
+        return without_plan(task, gate, memory);
     };
     let Ok((board, seat)) = Board::new(alloc, plan) else {
-        return without_plan(task, gate);
+        return without_plan(task, gate, memory);
     };
     let shared = &board;
     thread::scope(
@@ -75,7 +87,11 @@ pub(crate) fn with_plan<R: Threads + Wait + Sync, T: Ordered, P: Questions + Syn
         |scope| -> Result<Outcome, NoMemory>
             requires { IsFree shared.now seat × (shared.now.truths ≡ P.truths plan.now) × All (λ h. h.count ≡ length shared.now.truths) hands.items }
             ensures { IfOk result (λ o. o ≡ T.outcome task.entry.now) }
-        { with_workers(rt, scope, alloc, task, shared, seat, plan, hands, gate) },
+        {
+            with_workers(
+                rt, scope, alloc, task, shared, seat, plan, hands, gate, memory,
+            )
+        },
     )
 }
 
@@ -92,7 +108,7 @@ fn hands_for(alloc: Global, count: usize, workers: usize) -> Result<Vec<Hand>, N
 
 /// Starts the workers, works in order, and takes the workers in.
 #[tactic(auto, using(board::proofs::SeatLemmas::free_kept))]
-fn with_workers<'s, E, R: Threads, T: Ordered, P: Questions + Sync, G: Gate + Sync>(
+fn with_workers<'s, E, R: Threads, T: Ordered, P: Questions + Sync, G: Gate + Sync, M: Recall>(
     rt: &R,
     scope: &Scope<'s, E>,
     alloc: Global,
@@ -102,6 +118,7 @@ fn with_workers<'s, E, R: Threads, T: Ordered, P: Questions + Sync, G: Gate + Sy
     plan: &'s P,
     hands: Vec<Hand>,
     gate: &'s G,
+    memory: &mut M,
 ) -> Result<Outcome, NoMemory>
     requires seat { IsFree board.now seat }
     requires truths { board.now.truths ≡ P.truths plan.now }
@@ -110,7 +127,7 @@ fn with_workers<'s, E, R: Threads, T: Ordered, P: Questions + Sync, G: Gate + Sy
 {
     let (seat, workers) = start_all(scope, alloc, board, seat, plan, hands, gate);
     gate.begin();
-    let (mut seat, outcome) = judged::<T, P, Brand>(task, board, seat, plan);
+    let (mut seat, outcome) = judged::<T, P, Brand, M>(task, board, seat, plan, memory);
     board.stop(&mut seat);
     gate.end();
     retire(take_in(rt, board, seat, workers));
@@ -119,11 +136,12 @@ fn with_workers<'s, E, R: Threads, T: Ordered, P: Questions + Sync, G: Gate + Sy
 
 /// The work in order, by what the board knows.
 #[tactic(auto, using(board::proofs::SeatLemmas::free_kept))]
-fn judged<T: Ordered, P: Questions, K: Sitting>(
+fn judged<T: Ordered, P: Questions, K: Sitting, M: Recall>(
     task: &T,
     board: &Board,
     seat: Seat,
     plan: &P,
+    memory: &mut M,
 ) -> (Seat, Result<Outcome, NoMemory>)
     requires start { seat ≡ K.start }
     requires free { IsFree board.now seat }
@@ -132,7 +150,7 @@ fn judged<T: Ordered, P: Questions, K: Sitting>(
     ensures workflow { IfOk result.1 (λ o. o ≡ T.outcome task.now) }
 {
     let mut judge: BoardJudge<P, K> = BoardJudge::new(board, seat, plan);
-    let outcome = task.in_order(&mut judge);
+    let outcome = memory.in_order(task, &mut judge);
     let (taken_over, alone) = judge.counts();
     let stats = Stats {
         planned: plan.count() as u64,

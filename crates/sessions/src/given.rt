@@ -1,7 +1,6 @@
 //! What a step gives.
 
 use crate::case::Step;
-use crate::commands::Commands;
 use crate::files;
 use crate::told::Told;
 use anyhow::Result;
@@ -9,13 +8,15 @@ use std::alloc::Global;
 use std::rt::Files;
 
 /// The lines that a step gives. Where it can't be done, a line says why.
-pub fn given_by<R: Files + AllocGlobal + Clone + Drop, C: Commands>(
+pub fn given_by<R: Files + AllocGlobal + Clone + Drop, F: Fn(&Step) -> Result<Told>>(
     rt: &R,
     alloc: Global,
-    commands: &C,
+    perform: &F,
     step: &Step,
-) -> Result<Vec<String>> {
-    match done(rt, alloc, commands, step) {
+) -> Result<Vec<String>>
+    requires { F.IsAlwaysCallable perform.now }
+{
+    match done(rt, alloc, perform, step) {
         Ok(told) => told.lines(alloc),
         Err(error) => {
             let mut lines = Vec::new(alloc);
@@ -25,14 +26,16 @@ pub fn given_by<R: Files + AllocGlobal + Clone + Drop, C: Commands>(
     }
 }
 
-fn done<R: Files + AllocGlobal + Clone + Drop, C: Commands>(
+fn done<R: Files + AllocGlobal + Clone + Drop, F: Fn(&Step) -> Result<Told>>(
     rt: &R,
     alloc: Global,
-    commands: &C,
+    perform: &F,
     step: &Step,
-) -> Result<Told> {
+) -> Result<Told>
+    requires { F.IsAlwaysCallable perform.now }
+{
     match files::perform(rt, alloc, step)? {
         Some(told) => Ok(told),
-        None => commands.perform(step),
+        None => perform(step),
     }
 }

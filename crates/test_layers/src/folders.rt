@@ -1,6 +1,6 @@
 //! Folders on the disk and in memory.
 
-use crate::memory::Memory;
+use crate::stored::Memory;
 use folder::{Depth, Disk, Folder, LoadFault, load};
 use std::os::unix::fs::symlink;
 use std::rt::Files;

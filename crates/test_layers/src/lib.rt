@@ -7,10 +7,10 @@ mod folders;
 #[cfg(test)]
 mod forms;
 #[cfg(test)]
-mod memory;
-#[cfg(test)]
 mod outputs;
 #[cfg(test)]
 mod seals;
+#[cfg(test)]
+mod stored;
 #[cfg(test)]
 mod thresholds;

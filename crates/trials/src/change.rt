@@ -15,8 +15,8 @@ use std::rt::{Clock, Files};
 /// old text, in which `...` stands for as little as may be, and the others are the new one. With
 /// the byte of a key, the change is made in what the file signs, and the key signs it under the id
 /// that signed it before.
-pub fn change<R: Files + Clock + AllocGlobal + Clone + Drop>(
-    shell: &Shell<'_, R>,
+pub fn change<R: Files + Clock + AllocGlobal + Clone + Drop, T>(
+    shell: &Shell<'_, R, T>,
     name: &str,
     key: Option<&String>,
     lines: &[String],

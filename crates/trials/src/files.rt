@@ -11,8 +11,8 @@ use std::fs;
 use std::rt::{Clock, Files};
 
 /// Writes a state file with members `NAME=FILE`, in the order in which they are given.
-pub fn state<R: Files + Clock + AllocGlobal + Clone + Drop>(
-    shell: &Shell<'_, R>,
+pub fn state<R: Files + Clock + AllocGlobal + Clone + Drop, T>(
+    shell: &Shell<'_, R, T>,
     name: &str,
     members: &[String],
 ) -> Result<Told> {
@@ -31,8 +31,8 @@ pub fn state<R: Files + Clock + AllocGlobal + Clone + Drop>(
 }
 
 /// Tells the names of the members that a state file has, in its order.
-pub fn keeps<R: Files + Clock + AllocGlobal + Clone + Drop>(
-    shell: &Shell<'_, R>,
+pub fn keeps<R: Files + Clock + AllocGlobal + Clone + Drop, T>(
+    shell: &Shell<'_, R, T>,
     name: &str,
 ) -> Result<Told> {
     let text = fs::read_to_string(shell.rt, name)?;
@@ -50,8 +50,8 @@ pub fn keeps<R: Files + Clock + AllocGlobal + Clone + Drop>(
 }
 
 /// Tells the name of each file that was made and its SHA-256, in the order of the names' bytes.
-pub fn digests<R: Files + Clock + AllocGlobal + Clone + Drop>(
-    shell: &Shell<'_, R>,
+pub fn digests<R: Files + Clock + AllocGlobal + Clone + Drop, T>(
+    shell: &Shell<'_, R, T>,
 ) -> Result<Told> {
     let mut text = String::new(shell.alloc);
     for name in ["metadata", "targets"] {

@@ -15,6 +15,7 @@ mod script;
 mod session;
 mod shell;
 mod system;
+mod workers;
 
 use sessions::run_all;
 use shell::Shell;
@@ -22,8 +23,13 @@ use std::io::Write;
 use std::process::ExitCode;
 
 fn main(rt: HostRuntime) -> ExitCode {
-    let shell = Shell::new(&rt, rt.alloc());
-    match run_all(&rt, rt.alloc(), &mut rt.stdout(), &shell) {
+    let shell = Shell::new(&rt, &rt, rt.alloc());
+    match run_all(
+        &rt,
+        rt.alloc(),
+        &mut rt.stdout(),
+        |step| shell.perform(step),
+    ) {
         Ok(0) => ExitCode::SUCCESS,
         Ok(_) => ExitCode::FAILURE,
         Err(error) => {

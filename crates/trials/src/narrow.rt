@@ -6,6 +6,8 @@ use command::perform;
 use sessions::Told;
 use std::io::{self, ErrorKind, Write};
 use std::rt::{Clock, Files};
+use std::sync::Wait;
+use std::thread::Threads;
 
 /// A writer that takes so many bytes, and then refuses to write and to flush.
 #[derive(Drop)]
@@ -30,8 +32,8 @@ impl Write for Narrow {
 }
 
 /// Runs the command line where standard output takes so many bytes.
-pub fn with_narrow_output<R: Files + Clock + AllocGlobal + Clone + Drop>(
-    shell: &Shell<'_, R>,
+pub fn with_narrow_output<R: Files + Clock + AllocGlobal + Clone + Drop, T: Threads + Wait + Sync>(
+    shell: &Shell<'_, R, T>,
     room: &str,
     words: &[String],
 ) -> Result<Told> {
@@ -39,13 +41,20 @@ pub fn with_narrow_output<R: Files + Clock + AllocGlobal + Clone + Drop>(
         room: room.parse::<usize>()?,
     };
     let mut told = Told::nothing(shell.alloc);
-    told.status = perform(shell.rt, shell.alloc, words, &mut out, &mut told.err);
+    told.status = perform(
+        shell.rt,
+        shell.threads,
+        shell.alloc,
+        words,
+        &mut out,
+        &mut told.err,
+    );
     Ok(told)
 }
 
 /// Runs the command line where standard error takes so many bytes.
-pub fn with_narrow_error<R: Files + Clock + AllocGlobal + Clone + Drop>(
-    shell: &Shell<'_, R>,
+pub fn with_narrow_error<R: Files + Clock + AllocGlobal + Clone + Drop, T: Threads + Wait + Sync>(
+    shell: &Shell<'_, R, T>,
     room: &str,
     words: &[String],
 ) -> Result<Told> {
@@ -53,6 +62,13 @@ pub fn with_narrow_error<R: Files + Clock + AllocGlobal + Clone + Drop>(
         room: room.parse::<usize>()?,
     };
     let mut told = Told::nothing(shell.alloc);
-    told.status = perform(shell.rt, shell.alloc, words, &mut told.out, &mut err);
+    told.status = perform(
+        shell.rt,
+        shell.threads,
+        shell.alloc,
+        words,
+        &mut told.out,
+        &mut err,
+    );
     Ok(told)
 }

@@ -7,26 +7,36 @@ use sessions::{Told, words_of};
 use std::alloc::Global;
 use std::fs;
 use std::rt::{Clock, Files};
+use std::sync::Wait;
+use std::thread::Threads;
 
 /// The moment of the verifications that name none.
 pub const NOW: &str = "2026-01-01T00:00:00Z";
 
 /// The system as a session sees it.
 #[derive(Clone, Copy, Drop)]
-pub struct Shell<'a, R> {
+pub struct Shell<'a, R, T> {
     pub rt: &'a R,
+    pub threads: &'a T,
     pub alloc: Global,
 }
 
-impl<'a, R: Files + Clock + AllocGlobal + Clone + Drop> Shell<'a, R> {
-    pub fn new(rt: &'a R, alloc: Global) -> Shell<'a, R> {
-        Shell { rt, alloc }
+impl<'a, R: Files + Clock + AllocGlobal + Clone + Drop, T: Threads + Wait + Sync> Shell<'a, R, T> {
+    pub fn new(rt: &'a R, threads: &'a T, alloc: Global) -> Shell<'a, R, T> {
+        Shell { rt, threads, alloc }
     }
 
     /// Runs the command line with the words.
     pub fn run(&self, words: &[String]) -> Result<Told> {
         let mut told = Told::nothing(self.alloc);
-        told.status = perform(self.rt, self.alloc, words, &mut told.out, &mut told.err);
+        told.status = perform(
+            self.rt,
+            self.threads,
+            self.alloc,
+            words,
+            &mut told.out,
+            &mut told.err,
+        );
         Ok(told)
     }
 

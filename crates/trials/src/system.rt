@@ -4,13 +4,15 @@ ghost use Rattle.folder.specs.Folders.{HasFailed};
 
 use crate::shell::{NOW, Shell};
 use anyhow::{Context, Result};
-use command::{Folders, Start, System, moment, verify_from, whole_seconds};
+use command::{Folders, Start, System, moment, store, verify_from, whole_seconds};
 use cycle::{Moment, Trusted};
 use folder::{Folder, LoadFault};
 use report::{Failure, tell_failure};
 use sessions::Told;
 use std::alloc::Global;
 use std::rt::{Clock, Files};
+use std::sync::Wait;
+use std::thread::Threads;
 use std::time::Duration;
 use std::{fs, io};
 
@@ -46,7 +48,7 @@ impl<'a, R: Files + AllocGlobal> System for Stopped<'a, R> {
     }
 
     fn store(&mut self, path: &str, bytes: &[u8]) -> io::Result<()> {
-        fs::write(self.rt, path, bytes)
+        store(self.rt, path, bytes)
     }
 
     fn seconds(&self) -> Option<u64> {
@@ -56,7 +58,7 @@ impl<'a, R: Files + AllocGlobal> System for Stopped<'a, R> {
 
 /// Tells the day and the second of the moment that a verification has by the text, or without a text by a clock that
 /// shows so many seconds and nanoseconds; `none` is a clock that can't be read.
-pub fn clock<R: Files + AllocGlobal>(shell: &Shell<'_, R>, words: &[String]) -> Result<Told> {
+pub fn clock<R: Files + AllocGlobal, T>(shell: &Shell<'_, R, T>, words: &[String]) -> Result<Told> {
     let seconds = words.first().context("no seconds")?.as_str();
     let time = if seconds == "none" {
         None
@@ -142,8 +144,8 @@ impl Folder for FailingFolder {
 
 /// Verifies two folders whose first calls succeed, so many of each, from the root of version 1, and stores the state
 /// under that name.
-pub fn failing<R: Files + AllocGlobal>(
-    shell: &Shell<'_, R>,
+pub fn failing<R: Files + AllocGlobal, T: Threads + Wait + Sync>(
+    shell: &Shell<'_, R, T>,
     metadata: &str,
     targets: &str,
     state: &str,
@@ -155,6 +157,7 @@ pub fn failing<R: Files + AllocGlobal>(
         moment: Moment::read(NOW).context("no moment")?,
         wanted: &wanted,
         limit: 32,
+        workers: 2,
         state,
     };
     let mut folders = Folders {
@@ -167,6 +170,7 @@ pub fn failing<R: Files + AllocGlobal>(
     };
     let mut told = Told::nothing(shell.alloc);
     match verify_from(
+        shell.threads,
         shell.alloc,
         &mut system,
         &start,

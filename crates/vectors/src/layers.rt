@@ -5,7 +5,7 @@ use crate::{
     texts, thresholds, verdicts,
 };
 use anyhow::{Context, Result};
-use sessions::{Commands, Step, Told};
+use sessions::{Step, Told};
 use std::alloc::Global;
 use std::fs;
 use std::rt::Files;
@@ -40,6 +40,15 @@ impl<'a, R: Files + AllocGlobal + Clone + Drop> Layers<'a, R> {
     /// Writes a file.
     pub fn write(&self, name: &str, text: &str) -> Result<()> {
         Ok(fs::write(self.rt, name, text)?)
+    }
+
+    /// Does a step, and gives what its command told. An error says why the step can't be done.
+    pub fn perform(&self, step: &Step) -> Result<Told> {
+        let text = match self.computed(step)? {
+            Some(text) => text,
+            None => self.filed(step)?.context("no such command")?,
+        };
+        Ok(Told::printed(self.alloc, text))
     }
 
     /// What a step prints that asks for no file.
@@ -77,15 +86,5 @@ impl<'a, R: Files + AllocGlobal + Clone + Drop> Layers<'a, R> {
             return Ok(Some(text));
         }
         states::given(self, step)
-    }
-}
-
-impl<'a, R: Files + AllocGlobal + Clone + Drop> Commands for Layers<'a, R> {
-    fn perform(&self, step: &Step) -> Result<Told> {
-        let text = match self.computed(step)? {
-            Some(text) => text,
-            None => self.filed(step)?.context("no such command")?,
-        };
-        Ok(Told::printed(self.alloc, text))
     }
 }

@@ -30,7 +30,12 @@ use std::process::ExitCode;
 
 fn main(rt: HostRuntime) -> ExitCode {
     let layers = Layers::new(&rt, rt.alloc());
-    match run_all(&rt, rt.alloc(), &mut rt.stdout(), &layers) {
+    match run_all(
+        &rt,
+        rt.alloc(),
+        &mut rt.stdout(),
+        |step| layers.perform(step),
+    ) {
         Ok(0) => ExitCode::SUCCESS,
         Ok(_) => ExitCode::FAILURE,
         Err(error) => {

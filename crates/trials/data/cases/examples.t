@@ -1,4 +1,5 @@
-The scripts of the folder examples, without their comments.
+The scripts of the folder examples, without their comments. What is told and stored is the same by any number of
+workers.
 
 first.script: the least repository.
   $ make
@@ -23,7 +24,7 @@ first.script: the least repository.
   targets/abc.txt ba7816bf8f01cfea414140de5dae2223b00361a396177a9cb410ff61f20015ad
   $ init old
   root 1
-  $ verify old new abc.txt
+  $ by 0,1,4,8,64 old new abc.txt
   root 1
   end ready
   ok "abc.txt" 3 "targets"
@@ -61,7 +62,7 @@ rotation.script: three roots that follow one another, with new keys.
   targets/abc.txt ba7816bf8f01cfea414140de5dae2223b00361a396177a9cb410ff61f20015ad
   $ init old
   root 1
-  $ verify old new abc.txt
+  $ by 0,1,4,8,64 old new abc.txt
   root 3
   end ready
   ok "abc.txt" 3 "targets"
@@ -109,7 +110,7 @@ delegations.script: delegated roles, by patterns and by prefixes.
   targets/faq.txt 3316348dbadfb7b11c7c2ea235949419e23f9fa898ad2c198f999617912a9925
   $ init old
   root 1
-  $ verify old new apps/game apps/web/a.js faq.txt
+  $ by 0,1,4,8,64 old new apps/game apps/web/a.js faq.txt
   root 1
   end ready
   role "apps" 1
@@ -152,7 +153,7 @@ consistent.script: names under consistent snapshots.
   targets/docs/ee021c5aa94c55f1dbbe287200618d386799f21ce4e35af71c9e7474267ebaf5fde5436ea44d689c8abd9dbb24e76da9493f982453cad987d1ca003f9eb9ef34.read.me 3316348dbadfb7b11c7c2ea235949419e23f9fa898ad2c198f999617912a9925
   $ init old
   root 1
-  $ verify old new abc.txt docs/read.me
+  $ by 0,1,4,8,64 old new abc.txt docs/read.me
   root 1
   end ready
   ok "abc.txt" 4 "targets"
@@ -186,7 +187,7 @@ compromised.script: what a thief of the keys of timestamp and snapshot can't do.
   targets/abc.txt b5c1fb2efc6d6b4674c2fdcc48ce01b43a3b7c03763c0c3355de0099ee0f8c73
   $ init old
   root 1
-  $ verify old new abc.txt
+  $ by 0,1,4,8,64 old new abc.txt
   root 1
   end targets Unsigned
   no "abc.txt" NotSearched
@@ -215,7 +216,7 @@ rollback.1.script and rollback.2.script: a client that took the first repository
   targets/abc.txt ba7816bf8f01cfea414140de5dae2223b00361a396177a9cb410ff61f20015ad
   $ init one
   root 1
-  $ verify one two abc.txt
+  $ by 0,1,4,8,64 one two abc.txt
   root 1
   end ready
   ok "abc.txt" 3 "targets"
@@ -239,7 +240,7 @@ rollback.1.script and rollback.2.script: a client that took the first repository
   metadata/targets.json 93ae3cbf6bd09e9831d1188bac8e28ab03582c00f81863c901c144e38fc7bd45
   metadata/timestamp.json e8add154302fd64a112ba001b184d7f16d0a856bbbae3417bd99a2de420e1fdb
   targets/abc.txt a52d159f262b2c6ddb724a61840befc36eb30c88877a4030b65cbe86298449c9
-  $ verify two three abc.txt
+  $ by 0,1,4,8,64 two three abc.txt
   root 1
   end timestamp Rollback
   no "abc.txt" NotSearched
@@ -247,7 +248,7 @@ rollback.1.script and rollback.2.script: a client that took the first repository
 A client that begins anew takes it.
   $ init one
   root 1
-  $ verify one two abc.txt
+  $ by 0,1,4,8,64 one two abc.txt
   root 1
   end ready
   ok "abc.txt" 3 "targets"

@@ -4,7 +4,6 @@ A lower timestamp.
   $ make
   > @keys
   > write root 1 1
-  > target targets abc.txt 616263 sha256
   > write targets 1 4
   > write snapshot 1 3
   > write timestamp 5 2
@@ -15,7 +14,6 @@ A lower timestamp.
   end ready
   $ make
   > @keys
-  > target targets abc.txt 616263 sha256
   > write targets 1 4
   > write snapshot 1 3
   > write timestamp 4 2
@@ -26,18 +24,7 @@ A lower timestamp.
   $ keeps three
   root snapshot targets timestamp
 
-A lower timestamp that is expired too.
-  $ make
-  > @keys
-  > write root 1 1
-  > write targets 1 4
-  > write snapshot 1 3
-  > write timestamp 5 2
-  $ init one
-  root 1
-  $ verify one two
-  root 1
-  end ready
+A lower timestamp that is expired too. It begins from the same state.
   $ make
   > @keys
   > write targets 1 4
@@ -51,18 +38,7 @@ A lower timestamp that is expired too.
   $ keeps three
   root snapshot targets timestamp
 
-An equal timestamp with a bad signature.
-  $ make
-  > @keys
-  > write root 1 1
-  > write targets 1 4
-  > write snapshot 1 3
-  > write timestamp 5 2
-  $ init one
-  root 1
-  $ verify one two
-  root 1
-  end ready
+An equal timestamp with a bad signature. It begins from the same state.
   $ make
   > @keys
   > write targets 1 4
@@ -75,18 +51,7 @@ An equal timestamp with a bad signature.
   $ keeps three
   root snapshot targets timestamp
 
-An equal timestamp of other bytes.
-  $ make
-  > @keys
-  > write root 1 1
-  > write targets 1 4
-  > write snapshot 1 3
-  > write timestamp 5 2
-  $ init one
-  root 1
-  $ verify one two
-  root 1
-  end ready
+An equal timestamp of other bytes. It begins from the same state.
   $ make
   > @keys
   > write targets 1 4
@@ -200,18 +165,7 @@ A snapshot replaced after an equal timestamp.
   $ keeps three
   root snapshot targets timestamp
 
-All files are newer.
-  $ make
-  > @keys
-  > write root 1 1
-  > write targets 1 4
-  > write snapshot 1 3
-  > write timestamp 1 2
-  $ init one
-  root 1
-  $ verify one two
-  root 1
-  end ready
+All files are newer. It begins from the same state.
   $ make
   > @keys
   > write targets 2 4
@@ -223,18 +177,7 @@ All files are newer.
   $ keeps three
   root snapshot targets timestamp
 
-Targets signed by another key.
-  $ make
-  > @keys
-  > write root 1 1
-  > write targets 1 4
-  > write snapshot 1 3
-  > write timestamp 1 2
-  $ init one
-  root 1
-  $ verify one two
-  root 1
-  end ready
+Targets signed by another key. It begins from the same state.
   $ make
   > @keys
   > write targets 2 3
@@ -247,18 +190,7 @@ Targets signed by another key.
   $ keeps three
   root snapshot targets timestamp
 
-A snapshot signed by another key.
-  $ make
-  > @keys
-  > write root 1 1
-  > write targets 1 4
-  > write snapshot 1 3
-  > write timestamp 1 2
-  $ init one
-  root 1
-  $ verify one two
-  root 1
-  end ready
+A snapshot signed by another key. It begins from the same state.
   $ make
   > @keys
   > write targets 2 4

@@ -1,5 +1,5 @@
 use Rattle.test_layers.proofs.Names.{copied_names}
-use Rattle.test_layers.proofs.memory.MemoryFolder.names.Goals as goal
+use Rattle.test_layers.proofs.stored.MemoryFolder.names.Goals as goal
 
 pub returns-clause-given : goal.returns-clause-given
 returns-clause-given c =

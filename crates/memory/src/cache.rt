@@ -1,0 +1,161 @@
+//! Verdicts on signatures, by the file that they stand in.
+
+ghost use Rattle.std.specs.Prelude.{◌≡◌, ◌≤◌, All, IfOk, IfSome, string_bytes};
+ghost use Rattle.std.specs.BTreeMap.{values};
+ghost use Rattle.keys.specs.Signers.{is_signed_by};
+
+use cjson::NoMemory;
+use lms::Public;
+use lru::LruCache;
+use sha2::{Digest, Sha256};
+use std::alloc::Global;
+use std::collections::BTreeMap;
+use std::num::NonZeroUsize;
+
+/// A verdict on a signature: a key's public value, the signature's text, and whether it is valid.
+#[derive(Drop)]
+struct Verdict {
+    public: Public,
+    sig: String,
+    valid: bool,
+}
+
+/// The signed bytes of a file, and verdicts by the signature's place and the key's public value. Each is
+/// the truth of what is kept with it.
+#[derive(Drop)]
+struct Remembered {
+    message: Vec<u8>,
+    verdicts: BTreeMap<(usize, [u8; 56]), Verdict>,
+    ghost truth: { All (λ v. v.valid ≡ is_signed_by v.public message.items (string_bytes v.sig))
+        (values verdicts) },
+}
+
+impl Remembered {
+    /// A file with no verdict yet.
+    fn new(alloc: Global, message: &[u8]) -> Result<Remembered, NoMemory>
+        ensures { IfOk result (λ r. r.message.items ≡ message.now) }
+    {
+        Ok(Remembered {
+            message: Vec::from_slice(alloc, message)?,
+            verdicts: BTreeMap::new(alloc),
+        })
+    }
+
+    /// The kept verdict, if all parts of the question are equal.
+    fn find(&self, place: usize, public: &Public, message: &[u8], sig: &str) -> Option<bool>
+        ensures { IfSome result (λ b. b ≡ is_signed_by public.now message.now sig.now) }
+    {
+        let verdict = self.verdicts.get(&(place, *public.bytes()))?;
+        if self.message.as_slice() != message {
+            return None;
+        }
+        answer_of(verdict, public, sig)
+    }
+
+    /// Keeps a verdict in place of an earlier one at its place for its key.
+    fn learn(&mut self, place: usize, verdict: Verdict) -> Result<(), NoMemory>
+        requires { verdict.valid
+            ≡ is_signed_by verdict.public self.old.message.items (string_bytes verdict.sig) }
+    {
+        let key = (place, *verdict.public.bytes());
+        self.verdicts.insert(key, verdict)?;
+        Ok(())
+    }
+}
+
+/// The verdict, where public value and signature's text are equal.
+fn answer_of(verdict: &Verdict, public: &Public, sig: &str) -> Option<bool>
+    ensures { IfSome result (λ b. (b ≡ verdict.now.valid)
+        × (verdict.now.public ≡ public.now) × (string_bytes verdict.now.sig ≡ sig.now)) }
+{
+    if verdict.public == *public && verdict.sig.as_str() == sig {
+        Some(verdict.valid)
+    } else {
+        None
+    }
+}
+
+/// A verdict on a signature, as it was asked for.
+fn verdict_on(alloc: Global, public: &Public, sig: &str, valid: bool) -> Result<Verdict, NoMemory>
+    ensures { IfOk result (λ v. (v.valid ≡ valid)
+        × (v.public ≡ public.now) × (string_bytes v.sig ≡ sig.now)) }
+{
+    Ok(Verdict {
+        public: *public,
+        sig: String::from_str(alloc, sig)?,
+        valid,
+    })
+}
+
+/// Verdicts on the signatures of the files that were used last, found by the digest of a file's signed bytes. Each is
+/// the truth, and none is used unless the signed bytes themselves are equal.
+#[derive(Drop)]
+pub struct Cache {
+    alloc: Global,
+    files: LruCache<[u8; 32], Remembered>,
+}
+
+impl Cache {
+    /// A cache for so many files, 1 to 4,096. Where one more is kept, the one that was used least recently goes.
+    pub fn new(alloc: Global, capacity: usize) -> Result<Cache, NoMemory>
+        requires least { 1 ≤ capacity }
+        requires most { capacity ≤ 4096 }
+    {
+        let capacity = match NonZeroUsize::new(capacity) {
+            Some(capacity) => capacity,
+            None => unreachable!(),
+        };
+        Ok(Cache {
+            alloc,
+            files: LruCache::sparse(alloc, capacity)?,
+        })
+    }
+
+    /// The SHA-256 of the message. It isn't computed again where the file that was used last has these very bytes.
+    pub(crate) fn digest_of(&self, message: &[u8]) -> [u8; 32] {
+        if let Some((digest, file)) = self.files.peek_mru() {
+            if file.message.as_slice() == message {
+                return *digest;
+            }
+        }
+        Sha256::digest(message)
+    }
+
+    /// The kept verdict on the message with this digest, if all parts of the question are equal.
+    pub(crate) fn find(
+        &mut self,
+        digest: &[u8; 32],
+        place: usize,
+        public: &Public,
+        message: &[u8],
+        sig: &str,
+    ) -> Option<bool>
+        ensures { IfSome result (λ b. b ≡ is_signed_by public.now message.now sig.now) }
+    {
+        self.files.get(digest)?.find(place, public, message, sig)
+    }
+
+    /// Keeps a verdict on the message with this digest. After a refusal it may know less.
+    pub(crate) fn learn(
+        &mut self,
+        digest: [u8; 32],
+        place: usize,
+        public: &Public,
+        message: &[u8],
+        sig: &str,
+        valid: bool,
+    ) -> Result<(), NoMemory>
+        requires { valid ≡ is_signed_by public.now message.now sig.now }
+    {
+        let verdict = verdict_on(self.alloc, public, sig, valid)?;
+        if let Some(file) = self.files.get_mut(&digest) {
+            if file.message.as_slice() == message {
+                return file.learn(place, verdict);
+            }
+        }
+        let mut file = Remembered::new(self.alloc, message)?;
+        file.learn(place, verdict)?;
+        self.files.put(digest, file)?;
+        Ok(())
+    }
+}

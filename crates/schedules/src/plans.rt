@@ -1,0 +1,45 @@
+//! Plans of questions, with no worker.
+ghost use Rattle.std.specs.Prelude.{◌≤◌};
+
+use crate::asked::paths_behind;
+use crate::repositories::{Made, read};
+use crate::runs::ROLES;
+use anyhow::{Result, ensure};
+use board::MOST_CHECKS;
+use crew::Plan;
+use sessions::{Step, Told};
+use std::alloc::Global;
+use std::rt::Files;
+
+/// How many questions a plan has, and how many of them are true.
+pub fn plan<R: Files + AllocGlobal + Clone + Drop>(
+    rt: &R,
+    alloc: Global,
+    step: &Step,
+) -> Result<Told> {
+    let most = step.word(1)?.parse::<usize>()?;
+    ensure!(most <= MOST_CHECKS, "too many questions");
+    let made = read(rt, alloc, step.word(0)?)?;
+    let text = counted(alloc, &made, paths_behind(step, 2), most)?;
+    Ok(Told::printed(alloc, text))
+}
+
+fn counted(alloc: Global, made: &Made, wanted: &[String], most: usize) -> Result<String>
+    requires { most ≤ 4096 }
+{
+    let (trusted, repo) = (&made.trusted, &made.repo);
+    let plan = Plan::of(alloc, trusted, repo, wanted, ROLES, most)?;
+    let valid = true_in(&plan)?;
+    Ok(format!(in alloc; "{} questions, {valid} true\n", plan.len())?)
+}
+
+/// How many questions of the plan are true.
+fn true_in(plan: &Plan) -> Result<usize> {
+    let mut valid: usize = 0;
+    for j in 0..plan.len() {
+        if plan.answer(j)? {
+            valid = valid.saturating_add(1);
+        }
+    }
+    Ok(valid)
+}

@@ -1,0 +1,40 @@
+//! The commands of a case.
+
+use crate::boards;
+use crate::plans::plan;
+use crate::repositories::make;
+use crate::runs::{agrees, alone, counts, entered, lines};
+use crate::stress::stress;
+use anyhow::{Context, Result};
+use sessions::{Step, Told};
+use std::alloc::Global;
+use std::rt::Files;
+use std::sync::Wait;
+use std::thread::Threads;
+
+/// Does a step, with the files of the folder and with threads, and gives what its command told. An
+/// error says why the step can't be done.
+pub fn perform<F: Files + AllocGlobal + Clone + Drop, T: Threads + Wait + Sync>(
+    files: &F,
+    threads: &T,
+    alloc: Global,
+    step: &Step,
+) -> Result<Told> {
+    match step.name()? {
+        "make" => make(files, alloc, step.word(0)?),
+        "plan" => plan(files, alloc, step),
+        "alone" => alone(files, alloc, step),
+        "lines" => lines(files, threads, alloc, step),
+        "counts" => counts(files, threads, alloc, step),
+        "entered" => entered(files, threads, alloc, step),
+        "agrees" => agrees(files, threads, alloc, step),
+        "stress" => stress(files, threads, alloc, step),
+        _ => share(threads, alloc, step),
+    }
+}
+
+/// Does a step of a board, which reads no file.
+fn share<R: Threads + Wait + Sync>(rt: &R, alloc: Global, step: &Step) -> Result<Told> {
+    let text = boards::given(rt, alloc, step)?.context("no such command")?;
+    Ok(Told::printed(alloc, text))
+}

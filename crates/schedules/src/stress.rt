@@ -1,0 +1,61 @@
+//! Many runs under drawn schedules.
+
+use crate::asked::{Asked, paths_behind};
+use crate::gates::{Rule, Schedule, mixed};
+use crate::repositories::{Made, read};
+use crate::runs::{tells, told_alone};
+use anyhow::Result;
+use sessions::{Step, Told};
+use std::alloc::Global;
+use std::rt::Files;
+use std::sync::Wait;
+use std::thread::Threads;
+
+/// How many of so many runs tell something else than a cycle on one thread.
+pub fn stress<F: Files + AllocGlobal + Clone + Drop, T: Threads + Wait + Sync>(
+    files: &F,
+    rt: &T,
+    alloc: Global,
+    step: &Step,
+) -> Result<Told> {
+    let runs = step.word(1)?.parse::<u64>()?;
+    let seed = mixed(step.word(2)?.parse::<u64>()?);
+    let made = read(files, alloc, step.word(0)?)?;
+    let differing = differing(rt, alloc, &made, paths_behind(step, 3), runs, seed)?;
+    let text = format!(in alloc; "{runs} runs, {differing} differ\n")?;
+    Ok(Told::printed(alloc, text))
+}
+
+fn differing<R: Threads + Wait + Sync>(
+    rt: &R,
+    alloc: Global,
+    made: &Made,
+    wanted: &[String],
+    runs: u64,
+    seed: u64,
+) -> Result<u64> {
+    let alone = told_alone(alloc, made, wanted)?;
+    let mut differing: u64 = 0;
+    for run in 0..runs {
+        let asked = drawn(mixed(seed ^ run));
+        let gate = Schedule::new(asked.rule);
+        if !tells(rt, alloc, made, asked, wanted, &gate, &alone)? {
+            differing = differing.saturating_add(1);
+        }
+    }
+    Ok(differing)
+}
+
+/// Up to 8 workers with a plan of any length, and a gate that none of them can wait at for long.
+fn drawn(seed: u64) -> Asked {
+    let draw = mixed(seed);
+    Asked {
+        workers: (draw % 9) as usize,
+        most: if draw & 0x1000 == 0 { 4096 } else { 3 },
+        rule: match (draw >> 16) % 4 {
+            0 => Rule::Open,
+            1 => Rule::HeldToEnd(0),
+            _ => Rule::Random(seed),
+        },
+    }
+}

@@ -1,0 +1,67 @@
+//! Verifications by several numbers of workers.
+
+use crate::shell::Shell;
+use anyhow::{Context, Result, bail};
+use sessions::Told;
+use std::fs;
+use std::rt::{Clock, Files};
+use std::sync::Wait;
+use std::thread::Threads;
+
+/// What a verification told, and the state that it stored.
+#[derive(Drop)]
+struct Ran {
+    told: Told,
+    state: Vec<u8>,
+}
+
+impl Ran {
+    fn is(&self, other: &Ran) -> bool {
+        self.state == other.state
+            && self.told.status == other.told.status
+            && self.told.out == other.told.out
+            && self.told.err == other.told.err
+    }
+}
+
+/// Verifies by each of the numbers of workers, which commas part, and gives what the first run told.
+/// It is an error where another one tells or stores something else.
+pub fn by<R: Files + Clock + AllocGlobal + Clone + Drop, T: Threads + Wait + Sync>(
+    shell: &Shell<'_, R, T>,
+    numbers: &str,
+    old: &str,
+    new: &str,
+    more: &[String],
+) -> Result<Told> {
+    let mut first: Option<Ran> = None;
+    for number in numbers.split(",") {
+        let next = verify_with(shell, number, old, new, more)?;
+        let Some(ran) = &first else {
+            first = Some(next);
+            continue;
+        };
+        if !ran.is(&next) {
+            bail!("{number} workers tell or store something else");
+        }
+    }
+    Ok(first.context("no number")?.told)
+}
+
+/// Verifies by so many workers.
+fn verify_with<R: Files + Clock + AllocGlobal + Clone + Drop, T: Threads + Wait + Sync>(
+    shell: &Shell<'_, R, T>,
+    number: &str,
+    old: &str,
+    new: &str,
+    more: &[String],
+) -> Result<Ran> {
+    let mut words = Vec::new(shell.alloc);
+    words.push(String::from_str(shell.alloc, "--workers")?)?;
+    words.push(String::from_str(shell.alloc, number)?)?;
+    for word in more {
+        words.push(word.clone()?)?;
+    }
+    let told = shell.verify(old, new, words.as_slice())?;
+    let state = fs::read(shell.rt, new)?;
+    Ok(Ran { told, state })
+}
