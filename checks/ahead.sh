@@ -1,6 +1,7 @@
 #!/bin/bash
 # Times `tufcheck verify` by several numbers of workers: on a repository of 1,024 signatures, where a path is searched in
-# vain through 32 delegated roles that 32 keys sign each, and on the repository of examples/first.script.
+# vain through 32 delegated roles that 32 keys sign each, and on the repository of examples/first.script. Then it times
+# `tufcheck replay` by no worker of the first repository, once and several times over.
 #
 #   checks/ahead.sh [RUNS]      the runs of each, 11 unless given
 #
@@ -68,6 +69,22 @@ told() {
     done
 }
 
+# replayed FOLDER TIMES PATH: the milliseconds of each replay of the repository so many times over, sorted
+replayed() {
+    local from to
+    for _ in $(seq "$runs"); do
+        from=$(date +%s%N)
+        # shellcheck disable=SC2046 # so many words
+        "$program" replay --state "$1/state" --limit 33 --now 2026-01-01T00:00:00Z --workers 0 --out "$1/new" "$3" \
+            $(yes "$1" | head -n "$2") > "$1/lines"
+        to=$(date +%s%N)
+        echo $(((to - from) / 1000))
+        if ! tail -n "$(wc -l < "$1/due.lines")" "$1/lines" | cmp -s - "$1/due.lines" || ! cmp -s "$1/new" "$1/due.state"; then
+            echo "$1: other lines or another state after $2 cycles" >&2
+        fi
+    done | sort -n
+}
+
 # made FOLDER: the repository of the script FOLDER/script, and a state that trusts its first root
 made() {
     mkdir -p "$1/targets" && "$program" make "$1/script" "$1" && "$program" init "$1/metadata/1.root.json" --out "$1/state" > "$1/lines"
@@ -79,5 +96,10 @@ cp "$top/examples/first.script" "$work/first/script"
 made "$work/many" && made "$work/first" || exit 2
 told "1,024 signatures" "$work/many" nowhere 2> "$work/differs"
 told "first.script" "$work/first" abc.txt 2>> "$work/differs"
+for cycles in 1 2 4; do
+    mapfile -t times < <(replayed "$work/many" "$cycles" nowhere 2>> "$work/differs")
+    printf '1,024 signatures, %d cycles of replay: %.1f ms, at least %.1f ms\n' "$cycles" \
+        "${times[$((runs / 2))]}e-3" "${times[0]}e-3"
+done
 cat "$work/differs" >&2
 [ ! -s "$work/differs" ]

@@ -5,14 +5,15 @@
 #
 # A run that meets the refusal must print nothing, tell `tufcheck: memory` and end with status 4, or else print all that
 # it prints with ample memory, tell nothing and end with status 0 (a sort that is refused its buffer does without, and so
-# does a run with workers that is refused its plan). The sweep ends with the run that asks for memory fewer than N times. Swept are a run without a word, and `make`, `init`,
-# `verify` (by no worker and by two) and `--help` over examples/first.script. The script ends with status 1 at the first
-# run that does otherwise.
+# does a run with workers that is refused its plan). Where it stores a state, it must leave none or the whole one. The
+# sweep ends with the run that asks for memory fewer than N times. Swept are a run without a word, and `make`, `init`,
+# `verify` and `replay` of one repository twice (each by no worker and by two) and `--help` over examples/first.script.
+# The script ends with status 1 at the first run that does otherwise.
 #
 # `rt run` proves and builds the program, once. A small library, made with `cc`, stands before the C library's `malloc`
 # and `realloc` and refuses the Nth call. (`rt try --fail-alloc N` gives the same answers, and builds the program for
-# each N, which takes a minute or two.) Five sweeps, from before `verify` had workers, were some
-# 2,500 runs and took seven to twelve minutes; as it stands the script wasn't run yet.
+# each N, which takes a minute or two.) Five sweeps, from before `verify` had workers, were some 2,500 runs and took seven
+# to twelve minutes; as it stands the script wasn't run to its end yet.
 set -u
 first=${1:-1} last=${2:-100000} step=${3:-1}
 top=$(cd "$(dirname "$0")/.." && pwd) || exit 2
@@ -49,12 +50,13 @@ cc -shared -fPIC -O1 -o "$work/refuse.so" "$work/refuse.c" -ldl || exit 2
 (cd "$top/crates/tufcheck" && rt run) > "$work/built" 2>&1 || { tail -5 "$work/built"; exit 2; }
 cp "$top/crates/tufcheck/out/tufcheck" "$top/examples/first.script" "$work" && cd "$work" || exit 2
 
-# sweep NAME FILE WORD..: sweeps the run with those words, which prints that file with ample memory.
+# sweep NAME FILE STATE WORD..: sweeps the run with those words, which with ample memory prints that file and, where
+# it makes a file `new`, stores that state there.
 sweep() {
-    local name=$1 wanted=$2 whole=0 n status
-    shift 2
+    local name=$1 wanted=$2 state=$3 whole=0 n status
+    shift 3
     for ((n = first; n <= last; n += step)); do
-        rm -f met
+        rm -f met new
         REFUSED=$n LD_PRELOAD="$work/refuse.so" ./tufcheck "$@" > printed 2> told
         status=$?
         if [ $status = 0 ] && [ ! -s told ] && cmp -s printed "$wanted"; then
@@ -63,6 +65,10 @@ sweep() {
         elif [ $status != 4 ] || [ -s printed ] || [ "$(cat told)" != "tufcheck: memory" ]; then
             echo "$name: allocation $n: status $status"
             cat printed told
+            exit 1
+        fi
+        if [ -e new ] && ! cmp new "$state"; then
+            echo "$name: allocation $n: another state"
             exit 1
         fi
     done
@@ -76,11 +82,17 @@ printf 'root 1\n' > root
 ./tufcheck make first.script repo || exit 2
 ./tufcheck init repo/metadata/1.root.json --out old > /dev/null || exit 2
 
-sweep sample lines
-sweep make nothing make first.script again
-sweep init root init repo/metadata/1.root.json --out new
+replayed=(replay --state old --now 2026-01-01T00:00:00Z --out new abc.txt repo repo)
+verified=(verify --state old --metadata repo/metadata --targets repo/targets --now 2026-01-01T00:00:00Z --out new abc.txt)
+./tufcheck "${verified[@]}" > verified || exit 2
+mv new current
+sed 's/^root 1$/cycle 1\n&/' lines > cycles && sed 's/^root 1$/cycle 2\n&/' lines >> cycles
+
+sweep sample lines none
+sweep make nothing none make first.script again
+sweep init root old init repo/metadata/1.root.json --out new
 for workers in 0 2; do
-    sweep "verify by $workers workers" lines verify --state old --metadata repo/metadata --targets repo/targets \
-        --now 2026-01-01T00:00:00Z --workers $workers --out new abc.txt
+    sweep "verify by $workers workers" lines current "${verified[@]}" --workers $workers
+    sweep "replay by $workers workers" cycles current "${replayed[@]}" --workers $workers
 done
-sweep help help --help
+sweep help help none --help

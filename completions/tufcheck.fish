@@ -1,17 +1,19 @@
 # Completions of tufcheck for fish: put this file into ~/.config/fish/completions.
-set -l commands init verify make help
+set -l commands init verify replay make help
 complete -c tufcheck -f
 complete -c tufcheck -s h -l help -d 'Print help'
 complete -c tufcheck -n "not __fish_seen_subcommand_from $commands" -a init -d 'Trust a root file'
 complete -c tufcheck -n "not __fish_seen_subcommand_from $commands" -a verify -d 'Verify a repository'
+complete -c tufcheck -n "not __fish_seen_subcommand_from $commands" -a replay -d 'Verify repositories one after another'
 complete -c tufcheck -n "not __fish_seen_subcommand_from $commands" -a make -d 'Make a repository from a script'
 complete -c tufcheck -n "not __fish_seen_subcommand_from $commands" -a help -d 'Print help'
-complete -c tufcheck -n '__fish_seen_subcommand_from help' -a 'init verify make'
-complete -c tufcheck -n '__fish_seen_subcommand_from init make' -F
-complete -c tufcheck -n '__fish_seen_subcommand_from init verify' -l out -r -F -d 'Where the state is written'
-complete -c tufcheck -n '__fish_seen_subcommand_from verify' -l state -r -F -d 'The trusted state'
+complete -c tufcheck -n '__fish_seen_subcommand_from help' -a 'init verify replay make'
+complete -c tufcheck -n '__fish_seen_subcommand_from init make replay' -F
+complete -c tufcheck -n '__fish_seen_subcommand_from init verify replay' -l out -r -F -d 'Where the state is written'
+complete -c tufcheck -n '__fish_seen_subcommand_from verify replay' -l state -r -F -d 'The trusted state'
 complete -c tufcheck -n '__fish_seen_subcommand_from verify' -l metadata -x -a '(__fish_complete_directories)' -d 'The folder of metadata files'
 complete -c tufcheck -n '__fish_seen_subcommand_from verify' -l targets -x -a '(__fish_complete_directories)' -d 'The folder of target files'
-complete -c tufcheck -n '__fish_seen_subcommand_from verify' -l now -x -d 'The moment in place of the clock'
-complete -c tufcheck -n '__fish_seen_subcommand_from verify' -l limit -x -d 'How many roles a search visits at most'
-complete -c tufcheck -n '__fish_seen_subcommand_from verify' -l workers -x -d 'How many threads check ahead'
+complete -c tufcheck -n '__fish_seen_subcommand_from verify replay' -l now -x -d 'The moment in place of the clock'
+complete -c tufcheck -n '__fish_seen_subcommand_from verify replay' -l limit -x -d 'How many roles a search visits at most'
+complete -c tufcheck -n '__fish_seen_subcommand_from verify replay' -l workers -x -d 'How many threads check ahead'
+complete -c tufcheck -n '__fish_seen_subcommand_from replay' -l keep -x -d 'Of how many files verdicts are remembered'

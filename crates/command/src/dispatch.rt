@@ -2,21 +2,20 @@
 ghost use Rattle.std.specs.Prelude.{◌≡◌, ◌≤◌, ◌⊎◌, ◌↔◌, true, IfErr, IfOk};
 ghost use Rattle.report.specs.Failures.{is_callers};
 
-use crate::machine::Machine;
+use crate::disks::{replay_on_disk, verify_on_disk};
 use crate::making::make;
 use crate::sample;
-use crate::state::{init, read_file};
-use crate::update::{Folders, verify};
-use crate::words::{self, Task, Verify};
+use crate::words::{self, Task};
 use clap::ArgMatches;
 use clap::error::ErrorKind;
-use folder::{Depth, Disk};
 use report::{Failure, put, tell_failure};
 use std::alloc::Global;
 use std::io::Write;
 use std::rt::{Clock, Files};
 use std::sync::Wait;
 use std::thread::Threads;
+use system::Machine;
+use update::{init, read_file};
 
 /// Does what the words after the program's name ask for, or without a word verifies the sample
 /// repository, and answers the exit status: 0 where all wanted targets are good,
@@ -76,29 +75,8 @@ fn perform_task<R: Files + Clock + AllocGlobal + Clone + Drop, T: Threads + Wait
         }
         Some(Task::Make { script, folder }) => make_from(rt, alloc, script, folder),
         Some(Task::Verify(task)) => verify_on_disk(rt, threads, alloc, &task, out),
+        Some(Task::Replay(task)) => replay_on_disk(rt, threads, alloc, &task, out),
     }
-}
-
-/// Verifies the folders of the file system that the words name.
-fn verify_on_disk<
-    R: Files + Clock + AllocGlobal + Clone + Drop,
-    T: Threads + Wait + Sync,
-    W: Write,
->(rt: &R, threads: &T, alloc: Global, task: &Verify<'_>, out: &mut W) -> Result<u8, Failure>
-    ensures known { IfOk result (λ status. status ≤ 2) }
-{
-    let mut folders = Folders {
-        metadata: Disk::new(rt, task.metadata, Depth::Here),
-        targets: Disk::new(rt, task.targets, Depth::Below),
-    };
-    verify(
-        threads,
-        alloc,
-        &mut Machine::new(rt),
-        task,
-        &mut folders,
-        out,
-    )
 }
 
 /// The status, after a failure was told.

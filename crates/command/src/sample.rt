@@ -1,13 +1,13 @@
 //! A small repository, made in memory: one key for each role, and one target, `abc.txt`.
 ghost use Rattle.std.specs.Prelude.{◌≤◌, ℕ, List, IfOk, map, string_bytes};
-ghost use Rattle.command.specs.Told.{IsSampled};
+ghost use Rattle.command.specs.Sampled.{IsSampled};
 
-use crate::update::tell_outcome;
 use cycle::{Limits, Moment, Repo, Trusted, run_alone};
 use report::Failure;
 use std::alloc::Global;
 use std::collections::BTreeMap;
 use std::io::Write;
+use update::tell_outcome;
 
 /// The script that makes the repository.
 const SCRIPT: &str = "\

@@ -3,6 +3,7 @@
 use clap::builder::ValueParser;
 use clap::{Arg, ArgAction, ArgMatches, Command, Error};
 use std::alloc::{AllocError, Global};
+use update::Terms;
 
 const HELP_END: &str = "\
 EXAMPLES:
@@ -50,6 +51,25 @@ EXIT STATUS:
   3  the command line, the moment or the state file was refused
   4  a folder, the clock, the output or memory failed";
 
+const REPLAY_END: &str = "\
+Each DIR is a repository, with the folders `metadata` and `targets`. All are read first. Then each is
+verified in order, from the state of the one before and at one moment. It writes the last state, also
+where an update stopped, and then prints for each DIR, from 1,
+  cycle K
+and the lines of `verify`. What it remembers changes no line.
+
+EXAMPLES:
+  tufcheck replay --state state --out state abc.txt monday tuesday wednesday
+  tufcheck replay --state old --now 2026-01-01T00:00:00Z --keep 16 --out new -- -c mirror.1 mirror.2
+
+EXIT STATUS:
+  that of `verify` for the last DIR:
+  0  the wanted target is good
+  1  the wanted target was refused
+  2  the last update stopped
+  3  the command line, the moment or the state file was refused
+  4  a folder, the clock, the output or memory failed";
+
 const MAKE_END: &str = "\
 It writes `metadata/` and `targets/` below DIR and prints nothing. A refused script writes no file.
 
@@ -67,22 +87,25 @@ pub enum Task<'a> {
     Init { root: &'a str, out: &'a str },
     Make { script: &'a str, folder: &'a str },
     Verify(Verify<'a>),
+    Replay(Replay<'a>),
 }
 
 /// The words of `verify`.
 #[derive(Drop)]
 pub struct Verify<'a> {
-    pub state: &'a str,
+    pub terms: Terms<'a>,
     pub metadata: &'a str,
     pub targets: &'a str,
-    /// The text of `--now`.
-    pub moment: Option<&'a str>,
-    pub limit: usize,
-    /// How many threads check ahead, 0 to 64.
-    pub workers: usize,
-    pub out: &'a str,
-    /// The wanted paths, in order.
-    pub wanted: Vec<String>,
+}
+
+/// The words of `replay`.
+#[derive(Drop)]
+pub struct Replay<'a> {
+    pub terms: Terms<'a>,
+    /// Of how many files verdicts are remembered, 1 to 4,096.
+    pub keep: usize,
+    /// The folders of the repositories, in order.
+    pub folders: Vec<String>,
 }
 
 /// The matches of the words, or what `clap` says in place of them: a mistake, or help.
@@ -99,6 +122,7 @@ fn tufcheck<'a>(alloc: Global) -> Result<Command<'a>, AllocError> {
         .subcommand_required(true)
         .subcommand(init_command(alloc)?)?
         .subcommand(verify_command(alloc)?)?
+        .subcommand(replay_command(alloc)?)?
         .subcommand(make_command(alloc)?)
 }
 
@@ -127,11 +151,7 @@ fn verify_command<'a>(alloc: Global) -> Result<Command<'a>, AllocError> {
             "DIR",
             "The folder of target files, with those of the folders below it",
         ))?
-        .arg(
-            Arg::new(alloc, "now").long("now").value_name("TEXT").help(
-                "The moment, as YYYY-MM-DDTHH:MM:SSZ, in place of the clock's",
-            ),
-        )?
+        .arg(now_option(alloc))?
         .arg(limit_option(alloc))?
         .arg(workers_option(alloc))?
         .arg(option(alloc, "out", "STATE", "Where the new state is written"))?
@@ -140,6 +160,30 @@ fn verify_command<'a>(alloc: Global) -> Result<Command<'a>, AllocError> {
                 .action(ArgAction::Append)
                 .num_args(0..)
                 .help("The wanted targets"),
+        )
+}
+
+fn replay_command<'a>(alloc: Global) -> Result<Command<'a>, AllocError> {
+    Command::new(alloc, "replay")
+        .about("Verifies repositories one after another, as `verify` does")
+        .after_help(REPLAY_END)
+        .arg(option(alloc, "state", "STATE", "The trusted state"))?
+        .arg(now_option(alloc))?
+        .arg(limit_option(alloc))?
+        .arg(workers_option(alloc))?
+        .arg(keep_option(alloc))?
+        .arg(option(alloc, "out", "STATE", "Where the last state is written"))?
+        .arg(
+            Arg::new(alloc, "PATH")
+                .required(true)
+                .help("The wanted target"),
+        )?
+        .arg(
+            Arg::new(alloc, "DIR")
+                .action(ArgAction::Append)
+                .required(true)
+                .num_args(1..)
+                .help("The repositories, in order"),
         )
 }
 
@@ -153,6 +197,12 @@ fn make_command<'a>(alloc: Global) -> Result<Command<'a>, AllocError> {
                 .required(true)
                 .help("The folder below which the files are written"),
         )
+}
+
+fn now_option<'a>(alloc: Global) -> Arg<'a> {
+    Arg::new(alloc, "now").long("now").value_name("TEXT").help(
+        "The moment, as YYYY-MM-DDTHH:MM:SSZ, in place of the clock's",
+    )
 }
 
 fn limit_option<'a>(alloc: Global) -> Arg<'a> {
@@ -171,6 +221,15 @@ fn workers_option<'a>(alloc: Global) -> Arg<'a> {
         .value_parser(ValueParser::unsigned(0, 64))
         .default_value("4")
         .help("How many threads check signatures and digests ahead, 0 to 64")
+}
+
+fn keep_option<'a>(alloc: Global) -> Arg<'a> {
+    Arg::new(alloc, "keep")
+        .long("keep")
+        .value_name("N")
+        .value_parser(ValueParser::unsigned(1, 4096))
+        .default_value("64")
+        .help("Of how many files verdicts are remembered from one to the next, 1 to 4096")
 }
 
 fn option<'a>(alloc: Global, name: &'a str, value: &'a str, help: &'a str) -> Arg<'a> {
@@ -192,7 +251,8 @@ pub fn task_of<'a>(
     match name {
         "init" => Ok(init_task(inner)),
         "make" => Ok(make_task(inner)),
-        _ => Ok(verify_task(inner, wanted(alloc, inner)?)),
+        "replay" => replay_task(alloc, inner),
+        _ => verify_task(alloc, inner),
     }
 }
 
@@ -210,26 +270,62 @@ fn make_task<'a>(matches: &ArgMatches<'a>) -> Option<Task<'a>> {
     })
 }
 
-fn verify_task<'a>(matches: &ArgMatches<'a>, wanted: Vec<String>) -> Option<Task<'a>> {
+fn verify_task<'a>(
+    alloc: Global,
+    matches: &ArgMatches<'a>,
+) -> Result<Option<Task<'a>>, AllocError> {
+    let wanted = all_of(alloc, matches, "PATH")?;
+    Ok(verify_words(matches, wanted))
+}
+
+fn verify_words<'a>(matches: &ArgMatches<'a>, wanted: Vec<String>) -> Option<Task<'a>> {
     Some(Task::Verify(Verify {
-        state: matches.get_str("state")?,
+        terms: terms(matches, wanted)?,
         metadata: matches.get_str("metadata")?,
         targets: matches.get_str("targets")?,
+    }))
+}
+
+fn replay_task<'a>(
+    alloc: Global,
+    matches: &ArgMatches<'a>,
+) -> Result<Option<Task<'a>>, AllocError> {
+    let wanted = all_of(alloc, matches, "PATH")?;
+    let folders = all_of(alloc, matches, "DIR")?;
+    Ok(replay_words(matches, wanted, folders))
+}
+
+fn replay_words<'a>(
+    matches: &ArgMatches<'a>,
+    wanted: Vec<String>,
+    folders: Vec<String>,
+) -> Option<Task<'a>> {
+    Some(Task::Replay(Replay {
+        terms: terms(matches, wanted)?,
+        keep: matches.get_one::<usize>("keep")?,
+        folders,
+    }))
+}
+
+/// What both `verify` and `replay` name.
+fn terms<'a>(matches: &ArgMatches<'a>, wanted: Vec<String>) -> Option<Terms<'a>> {
+    Some(Terms {
+        state: matches.get_str("state")?,
         moment: matches.get_str("now"),
         limit: matches.get_one::<usize>("limit")?,
         workers: matches.get_one::<usize>("workers")?,
         out: matches.get_str("out")?,
         wanted,
-    }))
+    })
 }
 
-/// The wanted paths of `verify`, in order.
-fn wanted(alloc: Global, matches: &ArgMatches<'_>) -> Result<Vec<String>, AllocError> {
-    let mut paths = Vec::new(alloc);
-    if let Some(words) = matches.get_strs("PATH") {
+/// All words of that name, in order.
+fn all_of(alloc: Global, matches: &ArgMatches<'_>, name: &str) -> Result<Vec<String>, AllocError> {
+    let mut all = Vec::new(alloc);
+    if let Some(words) = matches.get_strs(name) {
         for word in words {
-            paths.push(String::from_str(alloc, word)?)?;
+            all.push(String::from_str(alloc, word)?)?;
         }
     }
-    Ok(paths)
+    Ok(all)
 }

@@ -1,5 +1,6 @@
 -- The lines that a run prints.
 use Rattle.std.specs.Prelude.{ℕ, List, [], ◌∷◌, ◌++◌, flat_map, zip, codes, decimal}
+use Rattle.std.specs.List.{enumerate_from}
 use Rattle.meta.specs.declared.fault.Fault.{Fault}
 use Rattle.meta.specs.declared.fault.Fault.TheVariants.{NotListed, Missing, TooLong, LengthWrong, HashWrong, NoKnownHash, Malformed, Unsigned, VersionWrong, Rollback, Expired, SuccinctRoles}
 use Rattle.rolechain.specs.declared.end.Step.{Step}
@@ -75,3 +76,11 @@ abbrev pub outcome_text : Outcome → List (List ℕ) → List ℕ
 outcome_text o wanted =
     root_text o.trusted.root.reading.header.version
     ++ (end_text o.end ++ (flat_map role_text o.accepted ++ verdict_texts wanted o.verdicts))
+
+-- `cycle K`, and then the outcome's lines
+abbrev pub cycle_text : List (List ℕ) → ℕ × Outcome → List ℕ
+cycle_text wanted (number, o) = line (codes "cycle" ∷ decimal number ∷ []) ++ outcome_text o wanted
+
+-- one cycle after another, numbered from 1
+abbrev pub cycles_text : List (List ℕ) → List Outcome → List ℕ
+cycles_text wanted os = flat_map (cycle_text wanted) (enumerate_from 1 os)

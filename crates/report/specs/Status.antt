@@ -1,6 +1,7 @@
 -- The exit status of a whole run.
-use Rattle.std.specs.Prelude.{ℕ, Bool, true, false}
-use Rattle.std.specs.List.{list_all}
+use Rattle.std.specs.Prelude.{ℕ, ◌-◌, Bool, true, false, List, length}
+use Rattle.std.specs.List.{list_all, slice_get}
+use Rattle.std.specs.Option.{option_map_or}
 use Rattle.rolechain.specs.declared.end.End.{End}
 use Rattle.rolechain.specs.declared.end.End.TheVariants.{Ready, Stopped}
 use Rattle.cycle.specs.Workflow.{Outcome}
@@ -20,3 +21,7 @@ status_of (Stopped step fault) all_good = 2
 
 abbrev pub outcome_status : Outcome → ℕ
 outcome_status o = status_of o.end (list_all is_good o.verdicts)
+
+-- the status of the last of the outcomes, and 0 where there is none
+abbrev pub last_status : List Outcome → ℕ
+last_status os = option_map_or outcome_status (slice_get os (length os - 1)) 0

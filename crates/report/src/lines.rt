@@ -27,13 +27,15 @@ pub fn tell<W: Write>(
     ensures known { IfOk result (λ status. status ≤ 2) }
     ensures refused { IfErr result (λ f. (f ≡ Failure.Memory) ⊎ (f ≡ Failure.Output)) }
 {
-    let text = text_of(alloc, outcome, wanted)?;
+    let mut text = String::new(alloc);
+    push_outcome(alloc, &mut text, outcome, wanted)?;
     put(out, text.as_str())?;
     Ok(status_of(outcome.end(), outcome.verdicts()))
 }
 
+/// The status of an outcome that ends so, with these verdicts.
 #[tactic(auto, using(crate::proofs::Statuses::all_good))]
-fn status_of(end: End, verdicts: &[Verdict]) -> u8
+pub(crate) fn status_of(end: End, verdicts: &[Verdict]) -> u8
     ensures status { result ≡ status_of end (list_all is_good verdicts.now) }
     ensures known { result ≤ 2 }
 {
@@ -58,16 +60,20 @@ fn accepts(verdict: &Verdict) -> bool
     matches!(verdict, Verdict::Good { .. })
 }
 
-/// All lines of an outcome: the root, the end, the accepted roles, and each wanted path in order.
-fn text_of(alloc: Global, outcome: &Outcome, wanted: &[String]) -> Result<String, AllocError>
-    ensures lines { IfOk result (λ text. string_bytes text
-        ≡ spec.outcome_text outcome.now (map string_bytes wanted.now)) }
+/// Adds all lines of an outcome: the root, the end, the accepted roles, and each wanted path in order.
+pub(crate) fn push_outcome(
+    alloc: Global,
+    text: &mut String,
+    outcome: &Outcome,
+    wanted: &[String],
+) -> Result<(), AllocError>
+    ensures lines { OnOk result (string_bytes text.new ≡ string_bytes text.old
+        ++ spec.outcome_text outcome.now (map string_bytes wanted.now)) }
 {
-    let mut text = root_line(alloc, outcome.trusted().root_version())?;
-    push_end(&mut text, outcome.end())?;
-    push_roles(alloc, &mut text, outcome.accepted())?;
-    push_verdicts(alloc, &mut text, wanted, outcome.verdicts())?;
-    Ok(text)
+    text.push_str(root_line(alloc, outcome.trusted().root_version())?.as_str())?;
+    push_end(text, outcome.end())?;
+    push_roles(alloc, text, outcome.accepted())?;
+    push_verdicts(alloc, text, wanted, outcome.verdicts())
 }
 
 /// The line `root N`.

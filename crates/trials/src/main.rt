@@ -8,13 +8,13 @@
 #![tactic(auto)]
 
 mod change;
+mod clocks;
 mod files;
 mod narrow;
 mod rights;
 mod script;
 mod session;
 mod shell;
-mod system;
 mod workers;
 
 use sessions::run_all;

@@ -1,11 +1,11 @@
 //! The commands of a session.
 
 use crate::change::change;
+use crate::clocks::{clock, failing};
 use crate::files::{digests, keeps, state};
 use crate::narrow::{with_narrow_error, with_narrow_output};
 use crate::rights::{allow, link};
 use crate::shell::Shell;
-use crate::system::{clock, failing};
 use crate::workers::by;
 use anyhow::{Result, bail};
 use sessions::{Step, Told};

@@ -1,4 +1,4 @@
-use Rattle.command.proofs.Told.{sampled}
+use Rattle.command.proofs.Sampled.{sampled}
 use Rattle.command.proofs.sample.verify.Goals as goal
 
 pub returns-clause-sampled : goal.returns-clause-sampled

@@ -1,0 +1,20 @@
+-- What is told of an outcome that the workflow gives.
+use Rattle.std.proofs.Common.{◌≡◌, Result, Ok, Err, IfOk, List, ℕ, Option, subst}
+use Rattle.examine.specs.Checks.{Files}
+use Rattle.cycle.specs.Workflow.{Outcome, workflow}
+use Rattle.update.specs.Told.{IsTold, Start, outcome_of}
+use Rattle.command.specs.Sampled.{IsSampled}
+
+-- the lines and the status of an outcome that the workflow gives
+pub sampled : {E : Type 0} (start : Start) (metadata targets : Files) (o : Outcome) (wanted : List (List ℕ)) (old new : Option (List ℕ)) (r : Result ℕ E)
+    → o ≡ workflow metadata targets start.moment start.trusted start.wanted start.limit
+    → IfOk r (λ status. IsTold o wanted status old new)
+    → IfOk r (λ status. IsSampled wanted status old new)
+unfolding outcome_of
+sampled start metadata targets o wanted old new (Ok status) is told = record {
+  start = start;
+  metadata = metadata;
+  targets = targets;
+  told = subst (λ o. IsTold o wanted status old new) is told;
+}
+sampled start metadata targets o wanted old new (Err e) is told = tt

@@ -1,0 +1,68 @@
+//! The lines of one cycle after another.
+ghost use Rattle.std.specs.Prelude.{◌≡◌, ◌≤◌, ◌⊎◌, ℕ, ◌++◌, IfErr, IfOk, OnOk, map, string_bytes};
+ghost use Rattle.std.specs.Io.KnownBytes.{Appends};
+ghost use Rattle.report.specs.Lines.{cycle_text, cycles_text};
+ghost use Rattle.report.specs.Status as spec;
+
+use crate::failure::Failure;
+use crate::lines::{push_outcome, put, status_of};
+use cycle::Outcome;
+use std::alloc::{AllocError, Global};
+use std::io::Write;
+
+/// Prints for each outcome, in order, the line `cycle K`, counted from 1, and then its lines, as [`tell`](crate::tell)
+/// does. It answers the status of the last one, and 0 where there is none.
+pub fn tell_cycles<W: Write>(
+    alloc: Global,
+    outcomes: &[Outcome],
+    wanted: &[String],
+    out: &mut W,
+) -> Result<u8, Failure>
+    ensures written { OnOk result (Appends (W.contents out.old) (W.contents out.new)
+        (cycles_text (map string_bytes wanted.now) outcomes.now)) }
+    ensures status { IfOk result (λ status. status ≡ spec.last_status outcomes.now) }
+    ensures known { IfOk result (λ status. status ≤ 2) }
+    ensures refused { IfErr result (λ f. (f ≡ Failure.Memory) ⊎ (f ≡ Failure.Output)) }
+{
+    let text = text_of(alloc, outcomes, wanted)?;
+    put(out, text.as_str())?;
+    Ok(last_status(outcomes))
+}
+
+/// The status of the last outcome.
+fn last_status(outcomes: &[Outcome]) -> u8
+    ensures status { result ≡ spec.last_status outcomes.now }
+    ensures known { result ≤ 2 }
+{
+    match outcomes.last() {
+        Some(outcome) => status_of(outcome.end(), outcome.verdicts()),
+        None => 0,
+    }
+}
+
+/// All lines of the cycles.
+fn text_of(alloc: Global, outcomes: &[Outcome], wanted: &[String]) -> Result<String, AllocError>
+    ensures lines { IfOk result (λ text. string_bytes text
+        ≡ cycles_text (map string_bytes wanted.now) outcomes.now) }
+{
+    let mut text = String::new(alloc);
+    for (place, outcome) in outcomes.iter().enumerate() {
+        push_cycle(alloc, &mut text, place + 1, outcome, wanted)?;
+    }
+    Ok(text)
+}
+
+/// Adds the line `cycle K` and the outcome's lines.
+fn push_cycle(
+    alloc: Global,
+    text: &mut String,
+    number: usize,
+    outcome: &Outcome,
+    wanted: &[String],
+) -> Result<(), AllocError>
+    ensures lines { OnOk result (string_bytes text.new ≡ string_bytes text.old
+        ++ cycle_text (map string_bytes wanted.now) (number, outcome.now)) }
+{
+    writeln!(text, "cycle {number}")?;
+    push_outcome(alloc, text, outcome, wanted)
+}

@@ -1,0 +1,53 @@
+//! The system that a process runs on.
+ghost use Rattle.std.specs.Prelude.{◌≡◌, true};
+
+use crate::calls::System;
+use crate::files::store;
+use std::rt::{Clock, Files};
+use std::time::SystemTime;
+use std::{fs, io};
+
+/// The files and the clock of the operating system. Any bytes may be read and any time shown, since others write and
+/// set them too.
+#[derive(Clone, Copy, Drop)]
+pub struct Machine<'a, R> {
+    rt: &'a R,
+}
+
+impl<'a, R> Machine<'a, R> {
+    /// The system of this runtime.
+    pub fn new(rt: &'a R) -> Machine<'a, R> {
+        Machine { rt }
+    }
+}
+
+impl<'a, R: Files + Clock + AllocGlobal> System for Machine<'a, R> {
+    ghost gives = { λ _ _ _. true };
+
+    ghost keeps = { λ _ _ _. true };
+
+    ghost shows = { λ _ _. true };
+
+    fn read(&self, path: &str) -> io::Result<Vec<u8>> {
+        fs::read(self.rt, path)
+    }
+
+    fn store(&mut self, path: &str, bytes: &[u8]) -> io::Result<()> {
+        store(self.rt, path, bytes)
+    }
+
+    fn seconds(&self) -> Option<u64> {
+        whole_seconds(self.rt)
+    }
+}
+
+/// The whole seconds that the clock shows since 1970-01-01T00:00:00Z, or None where it can't be read or is before that.
+pub fn whole_seconds<R: Clock>(rt: &R) -> Option<u64> {
+    let Ok(time) = SystemTime::now(rt) else {
+        return None;
+    };
+    match time.duration_since(SystemTime::UNIX_EPOCH) {
+        Ok(since) => Some(since.as_secs()),
+        Err(_) => None,
+    }
+}

@@ -1,0 +1,116 @@
+-- What a verification did, out of what its steps did.
+use Rattle.std.proofs.Common.{◌≡◌, ◌≢◌, ◌⊎◌, inl, inr, Result, Ok, Err, IfErr, IfOk, OnErr, OnOk, List, ℕ, Bool, true, false, Option, ap, subst, sym, ◌∙◌, true≢false}
+use Rattle.std.specs.Bool.{⊤}
+use Rattle.std.specs.Io.KnownBytes.{Appends}
+use Rattle.examine.specs.Expecting.{file_in}
+use Rattle.meta.specs.declared.repo.Repo.{Repo}
+use Rattle.cycle.specs.Workflow.{Outcome}
+use Rattle.report.specs.Lines.{cycles_text, outcome_text}
+use Rattle.report.specs.Status.{last_status, outcome_status}
+use Rattle.report.specs.declared.failure.Failure.{Failure}
+use Rattle.report.specs.declared.failure.Failure.TheVariants as failure
+use Rattle.moment.specs.Moment.{Moment}
+use Rattle.rolechain.specs.State.{State}
+use Rattle.update.specs.Moments.{IsMomentOf}
+use Rattle.update.specs.Replayed.{AreTold, IsReplayed, outcomes_of, state_after}
+use Rattle.update.specs.Told.{Begins, IsRead, IsStored, IsTold, Loaded, Start, outcome_of, state_text}
+
+abbrev is_folder : Failure → Bool
+is_folder failure.Folder = true
+is_folder _ = false
+
+-- want of memory and a refused output are no failed folder
+pub no_folder : {A : Type 0} (r : Result A Failure) → IfErr r (λ f. (f ≡ failure.Memory) ⊎ (f ≡ failure.Output)) → IfErr r (λ f. f ≢ failure.Folder)
+no_folder (Ok x) h = tt
+no_folder (Err e) (inl is) = λ folder. true≢false (sym (ap is_folder folder) ∙ ap is_folder is)
+no_folder (Err e) (inr is) = λ folder. true≢false (sym (ap is_folder folder) ∙ ap is_folder is)
+
+-- the lines and the status of an answer
+pub told : {E : Type 0} (o : Outcome) (wanted : List (List ℕ)) (old new : Option (List ℕ)) (r : Result ℕ E)
+    → OnOk r (Appends old new (outcome_text o wanted)) → IfOk r (λ status. status ≡ outcome_status o)
+    → IfOk r (λ status. IsTold o wanted status old new)
+told o wanted old new (Ok status) lines answered = record { lines = lines; answered = answered }
+told o wanted old new (Err e) lines answered = tt
+
+-- the lines and the last status of an answer
+pub told_all : {E : Type 0} (os : List Outcome) (wanted : List (List ℕ)) (old new : Option (List ℕ)) (r : Result ℕ E)
+    → OnOk r (Appends old new (cycles_text wanted os)) → IfOk r (λ status. status ≡ last_status os)
+    → IfOk r (λ status. AreTold os wanted status old new)
+told_all os wanted old new (Ok status) lines answered = record { lines = lines; answered = answered }
+told_all os wanted old new (Err e) lines answered = tt
+
+-- what follows from a state and a moment that were read
+pub begun : {E : Type 0} (gives : List ℕ → Bool) (shows : ℕ → Bool) (text : Option (List ℕ)) (follows : ℕ → State → Moment → Type 0)
+    (trusted : State) (moment : Moment) (r : Result ℕ E)
+    → IsRead gives trusted → IsMomentOf shows text moment → IfOk r (λ status. follows status trusted moment)
+    → IfOk r (λ status. Begins gives shows text (follows status))
+begun gives shows text follows trusted moment (Ok status) read shown then = record { trusted = trusted; moment = moment; read = read; of_moment = shown; then = then }
+begun gives shows text follows trusted moment (Err e) read shown then = tt
+
+-- the start and the place by other names
+pub renamed : {E : Type 0} (of_metadata of_targets : Loaded → Type 0) (keeps : List ℕ → List ℕ → Bool) (s t : Start) (place other : List ℕ) (old new : Option (List ℕ)) (r : Result ℕ E)
+    → s ≡ t → place ≡ other
+    → IfOk r (λ status. IsStored of_metadata of_targets s (keeps place) (λ o. IsTold o s.wanted status old new))
+    → IfOk r (λ status. IsStored of_metadata of_targets t (keeps other) (λ o. IsTold o t.wanted status old new))
+renamed of_metadata of_targets keeps s t place other old new r same at h =
+    subst (λ q. IfOk r (λ status. IsStored of_metadata of_targets t (keeps q) (λ o. IsTold o t.wanted status old new))) at
+    (subst (λ u. IfOk r (λ status. IsStored of_metadata of_targets u (keeps place) (λ o. IsTold o u.wanted status old new))) same h)
+
+-- what holds anyway holds after an answer, and after a failure
+pub after_answer : {A E : Type 0} {P : Type 0} (r : Result A E) → P → OnOk r P
+after_answer (Ok x) p = p
+after_answer (Err e) p = tt
+
+pub after_failure : {A E : Type 0} {P : Type 0} (r : Result A E) → P → OnErr r P
+after_failure (Ok x) p = tt
+after_failure (Err e) p = p
+
+module _ (of_metadata of_targets : Loaded → Type 0) (start : Start) (keeps : List ℕ → Bool) (metadata targets : Loaded) where
+  -- the new state of what was loaded is stored, and more holds of the outcome
+  pub stored : (P : Outcome → Type 0) → of_metadata metadata → of_targets targets
+      → keeps (state_text (outcome_of start (file_in metadata) (file_in targets)).trusted) ≡ true
+      → P (outcome_of start (file_in metadata) (file_in targets))
+      → IsStored of_metadata of_targets start keeps P
+  stored P m t kept then = record { metadata = metadata; targets = targets; in_metadata = m; in_targets = t; kept = kept; then = then }
+
+  pub stored_answer : {E : Type 0} (P : Outcome → ℕ → Type 0) (r : Result ℕ E) → of_metadata metadata → of_targets targets
+      → OnOk r (keeps (state_text (outcome_of start (file_in metadata) (file_in targets)).trusted) ≡ true)
+      → IfOk r (P (outcome_of start (file_in metadata) (file_in targets)))
+      → IfOk r (λ status. IsStored of_metadata of_targets start keeps (λ o. P o status))
+  stored_answer P (Ok status) m t kept then = stored _ m t kept then
+  stored_answer P (Err e) m t kept then = tt
+
+  pub stored_failure : {E : Type 0} (Q : Type 0) (r : Result ℕ E) → of_metadata metadata → of_targets targets
+      → OnErr r (Q ⊎ (keeps (state_text (outcome_of start (file_in metadata) (file_in targets)).trusted) ≡ true))
+      → OnErr r (Q ⊎ IsStored of_metadata of_targets start keeps (λ _. ⊤))
+  stored_failure Q (Ok status) m t h = tt
+  stored_failure Q (Err e) m t (inl same) = inl same
+  stored_failure Q (Err e) m t (inr kept) = inr (stored _ m t kept tt)
+
+module _ (loaded : List Repo → Type 0) (start : Start) (keeps : List ℕ → Bool) (repos : List Repo) where
+  -- the state after the cycles on what was loaded is stored, and more holds of the outcomes
+  pub replayed : (P : List Outcome → Type 0) → loaded repos → keeps (state_text (state_after start repos)) ≡ true → P (outcomes_of start repos)
+      → IsReplayed loaded start keeps P
+  replayed P l kept then = record { repos = repos; of_folders = l; kept = kept; then = then }
+
+  pub replayed_answer : {E : Type 0} (P : List Outcome → ℕ → Type 0) (r : Result ℕ E) → loaded repos
+      → OnOk r (keeps (state_text (state_after start repos)) ≡ true) → IfOk r (P (outcomes_of start repos))
+      → IfOk r (λ status. IsReplayed loaded start keeps (λ os. P os status))
+  replayed_answer P (Ok status) l kept then = replayed _ l kept then
+  replayed_answer P (Err e) l kept then = tt
+
+  pub replayed_failure : {E : Type 0} (Q : Type 0) (r : Result ℕ E) → loaded repos
+      → OnErr r (Q ⊎ (keeps (state_text (state_after start repos)) ≡ true))
+      → OnErr r (Q ⊎ IsReplayed loaded start keeps (λ _. ⊤))
+  replayed_failure Q (Ok status) l h = tt
+  replayed_failure Q (Err e) l (inl same) = inl same
+  replayed_failure Q (Err e) l (inr kept) = inr (replayed _ l kept tt)
+
+-- the start and the place of cycles by other names
+pub renamed_cycles : {E : Type 0} (loaded : List Repo → Type 0) (keeps : List ℕ → List ℕ → Bool) (s t : Start) (place other : List ℕ) (old new : Option (List ℕ)) (r : Result ℕ E)
+    → s ≡ t → place ≡ other
+    → IfOk r (λ status. IsReplayed loaded s (keeps place) (λ os. AreTold os s.wanted status old new))
+    → IfOk r (λ status. IsReplayed loaded t (keeps other) (λ os. AreTold os t.wanted status old new))
+renamed_cycles loaded keeps s t place other old new r same at h =
+    subst (λ q. IfOk r (λ status. IsReplayed loaded t (keeps q) (λ os. AreTold os t.wanted status old new))) at
+    (subst (λ u. IfOk r (λ status. IsReplayed loaded u (keeps place) (λ os. AreTold os u.wanted status old new))) same h)

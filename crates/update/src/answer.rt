@@ -1,0 +1,24 @@
+//! What is told of an outcome.
+ghost use Rattle.std.specs.Prelude.{◌≡◌, ◌≢◌, ◌≤◌, IfErr, IfOk, map, string_bytes};
+ghost use Rattle.update.specs.Told.{IsTold};
+
+use cycle::Outcome;
+use report::{Failure, tell};
+use std::alloc::Global;
+use std::io::Write;
+
+/// Prints the lines of the outcome, and answers its status.
+#[tactic(auto, using(crate::proofs::Told::told, crate::proofs::Told::no_folder))]
+pub fn tell_outcome<W: Write>(
+    alloc: Global,
+    outcome: &Outcome,
+    wanted: &[String],
+    out: &mut W,
+) -> Result<u8, Failure>
+    ensures known { IfOk result (λ status. status ≤ 2) }
+    ensures told { IfOk result (λ status. IsTold outcome.now (map string_bytes wanted.now) status
+        (W.contents out.old) (W.contents out.new)) }
+    ensures refused { IfErr result (λ f. f ≢ Failure.Folder) }
+{
+    tell(alloc, outcome, wanted, out)
+}

@@ -1,0 +1,256 @@
+//! One cycle after another, each on a repository that lies in two folders.
+ghost use Rattle.std.specs.Prelude.{◌≡◌, ◌≢◌, ◌≤◌, ◌⊎◌, ⊤, true, IfErr, IfOk, OnErr, OnOk, option_map, map, string_bytes};
+ghost use Rattle.folder.specs.Folders.{IsLoaded};
+ghost use Rattle.cycle.specs.Cycles.{outcomes_of as keeper_outcomes, state_after as keeper_state};
+ghost use Rattle.update.specs.Told.{Begins, state_text};
+ghost use Rattle.update.specs.Replayed.{AreLoaded, AreTold, IsReplayed, outcomes_of, state_after};
+ghost use Rattle.update.specs.Starting.{AreRounds, start_from, start_of};
+
+use crate::start::{Folders, Start, Terms, begin, limits_of, loaded};
+use crate::state::keep_state;
+use cycle::{Keeper, Limits, Moment, Open, Outcome, Repo, Round};
+use folder::Folder;
+use report::{Failure, tell_cycles};
+use std::alloc::{AllocError, Global};
+use std::io::Write;
+use std::sync::Wait;
+use std::thread::Threads;
+use system::System;
+
+/// Of how many files a keeper remembers verdicts at most.
+const KEPT: usize = 4096;
+
+/// What a replay begins with: what its first cycle begins with, and of how many files verdicts are remembered from
+/// cycle to cycle (1 to 4,096).
+#[derive(Drop)]
+pub struct Cycles<'a> {
+    pub start: Start<'a>,
+    pub keep: usize,
+}
+
+/// The outcomes of all cycles, and the keeper that has the state after the last one.
+#[derive(Drop)]
+struct Replayed {
+    outcomes: Vec<Outcome>,
+    keeper: Keeper,
+}
+
+/// Replays what the words name: the moment is read first, then the state file, and then the folders, as
+/// [`replay_from`] does.
+pub fn replay<R: Threads + Wait + Sync, S: System, M: Folder + Drop, T: Folder + Drop, W: Write>(
+    rt: &R,
+    alloc: Global,
+    system: &mut S,
+    terms: &Terms<'_>,
+    keep: usize,
+    folders: Vec<Folders<M, T>>,
+    out: &mut W,
+) -> Result<u8, Failure>
+    ensures known { IfOk result (λ status. status ≤ 2) }
+    ensures replayed { IfOk result (λ status. Begins (S.gives system.old terms.now.state.now)
+        (S.shows system.old) (option_map (λ t. t.now) terms.now.moment) (λ trusted moment. IsReplayed
+        (AreLoaded (λ f. IsLoaded (M.lists f.metadata) (M.holds f.metadata))
+        (λ f. IsLoaded (T.lists f.targets) (T.holds f.targets)) folders.items)
+        (start_from terms.now trusted moment) (S.keeps system.new terms.now.out.now)
+        (λ os. AreTold os (map string_bytes terms.now.wanted.items) status (W.contents out.old)
+        (W.contents out.new)))) }
+{
+    let start = begin(alloc, system, terms)?;
+    replay_from(rt, alloc, system, &Cycles { start, keep }, folders, out)
+}
+
+/// Verifies what each pair of folders holds, in order, each time from the state of the cycle before; stores the last
+/// state, prints for each cycle the line `cycle K`, counted from 1, and its lines, and answers the status of the last
+/// one, or 0 where there is none. All is that of the workflow on the files that the folders gave; what is remembered from
+/// cycle to cycle bears on none of it.
+///
+/// All folders are read before the first cycle. Where one fails, nothing is stored and nothing printed; and no line is
+/// printed before the state is stored. After any failure either nothing is printed and what was stored before is as it
+/// was, or the last state is stored whole. It waits for the threads that check ahead.
+pub fn replay_from<
+    R: Threads + Wait + Sync,
+    S: System,
+    M: Folder + Drop,
+    T: Folder + Drop,
+    W: Write,
+>(
+    rt: &R,
+    alloc: Global,
+    system: &mut S,
+    cycles: &Cycles<'_>,
+    folders: Vec<Folders<M, T>>,
+    out: &mut W,
+) -> Result<u8, Failure>
+    ensures known { IfOk result (λ status. status ≤ 2) }
+    ensures replayed { IfOk result (λ status. IsReplayed
+        (AreLoaded (λ f. IsLoaded (M.lists f.metadata) (M.holds f.metadata))
+        (λ f. IsLoaded (T.lists f.targets) (T.holds f.targets)) folders.items)
+        (start_of cycles.now.start) (S.keeps system.new cycles.now.start.state.now)
+        (λ os. AreTold os (map string_bytes cycles.now.start.wanted.now) status (W.contents out.old)
+        (W.contents out.new))) }
+    ensures order { OnErr result (((S.keeps system.new ≡ S.keeps system.old)
+        × (W.contents out.new ≡ W.contents out.old)) ⊎ IsReplayed
+        (AreLoaded (λ f. IsLoaded (M.lists f.metadata) (M.holds f.metadata))
+        (λ f. IsLoaded (T.lists f.targets) (T.holds f.targets)) folders.items)
+        (start_of cycles.now.start) (S.keeps system.new cycles.now.start.state.now) (λ _. ⊤)) }
+    ensures folders { IfErr result (λ f. f ≡ Failure.Folder
+        → (S.keeps system.new ≡ S.keeps system.old) × (W.contents out.new ≡ W.contents out.old)) }
+{
+    let repos = all_loaded(alloc, folders)?;
+    replay_in(rt, alloc, system, cycles, repos.as_slice(), out)
+}
+
+/// Does a cycle on each repository, stores the last state, and then prints the lines.
+fn replay_in<R: Threads + Wait + Sync, S: System, W: Write>(
+    rt: &R,
+    alloc: Global,
+    system: &mut S,
+    cycles: &Cycles<'_>,
+    repos: &[Repo],
+    out: &mut W,
+) -> Result<u8, Failure>
+    ensures known { IfOk result (λ status. status ≤ 2) }
+    ensures told { IfOk result (λ status. AreTold
+        (outcomes_of (start_of cycles.now.start) repos.now)
+        (map string_bytes cycles.now.start.wanted.now) status (W.contents out.old) (W.contents out.new)) }
+    ensures kept { OnOk result (S.keeps system.new cycles.now.start.state.now
+        (state_text (state_after (start_of cycles.now.start) repos.now)) ≡ true) }
+    ensures order { OnErr result (((S.keeps system.new ≡ S.keeps system.old)
+        × (W.contents out.new ≡ W.contents out.old))
+        ⊎ (S.keeps system.new cycles.now.start.state.now
+        (state_text (state_after (start_of cycles.now.start) repos.now)) ≡ true)) }
+    ensures refused { IfErr result (λ f. f ≢ Failure.Folder) }
+{
+    let done = run_cycles(rt, alloc, cycles, repos)?;
+    keep_last(alloc, system, cycles.start.state, &done)?;
+    tell_all(alloc, done.outcomes.as_slice(), cycles.start.wanted, out)
+}
+
+/// Stores the state after the last cycle. After a refusal its place holds what it held.
+fn keep_last<S: System>(
+    alloc: Global,
+    system: &mut S,
+    path: &str,
+    done: &Replayed,
+) -> Result<(), Failure>
+    ensures kept { OnOk result (S.keeps system.new path.now (state_text done.now.keeper) ≡ true) }
+    ensures unchanged { OnErr result (S.keeps system.new ≡ S.keeps system.old) }
+    ensures refused { IfErr result (λ f. f ≢ Failure.Folder) }
+{
+    keep_state(alloc, system, path, done.keeper.trusted())
+}
+
+/// Prints the lines of the cycles, and answers the status of the last one.
+#[tactic(auto, using(crate::proofs::Told::told_all, crate::proofs::Told::no_folder))]
+fn tell_all<W: Write>(
+    alloc: Global,
+    outcomes: &[Outcome],
+    wanted: &[String],
+    out: &mut W,
+) -> Result<u8, Failure>
+    ensures known { IfOk result (λ status. status ≤ 2) }
+    ensures told { IfOk result (λ status. AreTold outcomes.now (map string_bytes wanted.now) status
+        (W.contents out.old) (W.contents out.new)) }
+    ensures refused { IfErr result (λ f. f ≢ Failure.Folder) }
+{
+    tell_cycles(alloc, outcomes, wanted, out)
+}
+
+/// The files of all folders, in order.
+fn all_loaded<M: Folder + Drop, T: Folder + Drop>(
+    alloc: Global,
+    folders: Vec<Folders<M, T>>,
+) -> Result<Vec<Repo>, Failure>
+    ensures loaded { IfOk result (λ repos. AreLoaded
+        (λ f. IsLoaded (M.lists f.metadata) (M.holds f.metadata))
+        (λ f. IsLoaded (T.lists f.targets) (T.holds f.targets)) folders.items repos.items) }
+{
+    let mut repos = Vec::new(alloc);
+    for mut pair in folders {
+        repos.push(loaded(alloc, &mut pair)?)?;
+    }
+    Ok(repos)
+}
+
+/// A round on each repository, with one moment and the same wanted paths.
+fn rounds_of<'a>(
+    alloc: Global,
+    repos: &'a [Repo],
+    now: Moment,
+    wanted: &'a [String],
+) -> Result<Vec<Round<'a>>, AllocError>
+    ensures rounds { IfOk result (λ rounds. AreRounds now (map string_bytes wanted.now)
+        repos.now rounds.items) }
+{
+    let mut rounds = Vec::new(alloc);
+    for repo in repos {
+        rounds.extend_from_slice(&[Round { repo, now, wanted }])?;
+    }
+    Ok(rounds)
+}
+
+/// The outcomes of all cycles, and the keeper after the last one.
+fn run_cycles<R: Threads + Wait + Sync>(
+    rt: &R,
+    alloc: Global,
+    cycles: &Cycles<'_>,
+    repos: &[Repo],
+) -> Result<Replayed, Failure>
+    ensures outcomes { IfOk result (λ r. r.outcomes.items
+        ≡ outcomes_of (start_of cycles.now.start) repos.now) }
+    ensures state { IfOk result (λ r. r.keeper
+        ≡ state_after (start_of cycles.now.start) repos.now) }
+    ensures refused { IfErr result (λ f. (f ≡ Failure.Words) ⊎ (f ≡ Failure.Memory)) }
+{
+    let mut keeper = keeper_of(alloc, cycles)?;
+    let outcomes = outcomes(rt, alloc, &cycles.start, repos, &mut keeper)?;
+    Ok(Replayed { outcomes, keeper })
+}
+
+/// A keeper of the state that the cycles begin with. A number of remembered files that is none is a mistake of the
+/// caller.
+fn keeper_of(alloc: Global, cycles: &Cycles<'_>) -> Result<Keeper, Failure>
+    ensures state { IfOk result (λ k. k ≡ cycles.now.start.trusted) }
+    ensures refused { IfErr result (λ f. (f ≡ Failure.Words) ⊎ (f ≡ Failure.Memory)) }
+{
+    if cycles.keep == 0 || cycles.keep > KEPT {
+        return Err(Failure::Words);
+    }
+    let trusted = cycles.start.trusted.copy(alloc)?;
+    Ok(Keeper::new(alloc, trusted, cycles.keep)?)
+}
+
+/// The outcomes of all cycles of a keeper of the start's state, by the number of workers that the start names.
+fn outcomes<R: Threads + Wait + Sync>(
+    rt: &R,
+    alloc: Global,
+    start: &Start<'_>,
+    repos: &[Repo],
+    keeper: &mut Keeper,
+) -> Result<Vec<Outcome>, Failure>
+    requires state { keeper.old ≡ start.now.trusted }
+    ensures outcomes { IfOk result (λ all. all.items ≡ outcomes_of (start_of start.now) repos.now) }
+    ensures state { OnOk result (keeper.new ≡ state_after (start_of start.now) repos.now) }
+    ensures refused { IfErr result (λ f. (f ≡ Failure.Words) ⊎ (f ≡ Failure.Memory)) }
+{
+    let limits = limits_of(start)?;
+    let rounds = rounds_of(alloc, repos, start.moment, start.wanted)?;
+    all_of(rt, keeper, rounds.as_slice(), &limits, start.workers)
+}
+
+/// The outcomes of a keeper's rounds.
+fn all_of<R: Threads + Wait + Sync>(
+    rt: &R,
+    keeper: &mut Keeper,
+    rounds: &[Round<'_>],
+    limits: &Limits,
+    workers: usize,
+) -> Result<Vec<Outcome>, Failure>
+    requires workers { workers ≤ 64 }
+    ensures outcomes { IfOk result (λ all. all.items
+        ≡ keeper_outcomes limits.now.roles keeper.old rounds.now) }
+    ensures state { OnOk result (keeper.new ≡ keeper_state limits.now.roles keeper.old rounds.now) }
+    ensures refused { IfErr result (λ f. f ≡ Failure.Memory) }
+{
+    Ok(keeper.cycles(rt, rounds, limits, workers, &Open)?)
+}

@@ -1,0 +1,102 @@
+//! What a verification begins with.
+ghost use Rattle.std.specs.Prelude.{◌≡◌, ◌≤◌, ◌⊎◌, IfErr, IfOk, option_map, map, string_bytes};
+ghost use Rattle.folder.specs.Folders.{IsLoaded};
+ghost use Rattle.update.specs.Moments.{IsMomentOf};
+ghost use Rattle.update.specs.Told.{IsRead};
+ghost use Rattle.update.specs.Starting.{start_from, start_of};
+
+use crate::clock::moment;
+use crate::state::read_state;
+use cycle::{Limits, Moment, Repo, Trusted};
+use folder::{Folder, load};
+use report::Failure;
+use std::alloc::Global;
+use system::System;
+
+/// How many checks a plan has at most.
+const CHECKS: usize = 4096;
+
+/// How many workers a run has at most.
+const WORKERS: usize = 64;
+
+/// The folder of metadata files and the folder of target files.
+#[derive(Drop)]
+pub struct Folders<M, T> {
+    pub metadata: M,
+    pub targets: T,
+}
+
+/// What the words name: the path of the file with the trusted state, the text of the moment, how many roles a search
+/// visits at most (1 to 256), how many threads check ahead (0 to 64), the path of the file for the new state, and the
+/// wanted paths, in order.
+#[derive(Drop)]
+pub struct Terms<'a> {
+    pub state: &'a str,
+    pub moment: Option<&'a str>,
+    pub limit: usize,
+    pub workers: usize,
+    pub out: &'a str,
+    pub wanted: Vec<String>,
+}
+
+/// What a verification begins with: the trusted state, the moment, the wanted paths, how many roles a search visits at
+/// most (1 to 256), how many threads check ahead (0 to 64), and the path of the file for the new state.
+#[derive(Drop)]
+pub struct Start<'a> {
+    pub trusted: Trusted,
+    pub moment: Moment,
+    pub wanted: &'a [String],
+    pub limit: usize,
+    pub workers: usize,
+    pub state: &'a str,
+}
+
+/// What the words name, with the moment and the trusted state that are read.
+pub(crate) fn begin<'a, S: System>(
+    alloc: Global,
+    system: &S,
+    terms: &'a Terms<'_>,
+) -> Result<Start<'a>, Failure>
+    ensures read { IfOk result (λ s. IsRead (S.gives system.now terms.now.state.now) s.trusted) }
+    ensures moment { IfOk result (λ s. IsMomentOf (S.shows system.now)
+        (option_map (λ t. t.now) terms.now.moment) s.moment) }
+    ensures start { IfOk result (λ s. start_of s ≡ start_from terms.now s.trusted s.moment) }
+    ensures place { IfOk result (λ s. s.state.now ≡ terms.now.out.now) }
+{
+    let moment = moment(system, terms.moment)?;
+    Ok(Start {
+        trusted: read_state(alloc, system, terms.state)?,
+        moment,
+        wanted: terms.wanted.as_slice(),
+        limit: terms.limit,
+        workers: terms.workers,
+        state: terms.out,
+    })
+}
+
+/// The files of both folders.
+pub(crate) fn loaded<M: Folder, T: Folder>(
+    alloc: Global,
+    folders: &mut Folders<M, T>,
+) -> Result<Repo, Failure>
+    ensures metadata { IfOk result (λ repo. IsLoaded (M.lists folders.old.metadata)
+        (M.holds folders.old.metadata) repo.metadata) }
+    ensures targets { IfOk result (λ repo. IsLoaded (T.lists folders.old.targets)
+        (T.holds folders.old.targets) repo.targets) }
+{
+    let metadata = load(alloc, &mut folders.metadata)?;
+    let targets = load(alloc, &mut folders.targets)?;
+    Ok(Repo { metadata, targets })
+}
+
+/// The limits of a run. More than 64 workers are a mistake of the caller, and so is a limit that is none.
+pub(crate) fn limits_of(start: &Start<'_>) -> Result<Limits, Failure>
+    ensures roles { IfOk result (λ l. l.roles ≡ start.now.limit) }
+    ensures workers { IfOk result (λ _. start.now.workers ≤ 64) }
+    ensures refused { IfErr result (λ f. f ≡ Failure.Words) }
+{
+    if start.workers > WORKERS {
+        return Err(Failure::Words);
+    }
+    Limits::new(start.limit, CHECKS).ok_or(Failure::Words)
+}

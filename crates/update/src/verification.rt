@@ -1,0 +1,141 @@
+//! The verification of a repository that lies in two folders.
+ghost use Rattle.std.specs.Prelude.{◌≡◌, ◌≢◌, ◌≤◌, ◌⊎◌, ⊤, true, IfErr, IfOk, OnErr, OnOk, option_map, map, string_bytes};
+ghost use Rattle.folder.specs.Folders.{IsLoaded};
+ghost use Rattle.examine.specs.Expecting.{file_in};
+ghost use Rattle.update.specs.Told.{Begins, IsStored, IsTold, outcome_of, state_text};
+ghost use Rattle.update.specs.Starting.{start_from, start_of};
+
+use crate::answer::tell_outcome;
+use crate::start::{Folders, Start, Terms, begin, limits_of, loaded};
+use crate::state::keep_state;
+use cycle::{Open, Outcome, Repo, run};
+use folder::Folder;
+use report::Failure;
+use std::alloc::Global;
+use std::io::Write;
+use std::sync::Wait;
+use std::thread::Threads;
+use system::System;
+
+/// Verifies what the words name: the moment is read first, then the state file, and then the folders, as
+/// [`verify_from`] does.
+pub fn verify<R: Threads + Wait + Sync, S: System, M: Folder, T: Folder, W: Write>(
+    rt: &R,
+    alloc: Global,
+    system: &mut S,
+    terms: &Terms<'_>,
+    folders: &mut Folders<M, T>,
+    out: &mut W,
+) -> Result<u8, Failure>
+    ensures known { IfOk result (λ status. status ≤ 2) }
+    ensures verified { IfOk result (λ status. Begins (S.gives system.old terms.now.state.now)
+        (S.shows system.old) (option_map (λ t. t.now) terms.now.moment) (λ trusted moment. IsStored
+        (IsLoaded (M.lists folders.old.metadata) (M.holds folders.old.metadata))
+        (IsLoaded (T.lists folders.old.targets) (T.holds folders.old.targets))
+        (start_from terms.now trusted moment) (S.keeps system.new terms.now.out.now)
+        (λ o. IsTold o (map string_bytes terms.now.wanted.items) status (W.contents out.old)
+        (W.contents out.new)))) }
+{
+    let start = begin(alloc, system, terms)?;
+    verify_from(rt, alloc, system, &start, folders, out)
+}
+
+/// Verifies what the folders hold, stores the new state, prints the lines and answers the status: 2 where the update
+/// stopped, else 1 where some target isn't good, else 0. It is the status of the workflow on the files that the folders
+/// gave; a writer whose bytes are known was given its lines and nothing else, and the stored state is its new one.
+/// Where a folder fails, nothing is stored and nothing printed; and no line is printed before the state is stored. After
+/// any failure either nothing is printed and what was stored before is as it was, or the new state is stored whole. It
+/// waits for the threads that check ahead, and then stores the state.
+pub fn verify_from<R: Threads + Wait + Sync, S: System, M: Folder, T: Folder, W: Write>(
+    rt: &R,
+    alloc: Global,
+    system: &mut S,
+    start: &Start<'_>,
+    folders: &mut Folders<M, T>,
+    out: &mut W,
+) -> Result<u8, Failure>
+    ensures known { IfOk result (λ status. status ≤ 2) }
+    ensures verified { IfOk result (λ status. IsStored
+        (IsLoaded (M.lists folders.old.metadata) (M.holds folders.old.metadata))
+        (IsLoaded (T.lists folders.old.targets) (T.holds folders.old.targets))
+        (start_of start.now) (S.keeps system.new start.now.state.now)
+        (λ o. IsTold o (map string_bytes start.now.wanted.now) status (W.contents out.old)
+        (W.contents out.new))) }
+    ensures order { OnErr result (((S.keeps system.new ≡ S.keeps system.old)
+        × (W.contents out.new ≡ W.contents out.old)) ⊎ IsStored
+        (IsLoaded (M.lists folders.old.metadata) (M.holds folders.old.metadata))
+        (IsLoaded (T.lists folders.old.targets) (T.holds folders.old.targets))
+        (start_of start.now) (S.keeps system.new start.now.state.now) (λ _. ⊤)) }
+    ensures folders { IfErr result (λ f. f ≡ Failure.Folder
+        → (S.keeps system.new ≡ S.keeps system.old) × (W.contents out.new ≡ W.contents out.old)) }
+{
+    let repo = loaded(alloc, folders)?;
+    verify_in(rt, alloc, system, start, &repo, out)
+}
+
+/// Verifies the repository, stores the new state, and then prints the lines.
+fn verify_in<R: Threads + Wait + Sync, S: System, W: Write>(
+    rt: &R,
+    alloc: Global,
+    system: &mut S,
+    start: &Start<'_>,
+    repo: &Repo,
+    out: &mut W,
+) -> Result<u8, Failure>
+    ensures known { IfOk result (λ status. status ≤ 2) }
+    ensures told { IfOk result (λ status. IsTold
+        (outcome_of (start_of start.now) (file_in repo.now.metadata) (file_in repo.now.targets))
+        (map string_bytes start.now.wanted.now) status (W.contents out.old) (W.contents out.new)) }
+    ensures kept { OnOk result (S.keeps system.new start.now.state.now (state_text (outcome_of
+        (start_of start.now) (file_in repo.now.metadata) (file_in repo.now.targets)).trusted) ≡ true) }
+    ensures order { OnErr result (((S.keeps system.new ≡ S.keeps system.old)
+        × (W.contents out.new ≡ W.contents out.old))
+        ⊎ (S.keeps system.new start.now.state.now (state_text (outcome_of (start_of start.now)
+        (file_in repo.now.metadata) (file_in repo.now.targets)).trusted) ≡ true)) }
+    ensures refused { IfErr result (λ f. f ≢ Failure.Folder) }
+{
+    let outcome = outcome(rt, alloc, start, repo)?;
+    keep_outcome(alloc, system, start, &outcome)?;
+    tell_outcome(alloc, &outcome, start.wanted, out)
+}
+
+/// Stores the outcome's new state. After a refusal its place holds what it held.
+fn keep_outcome<S: System>(
+    alloc: Global,
+    system: &mut S,
+    start: &Start<'_>,
+    outcome: &Outcome,
+) -> Result<(), Failure>
+    ensures kept { OnOk result (S.keeps system.new start.now.state.now
+        (state_text outcome.now.trusted) ≡ true) }
+    ensures unchanged { OnErr result (S.keeps system.new ≡ S.keeps system.old) }
+    ensures refused { IfErr result (λ f. f ≢ Failure.Folder) }
+{
+    keep_state(alloc, system, start.state, outcome.trusted())
+}
+
+/// The workflow's outcome, by the number of workers that the start names.
+#[tactic(auto, unfolding(crate::specs::Told::outcome_of))]
+fn outcome<R: Threads + Wait + Sync>(
+    rt: &R,
+    alloc: Global,
+    start: &Start<'_>,
+    repo: &Repo,
+) -> Result<Outcome, Failure>
+    ensures workflow { IfOk result (λ o. o
+        ≡ outcome_of (start_of start.now) (file_in repo.now.metadata) (file_in repo.now.targets)) }
+    ensures refused { IfErr result (λ f. (f ≡ Failure.Words) ⊎ (f ≡ Failure.Memory)) }
+{
+    let limits = limits_of(start)?;
+    Ok(run(
+        rt,
+        alloc,
+        &start.trusted,
+        repo,
+        start.moment,
+        start.wanted,
+        &limits,
+        start.workers,
+        &Open,
+    )?)
+}
