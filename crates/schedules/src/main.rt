@@ -1,5 +1,5 @@
-//! Runs worked schedules of threads: boards that threads share, and cycles with workers, which gates
-//! hold up at chosen places. It prints a line for each file of them, with the commands that gave
+//! Runs worked schedules of threads: boards that threads share, cycles with workers, which gates hold
+//! up at chosen places, and keepers. It prints a line for each file of them, with the commands that gave
 //! something else than is written.
 //!
 //! It takes no word. It is run in a folder that holds the folder `cases` and nothing else. The
@@ -11,11 +11,13 @@ mod asked;
 mod boards;
 mod gates;
 mod given;
+mod keepers;
 mod plans;
 mod repositories;
 mod runs;
 mod session;
 mod stress;
+mod walks;
 
 use session::perform;
 use sessions::{Step, run_all};

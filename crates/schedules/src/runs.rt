@@ -13,7 +13,7 @@ use std::sync::Wait;
 use std::thread::Threads;
 
 /// When the repositories are verified.
-const MOMENT: &str = "2026-01-01T00:00:00Z";
+pub const MOMENT: &str = "2026-01-01T00:00:00Z";
 
 /// The most roles that a search visits.
 pub const ROLES: usize = 32;

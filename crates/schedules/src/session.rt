@@ -1,10 +1,12 @@
 //! The commands of a case.
 
 use crate::boards;
+use crate::keepers::{cycles, kept};
 use crate::plans::plan;
 use crate::repositories::make;
 use crate::runs::{agrees, alone, counts, entered, lines};
 use crate::stress::stress;
+use crate::walks::walk;
 use anyhow::{Context, Result};
 use sessions::{Step, Told};
 use std::alloc::Global;
@@ -28,6 +30,9 @@ pub fn perform<F: Files + AllocGlobal + Clone + Drop, T: Threads + Wait + Sync>(
         "counts" => counts(files, threads, alloc, step),
         "entered" => entered(files, threads, alloc, step),
         "agrees" => agrees(files, threads, alloc, step),
+        "cycles" => cycles(files, threads, alloc, step),
+        "kept" => kept(files, threads, alloc, step),
+        "walk" => walk(files, threads, alloc, step),
         "stress" => stress(files, threads, alloc, step),
         _ => share(threads, alloc, step),
     }

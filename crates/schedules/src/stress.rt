@@ -47,7 +47,7 @@ fn differing<R: Threads + Wait + Sync>(
 }
 
 /// Up to 8 workers with a plan of any length, and a gate that none of them can wait at for long.
-fn drawn(seed: u64) -> Asked {
+pub fn drawn(seed: u64) -> Asked {
     let draw = mixed(seed);
     Asked {
         workers: (draw % 9) as usize,

@@ -1,0 +1,137 @@
+//! Cycles of a keeper, each from the state that the one before led to.
+ghost use Rattle.std.specs.Prelude.{◌≤◌, IfSome};
+
+use crate::asked::{Asked, paths_behind};
+use crate::gates::Schedule;
+use crate::repositories::{Made, read};
+use crate::runs::{MOMENT, ROLES};
+use anyhow::{Context, Result};
+use cycle::{Keeper, Limits, Moment, Outcome, Round, Stats};
+use report::tell_cycles;
+use sessions::{Step, Told};
+use std::alloc::Global;
+use std::io::Write;
+use std::rt::Files;
+use std::sync::Wait;
+use std::thread::Threads;
+
+/// The most files that a keeper remembers verdicts of.
+const MOST_KEPT: usize = 4096;
+
+/// The lines of a keeper's cycles over repositories, and the status of the last one.
+pub fn cycles<F: Files + AllocGlobal + Clone + Drop, T: Threads + Wait + Sync>(
+    files: &F,
+    rt: &T,
+    alloc: Global,
+    step: &Step,
+) -> Result<Told> {
+    let gate = Schedule::new(Asked::of_step(step)?.rule);
+    let all = outcomes(files, rt, alloc, step, &gate)?;
+    told(alloc, all.as_slice(), paths_behind(step, 5))
+}
+
+/// How each of a keeper's cycles over repositories came by its answers, and how many waits of the
+/// gate met their limit.
+pub fn kept<F: Files + AllocGlobal + Clone + Drop, T: Threads + Wait + Sync>(
+    files: &F,
+    rt: &T,
+    alloc: Global,
+    step: &Step,
+) -> Result<Told> {
+    let gate = Schedule::new(Asked::of_step(step)?.rule);
+    let all = outcomes(files, rt, alloc, step, &gate)?;
+    counted(alloc, all.as_slice(), &gate)
+}
+
+/// The repositories of these names, which a comma parts.
+pub fn all_read<R: Files + AllocGlobal + Clone + Drop>(
+    rt: &R,
+    alloc: Global,
+    names: &str,
+) -> Result<Vec<Made>> {
+    let mut made = Vec::new(alloc);
+    for name in names.split(",") {
+        made.push(read(rt, alloc, name)?)?;
+    }
+    Ok(made)
+}
+
+/// A keeper whose state begins with the first root of the first repository. The word says of how many
+/// files it remembers verdicts.
+pub fn keeper_of(alloc: Global, made: &[Made], word: &str) -> Result<Keeper> {
+    let capacity = capacity_of(word).context("no such capacity")?;
+    let first = made.first().context("no repository")?;
+    let trusted = first.trusted.copy(alloc)?;
+    Ok(Keeper::new(alloc, trusted, capacity)?)
+}
+
+/// The number of a word that is 1 to 4,096.
+fn capacity_of(word: &str) -> Option<usize>
+    ensures { IfSome result (λ n. (1 ≤ n) × (n ≤ 4096)) }
+{
+    let capacity = word.parse::<usize>().ok()?;
+    if capacity == 0 || capacity > MOST_KEPT {
+        return None;
+    }
+    Some(capacity)
+}
+
+/// What a keeper's cycles over the repositories that the step names gave, in order.
+fn outcomes<F: Files + AllocGlobal + Clone + Drop, T: Threads + Wait + Sync>(
+    files: &F,
+    rt: &T,
+    alloc: Global,
+    step: &Step,
+    gate: &Schedule,
+) -> Result<Vec<Outcome>> {
+    let asked = Asked::of_step(step)?;
+    let made = all_read(files, alloc, step.word(0)?)?;
+    let rounds = rounds_of(alloc, made.as_slice(), paths_behind(step, 5))?;
+    let mut keeper = keeper_of(alloc, made.as_slice(), step.word(4)?)?;
+    all_run(rt, &mut keeper, rounds.as_slice(), asked, gate)
+}
+
+fn all_run<R: Threads + Wait + Sync>(
+    rt: &R,
+    keeper: &mut Keeper,
+    rounds: &[Round],
+    asked: Asked,
+    gate: &Schedule,
+) -> Result<Vec<Outcome>> {
+    let limits = Limits::new(ROLES, asked.most).context("too many questions")?;
+    Ok(keeper.cycles(rt, rounds, &limits, asked.workers, gate)?)
+}
+
+fn rounds_of<'a>(alloc: Global, made: &'a [Made], wanted: &'a [String]) -> Result<Vec<Round<'a>>> {
+    let now = Moment::read(MOMENT).context("no moment")?;
+    let mut rounds = Vec::new(alloc);
+    for one in made {
+        let repo = &one.repo;
+        rounds.extend_from_slice(&[Round { repo, now, wanted }])?;
+    }
+    Ok(rounds)
+}
+
+fn told(alloc: Global, all: &[Outcome], wanted: &[String]) -> Result<Told> {
+    let mut told = Told::nothing(alloc);
+    told.status = tell_cycles(alloc, all, wanted, &mut told.out)?;
+    Ok(told)
+}
+
+fn counted(alloc: Global, all: &[Outcome], gate: &Schedule) -> Result<Told> {
+    let mut text = String::new(alloc);
+    for outcome in all {
+        push_counts(&mut text, outcome.stats())?;
+    }
+    writeln!(text, "late {}", gate.late())?;
+    Ok(Told::printed(alloc, text))
+}
+
+fn push_counts(text: &mut String, stats: Stats) -> Result<()> {
+    writeln!(
+        text,
+        "planned {}, taken over {}, alone {}",
+        stats.planned, stats.taken_over, stats.alone
+    )?;
+    Ok(())
+}
