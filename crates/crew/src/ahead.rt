@@ -1,14 +1,17 @@
 //! The metadata that a run is likely to read.
 
 use crate::document::Document;
-use crate::wanted::{followed, is_followed};
+use crate::wanted::{bins, followed, is_followed};
 use cjson::NoMemory;
 use examine::Listed;
 use meta::names::{root_name, versioned};
-use meta::{ReadFault, Reading, Repo, Root, Snapshot, Stop, Targets, Timestamp, read_document};
+use meta::{
+    Delegation, Delegations, ReadFault, Reading, Repo, Root, Snapshot, Stop, Targets, Timestamp,
+    read_document,
+};
 use rolechain::{Trusted, place_of};
 use std::alloc::Global;
-use std::collections::BTreeMap;
+use std::collections::{BTreeMap, BTreeSet};
 
 /// The most successor roots that a run accepts.
 const MOST_ROOTS: u32 = 256;
@@ -23,12 +26,14 @@ pub(crate) struct Read<A: Reading> {
     pub reading: A,
 }
 
-/// A role's targets file, and which of its delegations are followed for some wanted path.
+/// A role's targets file, and where it leads for the wanted paths: which of the delegations that it
+/// lists are followed, and the names of the bins.
 #[derive(Drop)]
 pub(crate) struct RoleFile {
     pub document: usize,
     pub targets: Targets,
     pub followed: Vec<bool>,
+    pub bins: BTreeSet<String>,
 }
 
 /// The targets files, and by the roles' names where each stands among them. None stands for a file
@@ -161,15 +166,33 @@ fn read_each(
 /// The names of the roles whose delegations are followed.
 fn names_in(alloc: Global, file: &RoleFile) -> Result<Vec<String>, NoMemory> {
     let mut names = Vec::new(alloc);
-    let Some(delegations) = file.targets.delegations() else {
-        return Ok(names);
-    };
-    for (place, delegation) in delegations.roles().iter().enumerate() {
-        if is_followed(file.followed.as_slice(), place) {
+    for bin in file.bins.iter() {
+        names.push(String::from_str(alloc, bin.as_str())?)?;
+    }
+    if let Some(meta::Roles::Listed(roles)) = file.targets.delegations().map(Delegations::roles) {
+        add_names(
+            alloc,
+            roles.as_slice(),
+            file.followed.as_slice(),
+            &mut names,
+        )?;
+    }
+    Ok(names)
+}
+
+/// Adds the names of the delegations that are followed.
+fn add_names(
+    alloc: Global,
+    roles: &[Delegation],
+    followed: &[bool],
+    names: &mut Vec<String>,
+) -> Result<(), NoMemory> {
+    for (place, delegation) in roles.iter().enumerate() {
+        if is_followed(followed, place) {
             names.push(String::from_str(alloc, delegation.name())?)?;
         }
     }
-    Ok(names)
+    Ok(())
 }
 
 /// Reads a role's file, unless that was tried before.
@@ -194,11 +217,13 @@ fn read_role(
         return Ok(());
     };
     let followed = followed(scope.alloc, &read.reading, scope.wanted)?;
+    let bins = bins(scope.alloc, &read.reading, scope.wanted)?;
     roles.places.insert(role, Some(roles.files.len()))?;
     roles.files.push(RoleFile {
         document: read.document,
         targets: read.reading,
         followed,
+        bins,
     })?;
     Ok(())
 }

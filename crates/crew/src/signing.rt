@@ -10,8 +10,9 @@ use crate::plan::Planned;
 use crate::wanted::is_followed;
 use cjson::NoMemory;
 use keys::{Key, KeyRing, RoleKeys};
-use meta::Root;
+use meta::{Delegation, Root};
 use rolechain::Trusted;
+use std::collections::BTreeSet;
 
 /// Whose signatures are asked of a document.
 #[derive(Clone, Copy)]
@@ -89,7 +90,7 @@ fn add_top<'b>(
     Ok(())
 }
 
-/// Adds those of the file's delegations that are followed.
+/// Adds the keys of the file's delegations that are followed.
 fn add_delegated<'b>(
     file: &'b RoleFile,
     roles: &'b Roles,
@@ -98,17 +99,62 @@ fn add_delegated<'b>(
     let Some(delegations) = file.targets.delegations() else {
         return Ok(());
     };
-    for (place, delegation) in delegations.roles().iter().enumerate() {
-        if !is_followed(file.followed.as_slice(), place) || delegation.name() == "targets" {
-            continue;
+    let ring = delegations.ring();
+    match delegations.roles() {
+        meta::Roles::Listed(to) => {
+            add_listed(ring, to.as_slice(), file.followed.as_slice(), roles, all)
         }
-        if let Some(document) = document_of(roles, delegation.name()) {
-            all.push(Signers {
-                document,
-                ring: delegations.ring(),
-                role: delegation.keys(),
-            })?;
+        meta::Roles::Binned(bins) => add_binned(ring, bins.keys(), &file.bins, roles, all),
+    }
+}
+
+/// Adds those of the listed delegations that are followed.
+fn add_listed<'b>(
+    ring: &'b KeyRing,
+    to: &'b [Delegation],
+    followed: &[bool],
+    roles: &Roles,
+    all: &mut Vec<Signers<'b>>,
+) -> Result<(), NoMemory> {
+    for (place, delegation) in to.iter().enumerate() {
+        if is_followed(followed, place) {
+            add_role(ring, delegation.keys(), delegation.name(), roles, all)?;
         }
+    }
+    Ok(())
+}
+
+/// Adds the bins of these names.
+fn add_binned<'b>(
+    ring: &'b KeyRing,
+    keys: &'b RoleKeys,
+    names: &BTreeSet<String>,
+    roles: &Roles,
+    all: &mut Vec<Signers<'b>>,
+) -> Result<(), NoMemory> {
+    for name in names.iter() {
+        add_role(ring, keys, name.as_str(), roles, all)?;
+    }
+    Ok(())
+}
+
+/// Adds a delegated role, where its file was read. The top-level role is none.
+fn add_role<'b>(
+    ring: &'b KeyRing,
+    role: &'b RoleKeys,
+    name: &str,
+    roles: &Roles,
+    all: &mut Vec<Signers<'b>>,
+) -> Result<(), NoMemory> {
+    if name == "targets" {
+        return Ok(());
+    }
+    if let Some(document) = document_of(roles, name) {
+        all.push(Signers {
+            document,
+            ring,
+            role,
+        })?;
     }
     Ok(())
 }

@@ -4,11 +4,12 @@ use crate::ahead::{Ahead, Scope, last_root};
 use crate::plan::Planned;
 use cjson::NoMemory;
 use cjson::text::Text;
-use deleg::{matches, prefix_matches};
+use deleg::{bin_name, matches, prefix_matches};
 use keys::Algorithm;
 use meta::names::hashed;
-use meta::{Delegations, Paths, Repo, Target, Targets};
+use meta::{Delegation, Delegations, Paths, Repo, Roles, Target, Targets};
 use std::alloc::Global;
+use std::collections::BTreeSet;
 
 /// Which delegations of a file are followed for some wanted path: those that match it, in order, up to
 /// the first that is terminating; none for a path that the file itself lists.
@@ -18,21 +19,40 @@ pub(crate) fn followed(
     wanted: &[String],
 ) -> Result<Vec<bool>, NoMemory> {
     let mut marks = Vec::new(alloc);
-    let Some(delegations) = targets.delegations() else {
+    let Some(Roles::Listed(roles)) = targets.delegations().map(Delegations::roles) else {
         return Ok(marks);
     };
-    marks.resize(delegations.roles().len(), false)?;
+    marks.resize(roles.as_slice().len(), false)?;
     for path in wanted {
         if target_of(targets, path.as_str()).is_none() {
-            follow(delegations, path.as_str(), &mut marks);
+            follow(roles.as_slice(), path.as_str(), &mut marks);
         }
     }
     Ok(marks)
 }
 
+/// The names of the bins that a file's wanted paths lie in, each once; none where the file has no
+/// bins, and none for a path that the file itself lists.
+pub(crate) fn bins(
+    alloc: Global,
+    targets: &Targets,
+    wanted: &[String],
+) -> Result<BTreeSet<String>, NoMemory> {
+    let mut names = BTreeSet::new(alloc);
+    let Some(Roles::Binned(bins)) = targets.delegations().map(Delegations::roles) else {
+        return Ok(names);
+    };
+    for path in wanted {
+        if target_of(targets, path.as_str()).is_none() {
+            names.insert(bin_name(alloc, bins, path.as_str())?)?;
+        }
+    }
+    Ok(names)
+}
+
 /// Marks the delegations that match the path, in order, up to the first that is terminating.
-fn follow(delegations: &Delegations, path: &str, marks: &mut Vec<bool>) {
-    for (mark, delegation) in marks.iter_mut().zip(delegations.roles()) {
+fn follow(roles: &[Delegation], path: &str, marks: &mut Vec<bool>) {
+    for (mark, delegation) in marks.iter_mut().zip(roles) {
         if is_for(delegation.paths(), path) {
             *mark = true;
             if delegation.is_terminating() {

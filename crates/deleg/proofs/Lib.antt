@@ -1,3 +1,4 @@
+pub mod Bins
 pub mod Patterns
 pub mod Prefixes
 pub mod Walking

@@ -3,9 +3,11 @@ use Rattle.std.proofs.Common.{◌≡◌, ℕ, true, false, Bool, List, [], ◌�
 use Rattle.std.specs.Str.{chars}
 use Rattle.keys.specs.Keys.{RoleKeys}
 use Rattle.moment.specs.Moment.{Moment}
+use Rattle.meta.specs.Metadata as metadata
 use Rattle.meta.specs.Metadata.{Hashes, Target, Delegation, Header, Root, Snapshot, Targets, patterns}
 use Rattle.meta.specs.declared.fault.Fault.TheVariants.{NotListed}
 use Rattle.examine.specs.Checks.{Files}
+use Rattle.deleg.specs.Bin.{first_bits, name_of}
 use Rattle.deleg.specs.Pattern.{is_match}
 use Rattle.deleg.specs.Search.{search_from}
 use Rattle.deleg.specs.declared.found.Found.TheVariants.{Listed, NotFound, LimitReached, RoleRefused}
@@ -30,6 +32,30 @@ none = refl
 between : is_match (codes "a*/b") (codes "axy/b") ≡ true
 between = refl
 
+-- ---- bins, by the beginning ba7816bf of the digest of `abc`
+
+abbrev digest : List ℕ
+digest = 0xba ∷ 0x78 ∷ 0x16 ∷ 0xbf ∷ []
+
+module _ (keys : RoleKeys) where
+  abbrev name : ℕ → ℕ → List ℕ
+  name bits n = name_of (record { keys = keys; bits = bits; prefix = codes "bin" }) n
+
+  one_bit : name 1 (first_bits 1 digest) ≡ codes "bin-1"
+  one_bit = refl
+
+  nine_bits : name 9 (first_bits 9 digest) ≡ codes "bin-174"
+  nine_bits = refl
+
+  ten_bits : name 10 (first_bits 10 digest) ≡ codes "bin-2e9"
+  ten_bits = refl
+
+  all_bits : name 32 (first_bits 32 digest) ≡ codes "bin-ba7816bf"
+  all_bits = refl
+
+  padded : name 16 7 ≡ codes "bin-0007"
+  padded = refl
+
 -- ---- the search, where the snapshot lists no role
 
 module _ (files : Files) (now moment : Moment) (top : Root) (keys : RoleKeys) (hashes : Hashes) where
@@ -49,7 +75,7 @@ module _ (files : Files) (now moment : Moment) (top : Root) (keys : RoleKeys) (h
   listing = record { path = path; length = 1; hashes = hashes }
 
   abbrev file : List Target → List Delegation → Targets
-  file targets roles = record { header = head; targets = targets; delegations = Some (record { ring = []; roles = roles }) }
+  file targets roles = record { header = head; targets = targets; delegations = Some (record { ring = []; roles = metadata.listed roles }) }
 
   -- the top-level role lists the path
   listed : search_from files now top snapshot path 1 (file (listing ∷ []) []) ≡ record { found = Listed (codes "targets") listing 1; accepted = [] }

@@ -199,7 +199,7 @@ module _ (q : Quest) (s : List Accepted) where
 
   pub visit_goes_on : (files put now_files : List (List Edge)) (es : List Edge) (e : Edge) (role : List ℕ) (b : Bool) (p : Part Targets) (now_seen : List Accepted) → IsNext q.path s es → Some e ≡ slice_get es 0 → role ≡ e.to.name → b ≡ e.to.terminating
       → length s + 1 < q.most → examined q.files q.now q.top q.snap e ≡ Ok p → now_seen ≡ accepted_as role p → None ≡ answer role now_seen (target_of p.reading q.path)
-      → put ≡ cond b [] (files ++ drop 1 es ∷ []) → now_files ≡ put ++ edges p.reading ∷ [] → GoesOn q (pending_with q.path es files) s (pending q.path now_files) now_seen
+      → put ≡ cond b [] (files ++ drop 1 es ∷ []) → now_files ≡ put ++ edges p.reading q.path ∷ [] → GoesOn q (pending_with q.path es files) s (pending q.path now_files) now_seen
   unfolding outlook
   visit_goes_on files put now_files es e role b p now_seen next h n t room looked accepted lists back pushed =
       let at = split es e next h (pending q.path files) in
@@ -208,7 +208,7 @@ module _ (q : Quest) (s : List Accepted) where
       let put_is : pending q.path put ≡ left q.files q.now q.top q.snap q.path q.most e (those (drop 1 es) ++ pending q.path files) =
       ap (pending q.path) back ∙ sym (left_on b files es) ∙ ap (λ (v : Bool). cond v [] (those (drop 1 es) ++ pending q.path files)) t in
       let files_are : pending q.path now_files ≡ followed p.reading q.path ++ left q.files q.now q.top q.snap q.path q.most e (those (drop 1 es) ++ pending q.path files) =
-      ap (pending q.path) pushed ∙ pending-push q.path put (edges p.reading) ∙ ap (λ (gs : List Edge). followed p.reading q.path ++ gs) put_is in
+      ap (pending q.path) pushed ∙ pending-push q.path put (edges p.reading q.path) ∙ ap (λ (gs : List Edge). followed p.reading q.path ++ gs) put_is in
       let more : length now_seen ≡ length s + 1 = ap length same ∙ length-append s _ in (
         ap (λ (gs : List Edge). settled (on gs)) at.0
             ∙ walk-descends q.files q.now q.top q.snap q.path q.most e (those (drop 1 es) ++ pending q.path files) s p at.1 room looked none

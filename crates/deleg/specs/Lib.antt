@@ -2,8 +2,9 @@ pub mod Pattern
 pub mod Prefix
 pub mod Lead
 pub mod Accepted
+pub mod Bin
 pub mod Edge
 pub mod Search
 pub mod Quest
-pub mod Values
 pub mod Held
+pub mod Values

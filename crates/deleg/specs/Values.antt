@@ -1,4 +1,7 @@
 -- What the values of the program stand for.
+use Rattle.std.specs.Option.{option_map_or}
+use Rattle.meta.specs.Matcher.{matcher_of}
+use Rattle.meta.specs.Metadata.{every}
 use Rattle.examine.specs.Expecting.{file_in}
 use Rattle.deleg.specs.Edge as edge
 use Rattle.deleg.specs.Quest as quest
@@ -6,7 +9,7 @@ use Rattle.deleg.specs.declared.edge.Edge.{Edge}
 use Rattle.deleg.specs.declared.quest.Quest.{Quest}
 
 abbrev pub edge_of : Edge → edge.Edge
-edge_of e = record { ring = e.ring.now; to = e.to.now }
+edge_of e = record { ring = e.ring.now; to = record { name = e.name.now; keys = e.keys.now; terminating = e.terminating; matcher = option_map_or (λ p. matcher_of p.now) e.paths every } }
 
 abbrev pub quest_of : Quest → quest.Quest
 quest_of q = record {

@@ -1,49 +1,125 @@
-ghost use Rattle.std.specs.Prelude.{◌≡◌, length, slice_get, option_map};
+ghost use Rattle.std.specs.Prelude.{◌≡◌, IfOk, List, ℕ, length, slice_get, option_map, string_bytes};
 ghost use Rattle.std.specs.List.{list_any};
 ghost use Rattle.std.specs.Str.{chars};
 ghost use Rattle.meta.specs.Matcher.{matcher_of};
 ghost use Rattle.meta.specs.Metadata.{begins_with};
 ghost use Rattle.deleg.specs.Pattern.{is_match};
 ghost use Rattle.deleg.specs.Prefix.{path_digest};
+ghost use Rattle.meta.specs.Delegated.{roles_in};
 ghost use Rattle.deleg.specs.Edge as spec;
+ghost use Rattle.deleg.specs.Held as held;
+ghost use Rattle.deleg.specs.Held.{edges_by, roles_by};
 ghost use Rattle.deleg.specs.Values.{edge_of};
 
+use crate::bin::bin_name;
 use crate::pattern::matches;
 use crate::prefix::prefix_matches;
-use keys::KeyRing;
-use meta::{Delegation, HashPrefix, PathPattern, Paths, Targets};
+use cjson::NoMemory;
+use cjson::text::Text;
+use keys::{KeyRing, RoleKeys};
+use meta::{Bins, Delegation, HashPrefix, PathPattern, Paths, Roles, Targets};
+use std::alloc::Global;
 
-/// A delegation, with the keys of the file that has it.
+/// A delegation to a role, with the keys of the file that has it.
 #[derive(Clone, Copy)]
 pub(crate) struct Edge<'a> {
     pub ring: &'a KeyRing,
-    pub to: &'a Delegation,
+    pub name: &'a str,
+    pub keys: &'a RoleKeys,
+    pub terminating: bool,
+    /// Which paths it is for; None stands for every path.
+    pub paths: Option<&'a Paths>,
 }
 
-/// The delegation at a place of a targets file.
-pub(crate) fn edge_at(targets: &Targets, place: usize) -> Option<Edge<'_>>
-    ensures { option_map edge_of result ≡ slice_get (spec.edges targets.now) place }
+/// The delegation at a place of a targets file. Where the file has bins, that to the bin of this name
+/// is the only one.
+pub(crate) fn edge_at<'a>(targets: &'a Targets, bin: &'a str, place: usize) -> Option<Edge<'a>>
+    ensures { option_map edge_of result ≡ slice_get (edges_by bin.now targets.now) place }
 {
     let delegations = targets.delegations()?;
-    let to = delegations.roles().get(place)?;
-    Some(Edge {
-        ring: delegations.ring(),
-        to,
-    })
+    let ring = delegations.ring();
+    match delegations.roles() {
+        Roles::Listed(roles) => Some(listed(ring, roles.as_slice().get(place)?)),
+        Roles::Binned(bins) if place == 0 => Some(binned(ring, bins, bin)),
+        Roles::Binned(_) => None,
+    }
 }
 
-/// How many delegations a targets file has.
-pub(crate) fn edge_count(targets: &Targets) -> usize
-    ensures { result ≡ length (spec.edges targets.now) }
+fn listed<'a>(ring: &'a KeyRing, to: &'a Delegation) -> Edge<'a>
+    ensures { edge_of result ≡ record { ring = ring.now; to = to.now } }
+{
+    Edge {
+        ring,
+        name: to.name(),
+        keys: to.keys(),
+        terminating: to.is_terminating(),
+        paths: Some(to.paths()),
+    }
+}
+
+fn binned<'a>(ring: &'a KeyRing, bins: &'a Bins, name: &'a str) -> Edge<'a>
+    ensures { edge_of result ≡ record { ring = ring.now; to = spec.to_bin bins.now name.now } }
+{
+    Edge {
+        ring,
+        name,
+        keys: bins.keys(),
+        terminating: true,
+        paths: None,
+    }
+}
+
+/// How many delegations a targets file has for a path.
+pub(crate) fn edge_count(targets: &Targets, bin: &str) -> usize
+    ensures { result ≡ length (edges_by bin.now targets.now) }
 {
     match targets.delegations() {
-        Some(delegations) => delegations.roles().len(),
+        Some(delegations) => role_count(delegations.roles()),
         None => 0,
     }
 }
 
+fn role_count(roles: &Roles) -> usize
+    ensures { (bin : List ℕ) → result ≡ length (roles_by bin (roles_in roles.now)) }
+{
+    match roles {
+        Roles::Listed(roles) => roles.as_slice().len(),
+        Roles::Binned(_) => 1,
+    }
+}
+
+/// The name of the path's bin, where the file has bins.
+pub(crate) fn bin_of(alloc: Global, targets: &Targets, path: &str) -> Result<Text, NoMemory>
+    ensures { IfOk result (λ bin. bin ≡ held.bin_of targets.now path.now) }
+{
+    let name = match targets.delegations() {
+        Some(delegations) => bin_in(alloc, delegations.roles(), path)?,
+        None => String::new(alloc),
+    };
+    Ok(Text::new(name))
+}
+
+fn bin_in(alloc: Global, roles: &Roles, path: &str) -> Result<String, NoMemory>
+    ensures { IfOk result (λ name. string_bytes name ≡ held.bin_in path.now (roles_in roles.now)) }
+{
+    match roles {
+        Roles::Listed(_) => Ok(String::new(alloc)),
+        Roles::Binned(bins) => bin_name(alloc, bins, path),
+    }
+}
+
+/// Whether the delegation is for the path.
+pub(crate) fn is_for(edge: &Edge, path: &str) -> bool
+    ensures { result ≡ spec.is_for path.now (edge_of edge.now) }
+{
+    match edge.paths {
+        Some(paths) => is_matched(paths, path),
+        None => true,
+    }
+}
+
 /// Whether one of the patterns or prefixes matches the path.
-pub(crate) fn is_matched(paths: &Paths, path: &str) -> bool
+fn is_matched(paths: &Paths, path: &str) -> bool
     ensures { result ≡ spec.is_matched (matcher_of paths.now) path.now }
 {
     match paths {

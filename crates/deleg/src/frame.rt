@@ -1,13 +1,16 @@
-ghost use Rattle.std.specs.Prelude.{◌≡◌, drop, slice_get, option_map};
+ghost use Rattle.std.specs.Prelude.{◌≡◌, IfOk, drop, slice_get, option_map};
 ghost use Rattle.deleg.specs.Edge as spec;
 ghost use Rattle.deleg.specs.Held.{held_targets};
 ghost use Rattle.deleg.specs.Quest as quest;
 ghost use Rattle.deleg.specs.Values.{edge_of};
 
 use crate::accepted::Accepted;
-use crate::edge::{Edge, edge_at, edge_count, is_matched};
+use crate::edge::{Edge, bin_of, edge_at, edge_count, is_for};
 use crate::quest::is_visited;
+use cjson::NoMemory;
+use cjson::text::Text;
 use meta::{Part, Targets};
+use std::alloc::Global;
 use std::marker::Model;
 
 /// The targets file whose delegations are tried.
@@ -26,54 +29,67 @@ fn targets_in<'a>(file: &'a Held<'_>) -> &'a Targets
     }
 }
 
-/// A targets file, and how many of its delegations were tried; seen as those that are left.
+/// A targets file, the name of the bin of the path that is searched for, and how many of the file's
+/// delegations were tried; seen as those that are left.
 #[derive(Drop)]
 pub(crate) struct Frame<'a> {
     file: Held<'a>,
+    bin: Text,
     tried: usize,
 }
 
 impl<'a> Model for Frame<'a> {
     ghost use Rattle.std.specs.Prelude.{List, drop};
     ghost use Rattle.deleg.specs.Edge as spec;
-    ghost use Rattle.deleg.specs.Held.{held_targets};
+    ghost use Rattle.deleg.specs.Held.{edges_by, held_targets};
 
     ghost Value = { List spec.Edge };
 
-    ghost view = { λ f. drop f.tried (spec.edges (held_targets f.file)) };
+    ghost view = { λ f. drop f.tried (edges_by f.bin (held_targets f.file)) };
 }
 
 impl<'a> Frame<'a> {
-    pub(crate) fn of_trusted(targets: &'a Targets) -> Frame<'a>
-        ensures { result ≡ spec.edges targets.now }
+    pub(crate) fn of_trusted(
+        alloc: Global,
+        targets: &'a Targets,
+        path: &str,
+    ) -> Result<Frame<'a>, NoMemory>
+        ensures { IfOk result (λ f. f ≡ spec.edges targets.now path.now) }
     {
-        Frame {
+        Ok(Frame {
             file: Held::Trusted(targets),
+            bin: bin_of(alloc, targets, path)?,
             tried: 0,
-        }
+        })
     }
 
-    pub(crate) fn of_accepted(part: Part<Targets>) -> Frame<'a>
-        ensures { result ≡ spec.edges part.reading }
+    pub(crate) fn of_accepted(
+        alloc: Global,
+        part: Part<Targets>,
+        path: &str,
+    ) -> Result<Frame<'a>, NoMemory>
+        ensures { IfOk result (λ f. f ≡ spec.edges part.reading path.now) }
     {
-        Frame {
+        let bin = bin_of(alloc, part.reading(), path)?;
+        Ok(Frame {
             file: Held::Accepted(part),
+            bin,
             tried: 0,
-        }
+        })
     }
 
     /// The first delegation that is left.
     pub(crate) fn next(&self) -> Option<Edge<'_>>
         ensures { option_map edge_of result ≡ slice_get self.now 0 }
     {
-        edge_at(targets_in(&self.file), self.tried)
+        edge_at(targets_in(&self.file), self.bin.as_str(), self.tried)
     }
 
     /// Leaves out the first delegation that is left.
     pub(crate) fn skip(&mut self)
         ensures { self.new ≡ drop 1 self.old }
     {
-        if self.tried < edge_count(targets_in(&self.file)) {
+        if self.tried < edge_count(targets_in(&self.file), self.bin.as_str()) {
             self.tried += 1;
         }
     }
@@ -102,6 +118,5 @@ impl<'a> Frame<'a> {
 fn is_passed(edge: &Edge, path: &str, seen: &[Accepted]) -> bool
     ensures { result ≡ quest.is_passed path.now seen.now (edge_of edge.now) }
 {
-    !is_matched(edge.to.paths(), path)
-        || (is_visited(seen, edge.to.name()) && !edge.to.is_terminating())
+    !is_for(edge, path) || (is_visited(seen, edge.name) && !edge.terminating)
 }

@@ -3,6 +3,7 @@
 #![tactic(auto)]
 
 mod accepted;
+mod bin;
 mod edge;
 mod found;
 mod frame;
@@ -13,6 +14,7 @@ mod searching;
 mod walk;
 
 pub use accepted::{Accepted, Searched};
+pub use bin::bin_name;
 pub use found::Found;
 pub use pattern::matches;
 pub use prefix::prefix_matches;

@@ -36,12 +36,12 @@ pub(crate) fn examine<J: Judge>(
 ) -> Result<Part<Targets>, Stop>
     ensures { Answers (spec.examined (file_in quest.now.files.now) quest.now.moment quest.now.root.now quest.now.snapshot.now (edge_of edge.now)) result (λ p. p) }
 {
-    let (listed, name) = place_of(quest.alloc, quest.root, quest.snapshot, edge.to.name())?;
+    let (listed, name) = place_of(quest.alloc, quest.root, quest.snapshot, edge.name)?;
     let expect = Expect {
         name: name.as_str(),
         listed,
         ring: edge.ring,
-        role: edge.to.keys(),
+        role: edge.keys,
     };
     examine_targets(quest.alloc, &expect, quest.files, quest.moment, judge)
 }

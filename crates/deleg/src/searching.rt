@@ -76,6 +76,6 @@ fn search_from<J: Judge>(
         return Ok(Searched::new(found, Vec::new(quest.alloc)));
     }
     let mut stack = Vec::new(quest.alloc);
-    stack.push(Frame::of_trusted(targets))?;
+    stack.push(Frame::of_trusted(quest.alloc, targets, quest.path)?)?;
     walk(quest, stack, judge)
 }

@@ -45,7 +45,7 @@ fn next_frame<'a>(quest: &Quest, stack: &mut Vec<Frame<'a>>, seen: &[Accepted]) 
         let Some(edge) = frame.next() else {
             continue;
         };
-        if is_visited(seen, edge.to.name()) {
+        if is_visited(seen, edge.name) {
             return None;
         }
         return Some(frame);
@@ -75,8 +75,8 @@ fn visit<'a, J: Judge>(
     let Some(edge) = frame.next() else {
         unreachable!()
     };
-    let terminating = edge.to.is_terminating();
-    let role = Text::new(String::from_str(quest.alloc, edge.to.name())?);
+    let terminating = edge.terminating;
+    let role = Text::new(String::from_str(quest.alloc, edge.name)?);
     let part = match examine(quest, &edge, judge) {
         Ok(part) => part,
         Err(Stop::Refused(fault)) => return Ok(Some(Found::RoleRefused { role, fault })),
@@ -86,7 +86,7 @@ fn visit<'a, J: Judge>(
         return Ok(Some(found));
     }
     put_back(frame, terminating, stack)?;
-    stack.push(Frame::of_accepted(part))?;
+    stack.push(Frame::of_accepted(quest.alloc, part, quest.path)?)?;
     Ok(None)
 }
 

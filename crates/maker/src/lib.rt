@@ -5,6 +5,7 @@
 //! - [`make`] follows a script that makes a repository.
 #![tactic(auto)]
 
+mod bins;
 mod fault;
 mod line;
 mod objects;

@@ -22,6 +22,8 @@ pub enum Line<'a> {
     Target(TargetLine<'a>),
     /// `delegate FROM TO T KEYS END KIND LIST`
     Delegate(DelegateLine<'a>),
+    /// `succinct FROM T KEYS BITS PREFIX`
+    Succinct(SuccinctLine<'a>),
     /// `forget ROLE`
     Forget(&'a str),
     /// `write ROLE VERSION KEYS`
@@ -65,6 +67,15 @@ pub struct DelegateLine<'a> {
     pub list: &'a str,
 }
 
+/// A line that delegates to hash bins.
+#[derive(Drop)]
+pub struct SuccinctLine<'a> {
+    pub from: &'a str,
+    pub quorum: Quorum,
+    pub bits: u32,
+    pub prefix: &'a str,
+}
+
 /// A line that makes a metadata file.
 #[derive(Drop)]
 pub struct WriteLine<'a> {
@@ -95,6 +106,7 @@ fn read_words<'a>(alloc: Global, words: &mut Words<'a>) -> Result<Line<'a>, Refu
         "top" => read_top(alloc, words),
         "target" => read_target(alloc, words),
         "delegate" => read_delegate(alloc, words),
+        "succinct" => read_succinct(alloc, words),
         "forget" => Ok(Line::Forget(words.word()?)),
         "write" => read_write(alloc, words),
         _ => Err(Refusal::Line),
@@ -158,6 +170,19 @@ fn read_delegate<'a>(alloc: Global, words: &mut Words<'a>) -> Result<Line<'a>, R
         terminating,
         by_paths,
         list,
+    }))
+}
+
+fn read_succinct<'a>(alloc: Global, words: &mut Words<'a>) -> Result<Line<'a>, Refusal> {
+    let from = words.word()?;
+    let quorum = read_quorum(alloc, words)?;
+    let bits = words.bits()?;
+    let prefix = words.role()?;
+    Ok(Line::Succinct(SuccinctLine {
+        from,
+        quorum,
+        bits,
+        prefix,
     }))
 }
 

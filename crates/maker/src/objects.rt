@@ -1,6 +1,6 @@
 //! The objects of metadata files (TUF 1.0 section 4).
 
-use crate::line::{DelegateLine, Digests, TargetLine};
+use crate::line::{DelegateLine, Digests, SuccinctLine, TargetLine};
 use lms::Public;
 use meta::names;
 use serde_json::{Map, Value, json};
@@ -130,6 +130,20 @@ pub fn delegation_object(
         "name": line.to,
         matcher: list,
         "terminating": line.terminating,
+        "threshold": line.quorum.threshold
+    })
+}
+
+/// The member `succinct_roles`.
+pub fn succinct_object(
+    alloc: Global,
+    line: &SuccinctLine<'_>,
+    ids: Vec<Value>,
+) -> Result<Value, AllocError> {
+    json!(in alloc; {
+        "bit_length": line.bits,
+        "keyids": ids,
+        "name_prefix": line.prefix,
         "threshold": line.quorum.threshold
     })
 }

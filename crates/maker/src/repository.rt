@@ -1,8 +1,10 @@
 //! What the lines of a script make.
 
-use crate::line::{DelegateLine, Line, Quorum, TargetLine, WriteLine};
+use crate::bins::Bins;
+use crate::line::{DelegateLine, Line, Quorum, SuccinctLine, TargetLine, WriteLine};
 use crate::objects::{
-    common_members, delegation_object, listing_object, put, role_object, target_name, target_object,
+    common_members, delegation_object, listing_object, put, role_object, succinct_object,
+    target_name, target_object,
 };
 use crate::refusal::Refusal;
 use crate::ring::{ids_of, new_signer, place_of, places_of, put_keys};
@@ -20,6 +22,7 @@ use std::collections::BTreeMap;
 struct Role {
     targets: Map<String, Value>,
     delegations: Vec<Value>,
+    succinct: Option<Value>,
     /// The keys that the delegations name.
     keys: Map<String, Value>,
 }
@@ -29,15 +32,22 @@ impl Role {
         Role {
             targets: Map::new(alloc),
             delegations: Vec::new(alloc),
+            succinct: None,
             keys: Map::new(alloc),
         }
     }
 
-    /// The member `delegations`.
-    fn delegations(&self, alloc: Global) -> Result<Value, AllocError> {
+    /// The member `delegations`, where there are any.
+    fn delegations(&self, alloc: Global) -> Result<Option<Value>, AllocError> {
         let keys = Value::Object(self.keys.clone()?);
+        if let Some(succinct) = &self.succinct {
+            return Ok(Some(json!(in alloc; { "keys": keys, "succinct_roles": succinct })?));
+        }
+        if self.delegations.is_empty() {
+            return Ok(None);
+        }
         let roles = Value::Array(self.delegations.clone()?);
-        json!(in alloc; { "keys": keys, "roles": roles })
+        Ok(Some(json!(in alloc; { "keys": keys, "roles": roles })?))
     }
 }
 
@@ -50,8 +60,9 @@ pub struct Repository {
     expires: String,
     /// The top-level roles that have their `top` line.
     tops: BTreeMap<String, Quorum>,
-    /// `targets` and the delegated roles.
+    /// `targets` and the delegated roles. A bin stands here from the first line that names it.
     roles: BTreeMap<String, Role>,
+    bins: Vec<Bins>,
     /// What the next snapshot lists.
     listed: Map<String, Value>,
     /// How the next timestamp lists the snapshot.
@@ -69,6 +80,7 @@ impl Repository {
             expires,
             tops: BTreeMap::new(alloc),
             roles: BTreeMap::new(alloc),
+            bins: Vec::new(alloc),
             listed: Map::new(alloc),
             snapshot: None,
             files: BTreeMap::new(alloc),
@@ -88,6 +100,7 @@ impl Repository {
             Line::Top { role, quorum } => self.set_top(role, quorum),
             Line::Target(line) => self.add_target(&line),
             Line::Delegate(line) => self.add_delegation(&line),
+            Line::Succinct(line) => self.add_bins(&line),
             Line::Forget(role) => self.forget(role),
             Line::Write(line) => self.write(&line),
         }
@@ -133,7 +146,7 @@ impl Repository {
         Ok(())
     }
 
-    /// Whether a `top` line or a `delegate` line has made the role.
+    /// Whether a `top`, `delegate` or `succinct` line has made the role.
     fn is_made(&self, name: &str) -> bool {
         self.tops.contains_key(name) || self.is_listing(name)
     }
@@ -143,7 +156,16 @@ impl Repository {
         if name == "targets" {
             return self.tops.contains_key(name);
         }
-        self.roles.contains_key(name)
+        self.roles.contains_key(name) || self.bins.iter().any(|bins| bins.has(name))
+    }
+
+    /// The role, if it can list targets.
+    fn listing_role(&mut self, name: &str) -> Result<&mut Role, Refusal> {
+        if !self.is_listing(name) {
+            return Err(Refusal::Line);
+        }
+        self.make_role(name)?;
+        self.roles.get_mut(name).ok_or(Refusal::Line)
     }
 
     fn forget(&mut self, name: &str) -> Result<(), Refusal> {
@@ -156,31 +178,48 @@ impl Repository {
     }
 
     fn add_target(&mut self, line: &TargetLine<'_>) -> Result<(), Refusal> {
-        if !self.is_listing(line.role) {
-            return Err(Refusal::Line);
-        }
-        let Some(role) = self.roles.get_mut(line.role) else {
-            return Err(Refusal::Line);
-        };
-        let object = target_object(self.alloc, &line.bytes, line.digests)?;
-        put(self.alloc, &mut role.targets, line.path, object)?;
+        let alloc = self.alloc;
+        let role = self.listing_role(line.role)?;
+        let object = target_object(alloc, &line.bytes, line.digests)?;
+        put(alloc, &mut role.targets, line.path, object)?;
         let name = target_name(self.alloc, self.consistent, line)?;
         let _ = self.files.insert(name, line.bytes.clone()?)?;
         Ok(())
     }
 
     fn add_delegation(&mut self, line: &DelegateLine<'_>) -> Result<(), Refusal> {
-        if !self.is_listing(line.from) {
+        let alloc = self.alloc;
+        let ids = ids_of(alloc, &self.signers, &line.quorum.keys)?;
+        let role = self.delegating_role(line.from, &line.quorum)?;
+        if role.succinct.is_some() {
             return Err(Refusal::Line);
         }
-        let Some(role) = self.roles.get_mut(line.from) else {
-            return Err(Refusal::Line);
-        };
-        let ids = ids_of(self.alloc, &self.signers, &line.quorum.keys)?;
-        put_keys(self.alloc, &mut role.keys, &self.signers, &line.quorum.keys)?;
-        role.delegations
-            .push(delegation_object(self.alloc, line, ids)?)?;
+        role.delegations.push(delegation_object(alloc, line, ids)?)?;
         self.make_role(line.to)
+    }
+
+    fn add_bins(&mut self, line: &SuccinctLine<'_>) -> Result<(), Refusal> {
+        let alloc = self.alloc;
+        let ids = ids_of(alloc, &self.signers, &line.quorum.keys)?;
+        let role = self.delegating_role(line.from, &line.quorum)?;
+        if !role.delegations.is_empty() {
+            return Err(Refusal::Line);
+        }
+        role.succinct = Some(succinct_object(alloc, line, ids)?);
+        self.bins.push(Bins::new(alloc, line.bits, line.prefix)?)?;
+        Ok(())
+    }
+
+    /// The role, if it can list targets, with the keys among those that its delegations name.
+    fn delegating_role(&mut self, name: &str, quorum: &Quorum) -> Result<&mut Role, Refusal> {
+        let alloc = self.alloc;
+        let mut keys = Map::new(alloc);
+        put_keys(alloc, &mut keys, &self.signers, &quorum.keys)?;
+        let role = self.listing_role(name)?;
+        for (id, key) in keys {
+            let _ = role.keys.insert(id, key)?;
+        }
+        Ok(role)
     }
 
     fn write(&mut self, line: &WriteLine<'_>) -> Result<(), Refusal> {
@@ -224,9 +263,7 @@ impl Repository {
 
     /// Writes the file of `targets` or of a delegated role.
     fn write_role(&mut self, line: &WriteLine<'_>) -> Result<(), Refusal> {
-        if !self.is_listing(line.role) {
-            return Err(Refusal::Line);
-        }
+        let _listing = self.listing_role(line.role)?;
         let members = self.role_members(line.role, line.version)?;
         let bytes = self.sealed(members, &line.keys)?;
         let listed = names::role_name(self.alloc, line.role)?;
@@ -307,13 +344,8 @@ impl Repository {
             "targets",
             Value::Object(role.targets.clone()?),
         )?;
-        if !role.delegations.is_empty() {
-            put(
-                self.alloc,
-                &mut members,
-                "delegations",
-                role.delegations(self.alloc)?,
-            )?;
+        if let Some(delegations) = role.delegations(self.alloc)? {
+            put(self.alloc, &mut members, "delegations", delegations)?;
         }
         Ok(members)
     }

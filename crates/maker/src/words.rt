@@ -67,6 +67,14 @@ impl<'a> Words<'a> {
         }
     }
 
+    /// How many bits of a digest tell a bin: 1 to 32 in decimal digits.
+    pub fn bits(&mut self) -> Result<u32, Refusal> {
+        match decimal(self.word()?) {
+            Some(number) if 1 <= number && number <= 32 => Ok(number as u32),
+            _ => Err(Refusal::Line),
+        }
+    }
+
     /// Key bytes joined by `,`, or `-` for none.
     pub fn keys(&mut self, alloc: Global) -> Result<Vec<u8>, Refusal> {
         let word = self.word()?;

@@ -1,7 +1,7 @@
 -- What a call answers that makes checks in order. Want of memory says nothing.
 use Rattle.std.specs.Prelude.{◌≡◌, Result, Ok, Err}
 use Rattle.meta.specs.declared.fault.Fault.{Fault}
-use Rattle.meta.specs.declared.fault.Fault.TheVariants.{Malformed, SuccinctRoles}
+use Rattle.meta.specs.declared.fault.Fault.TheVariants.{Malformed}
 use Rattle.meta.specs.declared.fault.ReadFault.{ReadFault}
 use Rattle.meta.specs.declared.fault.ReadFault.TheVariants as read
 use Rattle.meta.specs.declared.fault.Stop.{Stop}
@@ -15,5 +15,4 @@ Answers r (Err NoMemory) seen = Unit {0}
 
 abbrev pub stop_of : ReadFault → Stop
 stop_of read.Malformed = Refused Malformed
-stop_of read.SuccinctRoles = Refused SuccinctRoles
 stop_of read.NoMemory = NoMemory

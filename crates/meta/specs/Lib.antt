@@ -4,6 +4,7 @@ pub use Rattle.moment.specs.Moment
 pub mod Names
 pub mod Metadata
 pub mod Matcher
+pub mod Delegated
 pub mod Reads
 pub mod Part
 pub mod Content

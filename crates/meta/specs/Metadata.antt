@@ -2,7 +2,7 @@
 use Rattle.std.specs.Prelude.{ℕ, ◌&&◌, ◌||◌, ◌==◌, nat_le, not, if◌then◌else◌, List, length, take, Bool, false, Option, Some, None, is_some, unwrap_or, bytes_eq, codes}
 use Rattle.std.specs.List.{list_all}
 use Rattle.serde_json.specs.Data.{Data}
-use Rattle.serde_json.specs.Find.{get, as_str, as_bool, as_object}
+use Rattle.serde_json.specs.Find.{as_str, as_bool, as_number, as_u64, as_object}
 use Rattle.cjson.specs.Option.{◌>>=◌}
 use Rattle.cjson.specs.Form.{Form, guard, all_members, has_text, needed, optional, list, members, text, whole, hex_bytes}
 use Rattle.keys.specs.Keys.{Key, RoleKeys, ring, role_keys}
@@ -25,10 +25,11 @@ pub record Target : Type 0 where
   pub length : ℕ
   pub hashes : Hashes
 
--- what a delegation says of the paths that it is for (section 4.5)
+-- what a delegation says of the paths that it is for (section 4.5); that to a bin is for every path
 pub data Matcher : Type 0 where
   patterns : List (List ℕ) → Matcher
   prefixes : List (List ℕ) → Matcher
+  every : Matcher
 
 pub record Delegation : Type 0 where
   pub name : List ℕ
@@ -36,9 +37,20 @@ pub record Delegation : Type 0 where
   pub terminating : Bool
   pub matcher : Matcher
 
+-- succinct roles: `2 ^ bits` bins, each a role with these keys, whose name begins with the prefix (this project's profile)
+pub record Bins : Type 0 where
+  pub keys : RoleKeys
+  pub bits : ℕ
+  pub prefix : List ℕ
+
+-- the roles that are delegated to
+pub data Roles : Type 0 where
+  listed : List Delegation → Roles
+  binned : Bins → Roles
+
 pub record Delegations : Type 0 where
   pub ring : List Key
-  pub roles : List Delegation
+  pub roles : Roles
 
 -- what all kinds have
 pub record Header : Type 0 where
@@ -189,11 +201,38 @@ delegation d = do
   found ← matcher d
   Some (record { name = name; keys = keys; terminating = terminating; matcher = found })
 
+-- a whole number from 1 to 32
+abbrev pub bit_count : Form ℕ
+bit_count d = do
+  number ← as_number d
+  n ← as_u64 number
+  if nat_le 1 n && nat_le n 32 then Some n else None
+
+abbrev pub bins : Form Bins
+bins d = do
+  keys ← role_keys d
+  bits ← needed (codes "bit_length") bit_count d
+  prefix ← needed (codes "name_prefix") text d
+  Some (record { keys = keys; bits = bits; prefix = prefix })
+
+abbrev pub roles_of : Option (List Delegation) → Option Bins → Option Roles
+roles_of (Some found) None = Some (listed found)
+roles_of None (Some found) = Some (binned found)
+roles_of None None = None
+roles_of (Some found) (Some other) = None
+
+-- exactly one of `roles` and `succinct_roles`
+abbrev pub roles : Form Roles
+roles d = do
+  found ← optional (codes "roles") (list delegation) d
+  succinct ← optional (codes "succinct_roles") bins d
+  roles_of found succinct
+
 abbrev pub delegations : Form Delegations
 delegations d = do
   ring ← needed (codes "keys") ring d
-  roles ← needed (codes "roles") (list delegation) d
-  Some (record { ring = ring; roles = roles })
+  found ← roles d
+  Some (record { ring = ring; roles = found })
 
 abbrev pub targets : Form Targets
 targets d = do
@@ -201,9 +240,3 @@ targets d = do
   targets ← needed (codes "targets") (members target) d
   delegations ← optional (codes "delegations") delegations d
   Some (record { header = header; targets = targets; delegations = delegations })
-
--- `delegations` is an object with `succinct_roles`
-abbrev pub has_succinct_roles : Data → Bool
-has_succinct_roles d = is_some (do
-  found ← get (codes "delegations") d
-  get (codes "succinct_roles") found)

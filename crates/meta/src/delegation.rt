@@ -9,7 +9,7 @@ use cjson::Misread;
 use cjson::form::{FromJson, needed, optional};
 use cjson::list::Items;
 use cjson::text::Text;
-use keys::{KeyRing, RoleKeys};
+use keys::RoleKeys;
 use serde_json::Value;
 use std::alloc::Global;
 use std::marker::Model;
@@ -200,46 +200,5 @@ fn read_paths(alloc: Global, value: &Value) -> Result<Paths, Misread>
         (Some(found), None) => Ok(Paths::Patterns(found)),
         (None, Some(found)) => Ok(Paths::Prefixes(found)),
         _ => Err(Misread::Malformed),
-    }
-}
-
-/// The delegations of a targets file.
-#[derive(Drop)]
-pub struct Delegations {
-    ring: KeyRing,
-    roles: Items<Delegation>,
-}
-
-impl Model for Delegations {
-    ghost use Rattle.meta.specs.Metadata as spec;
-
-    ghost Value = { spec.Delegations };
-
-    ghost view = { λ a. record { ring = a.ring; roles = a.roles } };
-}
-
-impl Delegations {
-    /// The keys of the file, for the roles that it delegates to.
-    pub fn ring(&self) -> &KeyRing
-        ensures value { result.now ≡ self.now.ring }
-    {
-        &self.ring
-    }
-
-    /// The delegations, in order.
-    pub fn roles(&self) -> &[Delegation]
-        ensures value { result.now ≡ self.now.roles }
-    {
-        self.roles.as_slice()
-    }
-}
-
-impl FromJson for Delegations {
-    ghost form = { spec.delegations };
-
-    fn from_json(alloc: Global, value: &Value) -> Result<Delegations, Misread> {
-        let ring = needed(alloc, value, "keys")?;
-        let roles = needed(alloc, value, "roles")?;
-        Ok(Delegations { ring, roles })
     }
 }

@@ -33,8 +33,6 @@ pub enum Fault {
     Rollback = 10,
     /// The file expires no later than the moment.
     Expired = 11,
-    /// The targets file delegates to succinct roles.
-    SuccinctRoles = 12,
 }
 
 /// Why a document was not read as a file of its kind.
@@ -43,9 +41,6 @@ pub enum ReadFault {
     /// The document hasn't the form of the kind.
     #[error("not of the form")]
     Malformed,
-    /// `delegations` of a targets file is an object with `succinct_roles`.
-    #[error("succinct roles")]
-    SuccinctRoles,
     /// Memory was refused.
     #[error("out of memory")]
     NoMemory,
@@ -87,7 +82,6 @@ impl From<ReadFault> for Stop {
     fn from(fault: ReadFault) -> Stop {
         match fault {
             ReadFault::Malformed => Stop::Refused(Fault::Malformed),
-            ReadFault::SuccinctRoles => Stop::Refused(Fault::SuccinctRoles),
             ReadFault::NoMemory => Stop::NoMemory,
         }
     }

@@ -2,8 +2,10 @@
 //! from it.
 #![tactic(auto)]
 
+mod bins;
 mod content;
 mod delegation;
+mod delegations;
 mod fault;
 mod hashes;
 mod header;
@@ -16,8 +18,10 @@ mod snapshot;
 mod targets;
 mod timestamp;
 
+pub use bins::Bins;
 pub use content::{Content, refuse_if};
-pub use delegation::{Delegation, Delegations, HashPrefix, PathPattern, Paths};
+pub use delegation::{Delegation, HashPrefix, PathPattern, Paths};
+pub use delegations::{Delegations, Roles};
 pub use fault::{Fault, ReadFault, Stop};
 pub use hashes::Hashes;
 pub use header::Header;

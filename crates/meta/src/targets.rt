@@ -8,7 +8,7 @@ ghost use Rattle.cjson.specs.Reads.{Reads};
 ghost use Rattle.cjson.specs.DocOf.{doc_of};
 
 use crate::content::Content;
-use crate::delegation::Delegations;
+use crate::delegations::Delegations;
 use crate::fault::{ReadFault, Stop};
 use crate::hashes::Hashes;
 use crate::header::{Header, read_header};
@@ -146,23 +146,11 @@ impl Targets {
     }
 }
 
-/// Reads a document as a targets file (TUF 1.0 section 4.5); succinct roles are asked first.
+/// Reads a document as a targets file (TUF 1.0 section 4.5).
 pub fn read_targets(alloc: Global, doc: &Doc) -> Result<Targets, ReadFault>
     ensures read { ReadsFile (targets_of (doc_of doc.now)) result }
 {
-    let signed = doc.tree();
-    if has_succinct_roles(signed) {
-        return Err(ReadFault::SuccinctRoles);
-    }
-    Ok(parse(alloc, signed)?)
-}
-
-fn has_succinct_roles(value: &Value) -> bool
-    ensures { result ≡ spec.has_succinct_roles (view value.now) }
-{
-    value
-        .get("delegations")
-        .is_some_and(|found| found.get("succinct_roles").is_some())
+    Ok(parse(alloc, doc.tree())?)
 }
 
 fn parse(alloc: Global, value: &Value) -> Result<Targets, Misread>

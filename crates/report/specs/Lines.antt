@@ -2,7 +2,7 @@
 use Rattle.std.specs.Prelude.{ℕ, List, [], ◌∷◌, ◌++◌, flat_map, zip, codes, decimal}
 use Rattle.std.specs.List.{enumerate_from}
 use Rattle.meta.specs.declared.fault.Fault.{Fault}
-use Rattle.meta.specs.declared.fault.Fault.TheVariants.{NotListed, Missing, TooLong, LengthWrong, HashWrong, NoKnownHash, Malformed, Unsigned, VersionWrong, Rollback, Expired, SuccinctRoles}
+use Rattle.meta.specs.declared.fault.Fault.TheVariants.{NotListed, Missing, TooLong, LengthWrong, HashWrong, NoKnownHash, Malformed, Unsigned, VersionWrong, Rollback, Expired}
 use Rattle.rolechain.specs.declared.end.Step.{Step}
 use Rattle.rolechain.specs.declared.end.Step.TheVariants.{Root, Timestamp, Snapshot, Targets}
 use Rattle.rolechain.specs.declared.end.End.{End}
@@ -39,7 +39,6 @@ fault_word Unsigned = codes "Unsigned"
 fault_word VersionWrong = codes "VersionWrong"
 fault_word Rollback = codes "Rollback"
 fault_word Expired = codes "Expired"
-fault_word SuccinctRoles = codes "SuccinctRoles"
 
 -- ---- lines
 

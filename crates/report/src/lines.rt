@@ -224,7 +224,6 @@ fn fault_name(fault: Fault) -> &'static str
         Fault::VersionWrong => "VersionWrong",
         Fault::Rollback => "Rollback",
         Fault::Expired => "Expired",
-        Fault::SuccinctRoles => "SuccinctRoles",
     }
 }
 

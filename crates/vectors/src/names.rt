@@ -3,9 +3,12 @@
 use crate::plain::{told, yes_or_no};
 use crate::{searches, verdicts};
 use anyhow::Result;
-use deleg::{matches, prefix_matches};
+use cjson::form::FromJson;
+use deleg::{bin_name, matches, prefix_matches};
 use folder::joined;
+use meta::Bins;
 use meta::names::{hashed, role_name, root_name, versioned};
+use serde_json::json;
 use sessions::Step;
 use std::alloc::Global;
 
@@ -14,6 +17,7 @@ pub fn given(alloc: Global, step: &Step) -> Result<Option<String>> {
     let text = match step.name()? {
         "matches" => told(alloc, matches(step.word(0)?, step.word(1)?))?,
         "prefix" => told(alloc, prefix_matches(step.word(0)?, step.word(1)?))?,
+        "bin" => bin(alloc, step)?,
         "stars" => stars(alloc, step.word(0)?.parse::<u32>()?)?,
         "root-name" => line(alloc, root_name(alloc, step.word(0)?.parse::<u64>()?)?)?,
         "role-name" => line(alloc, role_name(alloc, step.word(0)?)?)?,
@@ -30,6 +34,19 @@ pub fn given(alloc: Global, step: &Step) -> Result<Option<String>> {
 
 fn line(alloc: Global, name: String) -> Result<String> {
     Ok(format!(in alloc; "{name}\n")?)
+}
+
+/// The name of the path's bin, where so many bits of a digest tell one.
+fn bin(alloc: Global, step: &Step) -> Result<String> {
+    let bits = step.word(0)?.parse::<u64>()?;
+    let value = json!(in alloc; {
+        "bit_length": bits,
+        "keyids": [],
+        "name_prefix": step.word(1)?,
+        "threshold": 1
+    })?;
+    let bins = Bins::from_json(alloc, &value)?;
+    line(alloc, bin_name(alloc, &bins, step.word(2)?)?)
 }
 
 /// The name of a file of a version, under consistent snapshots or not.

@@ -8,7 +8,7 @@ use crate::signed::{changed, file, good};
 use anyhow::{Result, bail};
 use keys::{KeyRing, RoleKeys};
 use meta::{
-    Delegation, Hashes, Header, Listing, Part, Paths, Reading, Root, Snapshot, Stop, Target,
+    Delegation, Hashes, Header, Listing, Part, Paths, Reading, Roles, Root, Snapshot, Stop, Target,
     Targets, Timestamp,
 };
 use sessions::Step;
@@ -137,7 +137,7 @@ impl Shown for Targets {
             return Ok(());
         };
         push_keys(alloc, text, delegations.ring())?;
-        push_delegations(text, delegations.roles())
+        push_delegated(text, delegations.roles())
     }
 }
 
@@ -178,6 +178,16 @@ fn push_target(alloc: Global, text: &mut String, target: &Target) -> Result<()> 
         target.length()
     )?;
     push_hashes(alloc, text, target.hashes())
+}
+
+fn push_delegated(text: &mut String, roles: &Roles) -> Result<()> {
+    match roles {
+        Roles::Listed(roles) => push_delegations(text, roles.as_slice()),
+        Roles::Binned(bins) => {
+            write!(text, "bins {} {:?} ", bins.bits(), bins.prefix())?;
+            push_role(text, bins.keys())
+        }
+    }
 }
 
 fn push_delegations(text: &mut String, roles: &[Delegation]) -> Result<()> {

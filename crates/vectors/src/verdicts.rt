@@ -72,7 +72,6 @@ fn fault_of(name: &str) -> Result<Fault> {
         "VersionWrong" => Fault::VersionWrong,
         "Rollback" => Fault::Rollback,
         "Expired" => Fault::Expired,
-        "SuccinctRoles" => Fault::SuccinctRoles,
         _ => bail!("no such fault"),
     })
 }

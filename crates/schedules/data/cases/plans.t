@@ -35,3 +35,12 @@ A role that no wanted path leads to is not asked about: b for x/1, and a for y/1
   7 questions, 7 true
   $ plan shared 4096
   4 questions, 4 true
+
+Of hash bins those are asked about in which wanted paths lie, each once, where they are written: the bin of x/2 isn't, and abc and x/1 lie in one each. Timestamp, snapshot, targets and two bins make five, and the targets' digests seven.
+  $ make bins
+  $ plan bins 4096 abc
+  5 questions, 5 true
+  $ plan bins 4096 abc x/1 abc x/2
+  7 questions, 7 true
+  $ plan bins 4096 x/2
+  3 questions, 3 true

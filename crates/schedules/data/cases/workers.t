@@ -74,3 +74,12 @@ A repository with a second root and delegations: ten checks. The work in order a
   $ counts shared 0 0 open x/1 y/1
   planned 0, taken over 0, alone 15
   late 0
+
+Hash bins: seven checks, which the workers answer. The listed digests of snapshot, targets and two bins are decided alone.
+  $ make bins
+  $ counts bins 2 4096 all-left=7 abc x/1
+  planned 7, taken over 7, alone 4
+  late 0
+  $ agrees bins 8 4096 random=2 abc x/1 x/2
+  yes
+  late 0

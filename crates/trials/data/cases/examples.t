@@ -252,3 +252,59 @@ A client that begins anew takes it.
   root 1
   end ready
   ok "abc.txt" 3 "targets"
+
+bins.script: sixteen hash bins. A path that no bin lists is nowhere.
+  $ make
+  > key 1 5
+  > key 2 5
+  > key 3 5
+  > key 4 5
+  > key 5 5
+  > top root 1 1
+  > top timestamp 1 2
+  > top snapshot 1 3
+  > top targets 1 4
+  > write root 1 1
+  > succinct targets 1 5 4 bin
+  > target bin-6 abc.txt 616263 sha256
+  > target bin-5 docs/hello 6869 sha256
+  > target bin-3 faq.txt 72656164 sha256
+  > target bin-9 apps/game 67616d65 sha256
+  > target bin-7 readme 6d65 sha256
+  > write bin-0 1 5
+  > write bin-1 1 5
+  > write bin-2 1 5
+  > write bin-3 1 5
+  > write bin-4 1 5
+  > write bin-5 1 5
+  > write bin-6 1 5
+  > write bin-7 1 5
+  > write bin-8 1 5
+  > write bin-9 1 5
+  > write bin-a 1 5
+  > write bin-b 1 5
+  > write bin-c 1 5
+  > write bin-d 1 5
+  > write bin-e 1 5
+  > write bin-f 1 5
+  > write targets 1 4
+  > write snapshot 1 3
+  > write timestamp 1 2
+  $ init one
+  root 1
+  $ by 0,1,4,8,64 one two abc.txt docs/hello faq.txt apps/game readme none
+  root 1
+  end ready
+  role "bin-1" 1
+  role "bin-3" 1
+  role "bin-5" 1
+  role "bin-6" 1
+  role "bin-7" 1
+  role "bin-9" 1
+  ok "abc.txt" 3 "bin-6"
+  ok "docs/hello" 2 "bin-5"
+  ok "faq.txt" 4 "bin-3"
+  ok "apps/game" 4 "bin-9"
+  ok "readme" 2 "bin-7"
+  no "none" NotFound
+  [1]

@@ -70,3 +70,124 @@ A folder that can't be written.
   $ tufcheck make script script
   ! tufcheck: output
   [4]
+
+A role has bins or delegations, and not both. The line that comes second can't be followed.
+  $ put script
+  > key 1 5
+  > top targets 1 1
+  > succinct targets 1 1 8 bin
+  > delegate targets a 1 1 go paths *
+  >
+  $ tufcheck make script made
+  ! tufcheck: script 4
+  [3]
+  $ put script
+  > key 1 5
+  > top targets 1 1
+  > delegate targets a 1 1 go paths *
+  > succinct a 1 1 8 bin
+  > succinct targets 1 1 8 bin
+  >
+  $ tufcheck make script made
+  ! tufcheck: script 5
+  [3]
+
+No bits, too many, a prefix with a slash, and a role that isn't there.
+  $ put script
+  > key 1 5
+  > top targets 1 1
+  > succinct targets 1 1 0 bin
+  >
+  $ tufcheck make script made
+  ! tufcheck: script 3
+  [3]
+  $ put script
+  > key 1 5
+  > top targets 1 1
+  > succinct targets 1 1 33 bin
+  >
+  $ tufcheck make script made
+  ! tufcheck: script 3
+  [3]
+  $ put script
+  > key 1 5
+  > top targets 1 1
+  > succinct targets 1 1 8 a/b
+  >
+  $ tufcheck make script made
+  ! tufcheck: script 3
+  [3]
+  $ put script
+  > key 1 5
+  > succinct targets 1 1 8 bin
+  >
+  $ tufcheck make script made
+  ! tufcheck: script 2
+  [3]
+
+Names that no bin has: another prefix, too few digits, too many, capitals, no digits, and a number that is too great.
+  $ put script
+  > key 1 5
+  > top targets 1 1
+  > succinct targets 1 1 9 bin
+  > write bin-000 1 1
+  > write bin-1ff 1 1
+  > write bon-000 1 1
+  >
+  $ tufcheck make script made
+  ! tufcheck: script 6
+  [3]
+  $ put script
+  > key 1 5
+  > top targets 1 1
+  > succinct targets 1 1 9 bin
+  > write bin-00 1 1
+  >
+  $ tufcheck make script made
+  ! tufcheck: script 4
+  [3]
+  $ put script
+  > key 1 5
+  > top targets 1 1
+  > succinct targets 1 1 9 bin
+  > write bin-0000 1 1
+  >
+  $ tufcheck make script made
+  ! tufcheck: script 4
+  [3]
+  $ put script
+  > key 1 5
+  > top targets 1 1
+  > succinct targets 1 1 9 bin
+  > write bin-0FF 1 1
+  >
+  $ tufcheck make script made
+  ! tufcheck: script 4
+  [3]
+  $ put script
+  > key 1 5
+  > top targets 1 1
+  > succinct targets 1 1 9 bin
+  > write bin-0-0 1 1
+  >
+  $ tufcheck make script made
+  ! tufcheck: script 4
+  [3]
+  $ put script
+  > key 1 5
+  > top targets 1 1
+  > succinct targets 1 1 9 bin
+  > write bin-200 1 1
+  >
+  $ tufcheck make script made
+  ! tufcheck: script 4
+  [3]
+  $ put script
+  > key 1 5
+  > top targets 1 1
+  > succinct targets 1 1 9 bin
+  > write bin 1 1
+  >
+  $ tufcheck make script made
+  ! tufcheck: script 4
+  [3]

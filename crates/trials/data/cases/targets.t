@@ -151,14 +151,42 @@ An empty list of paths.
   end ready
   ok "abc.txt" 3 "targets"
 
-Succinct roles.
+Hash bins, hash bins of no form, both bins and roles, and neither. A path that the file itself lists is in no bin.
+  $ copy good metadata/targets.json
+  $ change metadata/targets.json 4
+  > "expires"
+  > "delegations":{"keys":{},"succinct_roles":{"bit_length":8,"keyids":[],"name_prefix":"a","threshold":1}},"expires"
+  $ verify old new abc.txt abd
+  root 1
+  end ready
+  ok "abc.txt" 3 "targets"
+  no "abd" NotListed "a-a5"
+  [1]
   $ copy good metadata/targets.json
   $ change metadata/targets.json 4
   > "expires"
   > "delegations":{"keys":{},"succinct_roles":{}},"expires"
   $ verify old new abc.txt
   root 1
-  end targets SuccinctRoles
+  end targets Malformed
+  no "abc.txt" NotSearched
+  [2]
+  $ copy good metadata/targets.json
+  $ change metadata/targets.json 4
+  > "expires"
+  > "delegations":{"keys":{},"roles":[],"succinct_roles":{"bit_length":8,"keyids":[],"name_prefix":"a","threshold":1}},"expires"
+  $ verify old new abc.txt
+  root 1
+  end targets Malformed
+  no "abc.txt" NotSearched
+  [2]
+  $ copy good metadata/targets.json
+  $ change metadata/targets.json 4
+  > "expires"
+  > "delegations":{"keys":{}},"expires"
+  $ verify old new abc.txt
+  root 1
+  end targets Malformed
   no "abc.txt" NotSearched
   [2]
 

@@ -202,16 +202,76 @@ Delegations.
   > "k":1
   Malformed
 
-Succinct roles are told before what else is at fault.
+Hash bins: both members, neither of them, and other forms.
   $ read targets
   > "roles":[
-  > "succinct_roles":{},"roles":[
-  SuccinctRoles
+  > "succinct_roles":{"keyids":["k"],"threshold":1,"bit_length":8,"name_prefix":"bin"},"roles":[
+  Malformed
+  $ read targets
+  > "roles":[
+  > "role":[
+  Malformed
   $ read targets
   > "roles":[
   > "succinct_roles":null,"role":[
-  SuccinctRoles
+  Malformed
   $ read targets
-  > "keys":{"k":{}}
-  > "succinct_roles":1
-  SuccinctRoles
+  > "roles":[
+  > "succinct_roles":1,"role":[
+  Malformed
+  $ read targets
+  > "roles":[
+  > "succinct_roles":[],"role":[
+  Malformed
+  $ read targets
+  > "roles":[
+  > "succinct_roles":{"threshold":1,"bit_length":8,"name_prefix":"bin"},"role":[
+  Malformed
+  $ read targets
+  > "roles":[
+  > "succinct_roles":{"keyids":1,"threshold":1,"bit_length":8,"name_prefix":"bin"},"role":[
+  Malformed
+  $ read targets
+  > "roles":[
+  > "succinct_roles":{"keyids":[1],"threshold":1,"bit_length":8,"name_prefix":"bin"},"role":[
+  Malformed
+  $ read targets
+  > "roles":[
+  > "succinct_roles":{"keyids":["k"],"bit_length":8,"name_prefix":"bin"},"role":[
+  Malformed
+  $ read targets
+  > "roles":[
+  > "succinct_roles":{"keyids":["k"],"threshold":0,"bit_length":8,"name_prefix":"bin"},"role":[
+  Malformed
+  $ read targets
+  > "roles":[
+  > "succinct_roles":{"keyids":["k"],"threshold":1,"name_prefix":"bin"},"role":[
+  Malformed
+  $ read targets
+  > "roles":[
+  > "succinct_roles":{"keyids":["k"],"threshold":1,"bit_length":0,"name_prefix":"bin"},"role":[
+  Malformed
+  $ read targets
+  > "roles":[
+  > "succinct_roles":{"keyids":["k"],"threshold":1,"bit_length":33,"name_prefix":"bin"},"role":[
+  Malformed
+  $ read targets
+  > "roles":[
+  > "succinct_roles":{"keyids":["k"],"threshold":1,"bit_length":-8,"name_prefix":"bin"},"role":[
+  Malformed
+  $ read targets
+  > "roles":[
+  > "succinct_roles":{"keyids":["k"],"threshold":1,"bit_length":1.5,"name_prefix":"bin"},"role":[
+  Malformed
+  $ read targets
+  > "roles":[
+  > "succinct_roles":{"keyids":["k"],"threshold":1,"bit_length":"8","name_prefix":"bin"},"role":[
+  Malformed
+  $ read targets
+  > "roles":[
+  > "succinct_roles":{"keyids":["k"],"threshold":1,"bit_length":8},"role":[
+  Malformed
+  $ read targets
+  > "roles":[
+  > "succinct_roles":{"keyids":["k"],"threshold":1,"bit_length":8,"name_prefix":1},"role":[
+  Malformed

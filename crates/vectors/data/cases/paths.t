@@ -84,3 +84,45 @@ Names below a folder.
   c
   $ joined / c
   //c
+
+The bin of a path: the first bits of its SHA-256 as a number in lower-case hexadecimal, with as many digits as the greatest number of so many bits has. That of abc is ba7816bf.., that of x/1 is 6e342990.., and those of the others are computed by another program.
+  $ bin 1 bin abc
+  bin-1
+  $ bin 4 bin abc
+  bin-b
+  $ bin 8 bin abc
+  bin-ba
+  $ bin 9 bin abc
+  bin-174
+  $ bin 10 bin abc
+  bin-2e9
+  $ bin 32 bin abc
+  bin-ba7816bf
+  $ bin 16 bin p/43377
+  bin-0007
+  $ bin 8 bin ""
+  bin-e3
+  $ bin 1 bin x/1
+  bin-0
+  $ bin 2 bin x/1
+  bin-1
+  $ bin 3 bin x/1
+  bin-3
+  $ bin 5 bin x/1
+  bin-0d
+  $ bin 31 bin x/1
+  bin-371a14c8
+  $ bin 32 bin x/1
+  bin-6e342990
+  $ bin 8 "" abc
+  -ba
+  $ bin 8 a/b abc
+  a/b-ba
+  $ bin 8 a- abc
+  a--ba
+  $ bin 17 bin docs/hello
+  bin-0bb4d
+  $ bin 12 bin p
+  bin-148
+  $ bin 13 bin p
+  bin-0291

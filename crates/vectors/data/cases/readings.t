@@ -250,3 +250,41 @@ No delegations.
   sha256 ba7816bf8f01cfea414140de5dae2223b00361a396177a9cb410ff61f20015ad
   no delegations
   same bytes: yes
+
+Hash bins in place of roles: any prefix, 1 to 32 bits, and members that say nothing.
+  $ read targets
+  > "roles":[
+  > "succinct_roles":{"keyids":["k"],"threshold":1,"bit_length":8,"name_prefix":"bin"},"role":[
+  version 7, expires day 21915 second 0
+  target "c/abc.txt" length 3
+  sha256 ba7816bf8f01cfea414140de5dae2223b00361a396177a9cb410ff61f20015ad
+  keys 0
+  bins 8 "bin" 1 of "k"
+  same bytes: yes
+  $ read targets
+  > "roles":[
+  > "succinct_roles":{"keyids":["l","k","l"],"threshold":2,"bit_length":1,"name_prefix":"bin"},"role":[
+  version 7, expires day 21915 second 0
+  target "c/abc.txt" length 3
+  sha256 ba7816bf8f01cfea414140de5dae2223b00361a396177a9cb410ff61f20015ad
+  keys 0
+  bins 1 "bin" 2 of "l" "k" "l"
+  same bytes: yes
+  $ read targets
+  > "roles":[
+  > "succinct_roles":{"keyids":["k"],"threshold":1,"bit_length":32,"name_prefix":"","terminating":1},"role":[
+  version 7, expires day 21915 second 0
+  target "c/abc.txt" length 3
+  sha256 ba7816bf8f01cfea414140de5dae2223b00361a396177a9cb410ff61f20015ad
+  keys 0
+  bins 32 "" 1 of "k"
+  same bytes: yes
+  $ read targets
+  > "roles":[
+  > "succinct_roles":{"keyids":[],"threshold":1,"bit_length":8,"name_prefix":"../a b"},"role":[
+  version 7, expires day 21915 second 0
+  target "c/abc.txt" length 3
+  sha256 ba7816bf8f01cfea414140de5dae2223b00361a396177a9cb410ff61f20015ad
+  keys 0
+  bins 8 "../a b" 1 of
+  same bytes: yes

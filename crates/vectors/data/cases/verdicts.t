@@ -55,5 +55,3 @@ Faults of files.
   no "p" Rollback
   $ verdict 70 Expired
   no "p" Expired
-  $ verdict 70 SuccinctRoles
-  no "p" SuccinctRoles

@@ -1,4 +1,4 @@
-use Rattle.std.proofs.Common.{◌∙◌, arith}
+use Rattle.std.proofs.Common.{◌∙◌, refl, arith}
 use Rattle.deleg.specs.Values.{edge_of, quest_of}
 use Rattle.deleg.proofs.Stack.{taken_same, taken_whole, taken_over, taken_next, nothing_left}
 use Rattle.deleg.proofs.walk.next_frame.Goals as goal
@@ -10,12 +10,12 @@ loop-frame-preserved c =
 pub returns-then-is_visited-clause-none : goal.returns-then-is_visited-clause-none
 returns-then-is_visited-clause-none c =
     c.loop-frame.invariant
-    ∙ taken_over (quest_of c.args.quest.now) c.args.seen.now c.loop-frame.stack.items c.pop.new.self.items c.in-Some.frame c.pass.new.self (edge_of c.in-Some-next.edge) c.name.result.now c.in-Some.ensures.items c.pass.ensures c.in-Some-next.ensures
-    c.name.ensures.value c.if-is_visited.ensures
+    ∙ taken_over (quest_of c.args.quest.now) c.args.seen.now c.loop-frame.stack.items c.pop.new.self.items c.in-Some.frame c.pass.new.self (edge_of c.in-Some-next.edge) c.in-Some-next.edge.name.now c.in-Some.ensures.items c.pass.ensures c.in-Some-next.ensures
+    refl c.if-is_visited.ensures
 
 pub returns-in-Some-clause-next : goal.returns-in-Some-clause-next
 returns-in-Some-clause-next c =
-    taken_next (quest_of c.args.quest.now) c.args.seen.now c.in-Some.frame c.pass.new.self (edge_of c.in-Some-next.edge) c.name.result.now c.pass.ensures c.in-Some-next.ensures c.name.ensures.value c.if-is_visited.ensures
+    taken_next (quest_of c.args.quest.now) c.args.seen.now c.in-Some.frame c.pass.new.self (edge_of c.in-Some-next.edge) c.in-Some-next.edge.name.now c.pass.ensures c.in-Some-next.ensures refl c.if-is_visited.ensures
 
 pub returns-in-Some-clause-same : goal.returns-in-Some-clause-same
 returns-in-Some-clause-same c =

@@ -1,0 +1,48 @@
+//! The names of hash bins.
+
+use std::alloc::{AllocError, Global};
+
+/// Bins that a `succinct` line has made: so many bits of a digest tell one, and their names begin with
+/// the prefix.
+#[derive(Drop)]
+pub struct Bins {
+    bits: u32,
+    prefix: String,
+}
+
+impl Bins {
+    pub fn new(alloc: Global, bits: u32, prefix: &str) -> Result<Bins, AllocError> {
+        let prefix = String::from_str(alloc, prefix)?;
+        Ok(Bins { bits, prefix })
+    }
+
+    /// Whether this is the name of one of the bins: the prefix, `-`, and its number in lower-case
+    /// hexadecimal, with as many digits as the greatest one has.
+    pub fn has(&self, name: &str) -> bool {
+        let Some((prefix, digits)) = name.rsplit_once('-') else {
+            return false;
+        };
+        let width = self.bits.div_ceil(4) as usize;
+        if prefix != self.prefix.as_str() || digits.len() != width {
+            return false;
+        }
+        match number(digits) {
+            Some(number) => number.checked_shr(self.bits).unwrap_or(0) == 0,
+            None => false,
+        }
+    }
+}
+
+/// The number of at most eight lower-case hexadecimal digits.
+fn number(digits: &str) -> Option<u64> {
+    let mut number: u64 = 0;
+    for digit in digits.bytes() {
+        let value = match digit {
+            b'0'..=b'9' => digit - b'0',
+            b'a'..=b'f' => digit - b'a' + 10,
+            _ => return None,
+        };
+        number = number.checked_mul(16)?.checked_add(u64::from(value))?;
+    }
+    Some(number)
+}
