@@ -7,6 +7,10 @@ mod folders;
 #[cfg(test)]
 mod forms;
 #[cfg(test)]
+mod judges;
+#[cfg(test)]
+mod keepers;
+#[cfg(test)]
 mod outputs;
 #[cfg(test)]
 mod seals;

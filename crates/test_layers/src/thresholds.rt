@@ -1,7 +1,8 @@
-//! A judge that is refused memory.
+//! A count of signers whose judge is refused memory.
 
+use crate::judges::Counting;
 use cjson::{NoMemory, signed_bytes};
-use keys::{Ask, Direct, Judge, KeyRing, RoleKeys, enough, key_id};
+use keys::{KeyRing, RoleKeys, enough, key_id};
 use lms::{Height, Secret};
 use serde_json::Value;
 use std::alloc::Global;
@@ -47,23 +48,6 @@ fn role(alloc: Global, one: &Signer, two: &Signer) -> Result<RoleKeys, Fail> {
     )?;
     let value = Value::from_str(alloc, json.as_str())?;
     Ok(RoleKeys::read(alloc, &value)?.ok_or("a role")?)
-}
-
-/// Answers as the plain judge does, and is refused memory at one of its asks.
-#[derive(Drop)]
-struct Counting {
-    asks: u32,
-    refused_at: u32,
-}
-
-impl Judge for Counting {
-    fn valid(&mut self, ask: &Ask) -> Result<bool, NoMemory> {
-        self.asks = self.asks.saturating_add(1);
-        if self.asks == self.refused_at {
-            return Err(NoMemory);
-        }
-        Direct.valid(ask)
-    }
 }
 
 /// What is answered of two good entries, where the judge is refused memory at an ask.
