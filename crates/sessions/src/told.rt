@@ -37,6 +37,11 @@ impl Told {
         }
     }
 
+    /// Whether the two are equal in all that they tell.
+    pub fn is(&self, other: &Told) -> bool {
+        self.status == other.status && self.out == other.out && self.err == other.err
+    }
+
     /// The lines of a session: those of standard output, those of standard error, each behind `! `,
     /// and a status other than 0 in brackets.
     pub(crate) fn lines(&self, alloc: Global) -> Result<Vec<String>> {

@@ -1,20 +1,21 @@
 //! Files with one part changed.
 
+use crate::script::script_of;
 use crate::shell::Shell;
 use anyhow::{Context, Result, bail};
 use cjson::{canonical, read_tree, signed_bytes};
 use lms::Height;
 use maker::{Signer, seal, secret};
 use serde_json::Value;
-use sessions::{Told, joined};
+use sessions::Told;
 use std::alloc::Global;
 use std::fs;
 use std::rt::{Clock, Files};
 
 /// Puts a text in the place of another where this stands first in the file. The first line is the
-/// old text, in which `...` stands for as little as may be, and the others are the new one. With
-/// the byte of a key, the change is made in what the file signs, and the key signs it under the id
-/// that signed it before.
+/// old text, in which `...` stands for as little as may be, and the others are the new one, spelled
+/// as a script's lines. With the byte of a key, the change is made in what the file signs, and the
+/// key signs it under the id that signed it before.
 pub fn change<R: Files + Clock + AllocGlobal + Clone + Drop, T>(
     shell: &Shell<'_, R, T>,
     name: &str,
@@ -25,17 +26,18 @@ pub fn change<R: Files + Clock + AllocGlobal + Clone + Drop, T>(
     let (old, new) = lines
         .split_first()
         .context("no text that is to be changed")?;
-    let new = joined(alloc, new)?;
+    let new = script_of(shell.rt, alloc, new)?;
+    let new = new.as_str().strip_suffix("\n").unwrap_or("");
     let file = fs::read(shell.rt, name)?;
     let bytes = match key {
-        None => changed(alloc, file.as_slice(), old.as_str(), new.as_str())?,
+        None => changed(alloc, file.as_slice(), old.as_str(), new)?,
         Some(key) => {
             let doc = signed_bytes(alloc, file.as_slice())?;
             let signer = Signer {
                 id: String::from_str(alloc, doc.entries().first().context("no entry")?.keyid())?,
                 secret: secret(alloc, key.as_str().parse::<u8>()?, Height::H5)?,
             };
-            let text = changed(alloc, doc.bytes(), old.as_str(), new.as_str())?;
+            let text = changed(alloc, doc.bytes(), old.as_str(), new)?;
             sealed(alloc, text.as_slice(), signer)?
         }
     };

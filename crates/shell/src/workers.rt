@@ -17,10 +17,7 @@ struct Ran {
 
 impl Ran {
     fn is(&self, other: &Ran) -> bool {
-        self.state == other.state
-            && self.told.status == other.told.status
-            && self.told.out == other.told.out
-            && self.told.err == other.told.err
+        self.state == other.state && self.told.is(&other.told)
     }
 }
 

@@ -1,0 +1,209 @@
+Files that are cut off, or made to cost: each is verified by no worker and by eight.
+
+A repository with a second root and a delegated role, in which one file at a time is cut off after 1,000 bytes, and then
+is empty. The timestamp lists how long the snapshot is, the snapshot how long the targets files are, and nothing how long
+the root and the timestamp are.
+  $ make
+  > @keys
+  > write root 1 1
+  > write root 2 1
+  > key 5 5
+  > delegate targets c 1 5 go paths p,q
+  > target c p 31 sha256
+  > target c q 32 sha256
+  > write c 1 5
+  > @files
+  $ init old
+  root 1
+  $ copy metadata/2.root.json good
+  $ pad metadata/2.root.json 1000
+  $ by 0,8 old new p
+  root 1
+  end root Malformed
+  no "p" NotSearched
+  [2]
+  $ pad metadata/2.root.json 0
+  $ by 0,8 old new p
+  root 1
+  end root Malformed
+  no "p" NotSearched
+  [2]
+  $ copy good metadata/2.root.json
+  $ copy metadata/timestamp.json good
+  $ pad metadata/timestamp.json 1000
+  $ by 0,8 old new p
+  root 2
+  end timestamp Malformed
+  no "p" NotSearched
+  [2]
+  $ pad metadata/timestamp.json 0
+  $ by 0,8 old new p
+  root 2
+  end timestamp Malformed
+  no "p" NotSearched
+  [2]
+  $ copy good metadata/timestamp.json
+  $ copy metadata/snapshot.json good
+  $ pad metadata/snapshot.json 1000
+  $ by 0,8 old new p
+  root 2
+  end snapshot LengthWrong
+  no "p" NotSearched
+  [2]
+  $ pad metadata/snapshot.json 0
+  $ by 0,8 old new p
+  root 2
+  end snapshot LengthWrong
+  no "p" NotSearched
+  [2]
+  $ copy good metadata/snapshot.json
+  $ copy metadata/targets.json good
+  $ pad metadata/targets.json 1000
+  $ by 0,8 old new p
+  root 2
+  end targets LengthWrong
+  no "p" NotSearched
+  [2]
+  $ pad metadata/targets.json 0
+  $ by 0,8 old new p
+  root 2
+  end targets LengthWrong
+  no "p" NotSearched
+  [2]
+  $ copy good metadata/targets.json
+  $ copy metadata/c.json good
+  $ pad metadata/c.json 1000
+  $ by 0,8 old new p q
+  root 2
+  end ready
+  no "p" LengthWrong "c"
+  no "q" LengthWrong "c"
+  [1]
+  $ pad metadata/c.json 0
+  $ by 0,8 old new p q
+  root 2
+  end ready
+  no "p" LengthWrong "c"
+  no "q" LengthWrong "c"
+  [1]
+  $ copy good metadata/c.json
+  $ by 0,8 old new p q
+  root 2
+  end ready
+  role "c" 1
+  ok "p" 1 "c"
+  ok "q" 1 "c"
+
+Lists in lists, and the file counted as level 1 and what it signs as level 2: to level 127, and to level 128.
+  $ copy metadata/timestamp.json good
+  $ change metadata/timestamp.json 2
+  > {"_type"
+  > {"_":[[[[[[[[[[[[[[[[[[[[[[[[[[[[[[[[[[[[[[[[[[[[[[[[[[[[[[[[[[[[[[[[[[[[[[[[[[[[[[[[[[[[[[[[[[[[[[[[[[[[[[[[[[[[[[[[[[[[[[[[[[[[[]]]]]]]]]]]]]]]]]]]]]]]]]]]]]]]]]]]]]]]]]]]]]]]]]]]]]]]]]]]]]]]]]]]]]]]]]]]]]]]]]]]]]]]]]]]]]]]]]]]]]]]]]]]]]]]]]]]]]]]]]]]]],"_type"
+  $ by 0,8 old new abc.txt
+  root 2
+  end ready
+  ok "abc.txt" 3 "targets"
+  $ copy good metadata/timestamp.json
+  $ change metadata/timestamp.json 2
+  > {"_type"
+  > {"_":[[[[[[[[[[[[[[[[[[[[[[[[[[[[[[[[[[[[[[[[[[[[[[[[[[[[[[[[[[[[[[[[[[[[[[[[[[[[[[[[[[[[[[[[[[[[[[[[[[[[[[[[[[[[[[[[[[[[[[[[[[[[[[]]]]]]]]]]]]]]]]]]]]]]]]]]]]]]]]]]]]]]]]]]]]]]]]]]]]]]]]]]]]]]]]]]]]]]]]]]]]]]]]]]]]]]]]]]]]]]]]]]]]]]]]]]]]]]]]]]]]]]]]]]]]]],"_type"
+  $ by 0,8 old new abc.txt
+  root 2
+  end timestamp Malformed
+  no "abc.txt" NotSearched
+  [2]
+  $ copy good metadata/timestamp.json
+
+Of members named twice the last one counts, and the signature has to be one of it.
+  $ change metadata/timestamp.json
+  > {"signatures"
+  > {"signed":{},"signatures"
+  $ by 0,8 old new abc.txt
+  root 2
+  end ready
+  ok "abc.txt" 3 "targets"
+  $ copy good metadata/timestamp.json
+  $ change metadata/timestamp.json
+  > ,"version":1}}
+  > ,"version":1},"signed":{}}
+  $ by 0,8 old new abc.txt
+  root 2
+  end timestamp Unsigned
+  no "abc.txt" NotSearched
+  [2]
+
+Roles in a ring, which list nothing: the search ends where each was visited, or at its limit, which counts the top-level
+role.
+  $ make
+  > @one
+  > key 5 5
+  > delegate targets a 1 5 go paths p
+  > delegate a b 1 5 go paths p
+  > delegate b c 1 5 go paths p
+  > delegate c a 1 5 go paths p
+  > write a 1 5
+  > write b 1 5
+  > write c 1 5
+  > @top
+  $ init old
+  root 1
+  $ by 0,8 old new p
+  root 1
+  end ready
+  role "a" 1
+  role "b" 1
+  role "c" 1
+  no "p" NotFound
+  [1]
+  $ by 0,8 old new --limit 3 p
+  root 1
+  end ready
+  role "a" 1
+  role "b" 1
+  no "p" LimitReached
+  [1]
+
+Entries under the key's id before the good one, in a targets file that nothing lists the length and digests of: 1,000, and
+4,100, which are more than workers look at.
+  $ make
+  > @keys
+  > write root 1 1
+  > @files
+  $ init old
+  root 1
+  $ change metadata/snapshot.json 3
+  > "hashes":{...,"version"
+  > "version"
+  $ change metadata/timestamp.json 2
+  > "hashes":{...,"version"
+  > "version"
+  $ by 0,8 old new abc.txt
+  root 1
+  end ready
+  ok "abc.txt" 3 "targets"
+  $ copy metadata/targets.json good
+  $ change metadata/targets.json
+  > {"signatures":[
+  > {"signatures":[
+  > @1000..1999 {"keyid":"3b6b7ff7d893c980c6d823ccb94d8d0d854789cb6da72104831251d469b73554","sig":"{}"},
+  $ by 0,8 old new abc.txt
+  root 1
+  end ready
+  ok "abc.txt" 3 "targets"
+  $ copy good metadata/targets.json
+  $ change metadata/targets.json
+  > {"signatures":[
+  > {"signatures":[
+  > @1000..5099 {"keyid":"3b6b7ff7d893c980c6d823ccb94d8d0d854789cb6da72104831251d469b73554","sig":"{}"},
+  $ by 0,8 old new abc.txt
+  root 1
+  end ready
+  ok "abc.txt" 3 "targets"
+  $ change metadata/targets.json
+  > ,"sig":"0
+  > ,"sig":"1
+  $ by 0,8 old new abc.txt
+  root 1
+  end targets Unsigned
+  no "abc.txt" NotSearched
+  [2]

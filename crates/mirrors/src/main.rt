@@ -1,0 +1,10 @@
+//! Runs sessions of the command line with a mirror that serves one repository after another: newer, older,
+//! changed, cut off or made to cost. It prints what [`run_sessions`] does, and takes no word.
+#![tactic(auto)]
+
+use shell::run_sessions;
+use std::process::ExitCode;
+
+fn main(rt: HostRuntime) -> ExitCode {
+    ExitCode::from(run_sessions(&rt, &rt, rt.alloc(), &mut rt.stdout(), &mut rt.stderr()))
+}
