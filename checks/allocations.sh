@@ -4,16 +4,17 @@
 #   checks/allocations.sh [FIRST [LAST [STEP]]]      1, 100000 and 1 unless given
 #
 # A run that meets the refusal must print nothing, tell `tufcheck: memory` and end with status 4, or else print all that
-# it prints with ample memory, tell nothing and end with status 0 (a sort that is refused its buffer does without, and so
+# it prints with ample memory, tell nothing and end with that status (a sort that is refused its buffer does without, and so
 # does a run with workers that is refused its plan). Where it stores a state, it must leave none or the whole one. The
 # sweep ends with the run that asks for memory fewer than N times. Swept are a run without a word, and `make`, `init`,
-# `verify` and `replay` of one repository twice (each by no worker and by two) and `--help` over examples/first.script.
+# `verify` and `replay` of one repository twice (each by no worker and by two) and `--help` over examples/first.script,
+# and `verify` (by no worker and by two) of two paths that two delegations lead to one role, which is signed for one.
 # The script ends with status 1 at the first run that does otherwise.
 #
 # `rt run` proves and builds the program, once. A small library, made with `cc`, stands before the C library's `malloc`
 # and `realloc` and refuses the Nth call. (`rt try --fail-alloc N` gives the same answers, and builds the program for
-# each N, which takes a minute or two.) The eight sweeps are 7,274 runs. Beside the merge gate the run without a word,
-# which makes and signs a repository each time, took eight minutes, and the others together some five.
+# each N, which takes a minute or two.) The ten sweeps are 9,948 runs. Beside the merge gate the run without a word,
+# which makes and signs a repository each time, took eight minutes, and the others together some six.
 set -u
 first=${1:-1} last=${2:-100000} step=${3:-1}
 top=$(cd "$(dirname "$0")/.." && pwd) || exit 2
@@ -48,10 +49,11 @@ void *realloc(void *old, size_t size) {
 END
 cc -shared -fPIC -O1 -o "$work/refuse.so" "$work/refuse.c" -ldl || exit 2
 (cd "$top/crates/tufcheck" && rt run) > "$work/built" 2>&1 || { tail -5 "$work/built"; exit 2; }
-cp "$top/crates/tufcheck/out/tufcheck" "$top/examples/first.script" "$work" && cd "$work" || exit 2
+cp "$top/crates/tufcheck/out/tufcheck" "$top/examples/first.script" "$top/crates/schedules/data/cases/shared.script" "$work" && cd "$work" || exit 2
 
-# sweep NAME FILE STATE WORD..: sweeps the run with those words, which with ample memory prints that file and, where
-# it makes a file `new`, stores that state there.
+# sweep NAME FILE STATE WORD..: sweeps the run with those words, which with ample memory prints that file, ends with the
+# status $good and, where it makes a file `new`, stores that state there.
+good=0
 sweep() {
     local name=$1 wanted=$2 state=$3 whole=0 n status
     shift 3
@@ -59,7 +61,7 @@ sweep() {
         rm -f met new
         REFUSED=$n LD_PRELOAD="$work/refuse.so" ./tufcheck "$@" > printed 2> told
         status=$?
-        if [ $status = 0 ] && [ ! -s told ] && cmp -s printed "$wanted"; then
+        if [ $status = $good ] && [ ! -s told ] && cmp -s printed "$wanted"; then
             [ -e met ] || break
             whole=$((whole + 1))
         elif [ $status != 4 ] || [ -s printed ] || [ "$(cat told)" != "tufcheck: memory" ]; then
@@ -96,3 +98,14 @@ for workers in 0 2; do
     sweep "replay by $workers workers" cycles current "${replayed[@]}" --workers $workers
 done
 sweep help help none --help
+
+./tufcheck make shared.script both || exit 2
+./tufcheck init both/metadata/1.root.json --out old > /dev/null || exit 2
+verified=(verify --state old --metadata both/metadata --targets both/targets --now 2026-01-01T00:00:00Z --out new x/1 y/1)
+printf 'root 2\nend ready\nrole "a" 1\nrole "b" 1\nrole "c" 1\nok "x/1" 1 "c"\nno "y/1" Unsigned "c"\n' > lines
+./tufcheck "${verified[@]}" > verified
+mv new current
+good=1
+for workers in 0 2; do
+    sweep "verify of two delegations by $workers workers" lines current "${verified[@]}" --workers $workers
+done

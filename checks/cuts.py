@@ -1,0 +1,99 @@
+#!/usr/bin/env python3
+"""Cuts each metadata file of a repository off at each length from one byte less than the whole down to none.
+
+  checks/cuts.py [STEP]      each length unless given, else each STEPth
+
+The repository has a second root, and a delegated role that two wanted paths lead to. Its timestamp says how long the
+snapshot is, its snapshot how long the targets files are, and nothing how long the root and the timestamp are. A run of
+`tufcheck verify`, by no worker and by eight, must tell that file's fault and store the state of what stands before it.
+`rt run` in crates/tufcheck proves and builds the program. The script ends with status 1 at the first run that does
+otherwise.
+"""
+import os
+import shutil
+import subprocess
+import sys
+import tempfile
+from concurrent.futures import ThreadPoolExecutor
+
+TOP = os.path.dirname(os.path.dirname(os.path.abspath(__file__)))
+PROGRAM = f"{TOP}/crates/tufcheck/out/tufcheck"
+SCRIPT = """\
+key 1 5
+key 2 5
+key 3 5
+key 4 5
+key 5 5
+top root 1 1
+top timestamp 1 2
+top snapshot 1 3
+top targets 1 4
+write root 1 1
+write root 2 1
+delegate targets c 1 5 go paths p,q
+target c p 31 sha256
+target c q 32 sha256
+write c 1 5
+write targets 1 4
+write snapshot 1 3
+write timestamp 1 2
+"""
+STOPPED = 'no "p" NotSearched\nno "q" NotSearched\n'
+REFUSED = 'no "p" LengthWrong "c"\nno "q" LengthWrong "c"\n'
+# the lines of a cut file, its status, and the members of the state
+CASES = {
+    "2.root": (f"root 1\nend root Malformed\n{STOPPED}", 2, ["root"]),
+    "timestamp": (f"root 2\nend timestamp Malformed\n{STOPPED}", 2, ["root"]),
+    "snapshot": (f"root 2\nend snapshot LengthWrong\n{STOPPED}", 2, ["root", "timestamp"]),
+    "targets": (f"root 2\nend targets LengthWrong\n{STOPPED}", 2, ["root", "snapshot", "timestamp"]),
+    "c": (f"root 2\nend ready\n{REFUSED}", 1, ["root", "snapshot", "targets", "timestamp"]),
+}
+
+
+def run(room, *words):
+    return subprocess.run([PROGRAM, *words], cwd=room, capture_output=True, text=True, check=False)
+
+
+def state_of(files, root, members):
+    """The text of a state with those members (see docs/FORMATS.md, State file)."""
+    names = {"root": root, "snapshot": "snapshot", "targets": "targets", "timestamp": "timestamp"}
+    return "{" + ",".join(f'"{member}":"{files[names[member]].hex()}"' for member in members) + "}"
+
+
+def cut(name, step):
+    """Cuts one file at each length, and answers how many runs there were, or what went wrong."""
+    lines, status, members = CASES[name]
+    with tempfile.TemporaryDirectory() as room:
+        shutil.copytree("repo", f"{room}/repo")
+        files = {file[:-5]: open(f"repo/metadata/{file}", "rb").read() for file in os.listdir("repo/metadata")}
+        state = state_of(files, "1.root" if name == "2.root" else "2.root", members)
+        run(room, "init", "repo/metadata/1.root.json", "--out", "old")
+        lengths = range(len(files[name]) - 1, -1, -step)
+        for length in lengths:
+            os.truncate(f"{room}/repo/metadata/{name}.json", length)
+            for workers in ("0", "8"):
+                ran = run(room, "verify", "--state", "old", "--metadata", "repo/metadata", "--targets", "repo/targets",
+                          "--now", "2026-01-01T00:00:00Z", "--workers", workers, "--out", "new", "p", "q")
+                with open(f"{room}/new") as new:
+                    good = (ran.stdout, ran.returncode, ran.stderr, new.read()) == (lines, status, "", state)
+                if not good:
+                    return f"{name}.json cut to {length} bytes, {workers} workers: status {ran.returncode}\n{ran.stdout}"
+        return 2 * len(lengths)
+
+
+def main():
+    step = int(sys.argv[1]) if len(sys.argv) > 1 else 1
+    with tempfile.TemporaryDirectory() as room:
+        os.chdir(room)
+        with open("script", "w") as file:
+            file.write(SCRIPT)
+        run(".", "make", "script", "repo")
+        with ThreadPoolExecutor() as pool:
+            runs = dict(zip(CASES, pool.map(cut, CASES, [step] * len(CASES))))
+    for name, count in runs.items():
+        if not isinstance(count, int):
+            sys.exit(count)
+        print(f"{name}.json: {count} runs, all as they should be")
+
+
+main()

@@ -1,0 +1,79 @@
+#!/usr/bin/env python3
+"""Verifies targets, and roles, with each odd character in their names.
+
+  checks/names.py
+
+For each character that a file's name and a word may hold (all below 128 but NUL and the slash, and some above), a role
+`rX` lists a target `pX`, and a last word asks for a target that no role lists. All metadata is signed by the Python
+beside this script. A run of `tufcheck verify`, by no worker and by eight, must find each target and quote the names as
+docs/FORMATS.md says. `rt run` in crates/tufcheck proves and builds the program.
+"""
+import hashlib
+import os
+import subprocess
+import sys
+import tempfile
+
+import tuf
+
+TOP = os.path.dirname(os.path.dirname(os.path.abspath(__file__)))
+PROGRAM = f"{TOP}/crates/tufcheck/out/tufcheck"
+ABOVE = "\x80\x85\xa0\xad\xe9\u0301\u200b\u200e\u2028\u202e\ud7ff\ue000\ufeff\ufffd\uffff\U0001f600\U0010ffff"
+ODD = [chr(code) for code in range(1, 128) if chr(code) != "/"] + list(ABOVE)
+KEYS = [tuf.Key(1 + number) for number in range(len(ODD) // 30 + 2)]
+
+
+def quoted(name):
+    def spelled(byte):
+        plain = 0x20 <= byte < 0x7f and byte not in b'"\\'
+        return chr(byte) if plain else f"\\x{byte:02x}"
+    return '"' + "".join(map(spelled, name.encode())) + '"'
+
+
+def delegations():
+    """One delegation a role, by the hash value of its path, so that no character stands for another."""
+    roles = []
+    for number, odd in enumerate(ODD):
+        prefix = hashlib.sha256(f"p{odd}".encode()).hexdigest()
+        roles.append(tuf.delegation(f"r{odd}", KEYS[1 + number // 30], path_hash_prefixes=[prefix]))
+    return {"keys": {key.id: key.object for key in KEYS}, "roles": roles}
+
+
+def write(name, content):
+    with open(name, "wb") as file:
+        file.write(content)
+
+
+def make():
+    os.mkdir("metadata")
+    os.mkdir("targets")
+    write("metadata/1.root.json", tuf.root(KEYS[0]))
+    write("metadata/targets.json", tuf.signed(tuf.part("targets", targets={}, delegations=delegations()), KEYS[0]))
+    write("metadata/snapshot.json", tuf.snapshot(KEYS[0], ["targets"] + [f"r{odd}" for odd in ODD]))
+    write("metadata/timestamp.json", tuf.timestamp(KEYS[0]))
+    for number, odd in enumerate(ODD):
+        part = tuf.part("targets", targets={f"p{odd}": tuf.target(odd.encode())})
+        write(f"metadata/r{odd}.json", tuf.signed(part, KEYS[1 + number // 30]))
+        write(f"targets/p{odd}", odd.encode())
+
+
+def main():
+    wanted = [f"p{odd}" for odd in ODD]
+    lines = ["root 1", "end ready"]
+    lines += [f"role {quoted(role)} 1" for role in sorted((f"r{odd}" for odd in ODD), key=str.encode)]
+    lines += [f"ok {quoted(f'p{odd}')} {len(odd.encode())} {quoted(f'r{odd}')}" for odd in ODD]
+    lines += ['no "p" NotFound', ""]
+    with tempfile.TemporaryDirectory() as room:
+        os.chdir(room)
+        make()
+        subprocess.run([PROGRAM, "init", "metadata/1.root.json", "--out", "state"], check=True, capture_output=True)
+        for workers in ("0", "8"):
+            words = ["verify", "--state", "state", "--metadata", "metadata", "--targets", "targets", "--workers", workers,
+                     "--now", "2026-01-01T00:00:00Z", "--out", "new", *wanted, "p"]
+            run = subprocess.run([PROGRAM, *words], capture_output=True, check=False)
+            if run.stdout.decode().split("\n") != lines or run.returncode != 1 or run.stderr:
+                sys.exit(f"names.py: by {workers} workers: status {run.returncode}\n{run.stdout.decode()}{run.stderr.decode()}")
+    print(f"{len(ODD)} characters in names of roles and targets, by 0 and by 8 workers: all found, and quoted as they should be")
+
+
+main()

@@ -1,0 +1,107 @@
+"""Makes metadata files with LMS signatures (TUF 1.0 section 4, RFC 8554), for the scripts beside it. It shares no code with
+the crates."""
+import hashlib
+import json
+
+EXPIRES = "2030-01-01T00:00:00Z"
+
+
+def number(value, size):
+    return value.to_bytes(size, "big")
+
+
+def digest(*parts):
+    return hashlib.sha256(b"".join(parts)).digest()
+
+
+def text(value):
+    """The canonical text of a text."""
+    return ('"' + value.replace("\\", "\\\\").replace('"', '\\"') + '"').encode()
+
+
+def canonical(tree):
+    """The canonical text of a tree of objects, lists, texts, whole numbers and truth values."""
+    if isinstance(tree, dict):
+        members = sorted((key.encode(), text(key) + b":" + canonical(value)) for key, value in tree.items())
+        return b"{" + b",".join(member for _, member in members) + b"}"
+    if isinstance(tree, list):
+        return b"[" + b",".join(map(canonical, tree)) + b"]"
+    return text(tree) if isinstance(tree, str) else json.dumps(tree).encode()
+
+
+class Key:
+    """A key of LMOTS_SHA256_N32_W8 and LMS_SHA256_M32_H5, whose 32 leaves sign once each."""
+
+    def __init__(self, seed):
+        self.name = bytes([seed]) * 16
+        self.seed = bytes([seed]) * 32
+        self.used = 0
+        self.nodes = {32 + leaf: self.leaf(leaf) for leaf in range(32)}
+        for node in range(31, 0, -1):
+            below = self.nodes[2 * node], self.nodes[2 * node + 1]
+            self.nodes[node] = digest(self.name, number(node, 4), b"\x83\x83", *below)
+        public = number(5, 4) + number(4, 4) + self.name + self.nodes[1]
+        self.object = {"keytype": "lms", "keyval": {"public": public.hex()}, "scheme": "lms-sha256"}
+        self.id = digest(canonical(self.object)).hex()
+
+    def start(self, leaf, chain):
+        return digest(self.name, number(leaf, 4), number(chain, 2), b"\xff", self.seed)
+
+    def carried(self, leaf, chain, value, steps):
+        head = self.name + number(leaf, 4) + number(chain, 2)
+        for step in range(steps):
+            value = digest(head, number(step, 1), value)
+        return value
+
+    def leaf(self, leaf):
+        ends = [self.carried(leaf, chain, self.start(leaf, chain), 255) for chain in range(34)]
+        kept = digest(self.name, number(leaf, 4), b"\x80\x80", *ends)
+        return digest(self.name, number(32 + leaf, 4), b"\x82\x82", kept)
+
+    def sign(self, message):
+        leaf = self.used
+        self.used += 1
+        if leaf == 32:
+            raise ValueError("a key signs 32 times")
+        seasoning = self.start(leaf, 0xFFFD)
+        digits = digest(self.name, number(leaf, 4), b"\x81\x81", seasoning, message)
+        digits += number(sum(255 - digit for digit in digits), 2)
+        ends = [self.carried(leaf, chain, self.start(leaf, chain), steps) for chain, steps in enumerate(digits)]
+        path = [self.nodes[((32 + leaf) >> level) ^ 1] for level in range(5)]
+        return b"".join([number(leaf, 4), number(4, 4), seasoning, *ends, number(5, 4), *path])
+
+
+def signed(part, key, before=b""):
+    """The file of a signed part, with further entries before the key's. A part that is given as bytes is its canonical text;
+    a tree is spelled with escapes, since no JSON has a raw control character, and the canonical text has them raw."""
+    message = part if isinstance(part, bytes) else canonical(part)
+    spelled = part if isinstance(part, bytes) else json.dumps(part).encode()
+    entry = canonical({"keyid": key.id, "sig": key.sign(message).hex()})
+    return b'{"signatures":[' + before + entry + b'],"signed":' + spelled + b"}"
+
+
+def part(kind, version=1, **members):
+    return {"_type": kind, "expires": EXPIRES, "spec_version": "1.0.31", "version": version, **members}
+
+
+def root(key):
+    """The first root, in which one key has all roles."""
+    role = {"keyids": [key.id], "threshold": 1}
+    roles = {name: role for name in ("root", "timestamp", "snapshot", "targets")}
+    return signed(part("root", consistent_snapshot=False, keys={key.id: key.object}, roles=roles), key)
+
+
+def target(content):
+    return {"hashes": {"sha256": hashlib.sha256(content).hexdigest()}, "length": len(content)}
+
+
+def timestamp(key, version=1):
+    return signed(part("timestamp", version, meta={"snapshot.json": {"version": version}}), key)
+
+
+def snapshot(key, names, version=1):
+    return signed(part("snapshot", version, meta={f"{name}.json": {"version": 1} for name in names}), key)
+
+
+def delegation(name, key, **paths):
+    return {"keyids": [key.id], "name": name, "terminating": False, "threshold": 1, **paths}
