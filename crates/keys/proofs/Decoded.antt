@@ -8,11 +8,11 @@ use Rattle.lms.proofs.Law.{is_valid-length}
 use Rattle.keys.specs.Signers.{is_signed_by, is_valid_decoded}
 
 -- bytes that are too many
-is_valid-long : (p m s : List ℕ) (b : Bool) → is_valid p m s ≡ b → 1452 < length s → false ≡ b
+is_valid-long : (p m s : List ℕ) (b : Bool) → is_valid p m s ≡ b → 2668 < length s → false ≡ b
 is_valid-long p m s true is long = let short = is_valid-length p m s is in absurd (omega arith)
 is_valid-long p m s false is long = refl
 
-decoded-long : (p m sig : List ℕ) (d : Result (List ℕ) FromHexError) → decode_of sig ≡ d → 1452 < length sig / 2
+decoded-long : (p m sig : List ℕ) (d : Result (List ℕ) FromHexError) → decode_of sig ≡ d → 2668 < length sig / 2
     → false ≡ is_valid_decoded p m d
 decoded-long p m sig (Ok bytes) is long =
     let twice : length sig ≡ 2 * length bytes = (decode_of-ok sig bytes is).2 in
@@ -20,5 +20,5 @@ decoded-long p m sig (Ok bytes) is long =
 decoded-long p m sig (Err e) is long = refl
 
 -- a text of which half is too long is no signature
-pub long_is_unsigned : (p m sig : List ℕ) → 1452 < length sig / 2 → false ≡ is_signed_by p m sig
+pub long_is_unsigned : (p m sig : List ℕ) → 2668 < length sig / 2 → false ≡ is_signed_by p m sig
 long_is_unsigned p m sig long = decoded-long p m sig _ refl long

@@ -1,8 +1,11 @@
 pub mod Bytes
+pub mod Carrying
 pub mod Chains
 pub mod Cuts
+pub mod Ends
 pub mod Keys
 pub mod Law
 pub mod Nodes
 pub mod Rows
+pub mod Slots
 pub mod Valid

@@ -1,11 +1,13 @@
 //! One-time signatures: digits and chains.
 
-ghost use Rattle.std.specs.Prelude.{◌≡◌, ℕ, ◌+◌, ◌-◌, ◌*◌, ◌/◌, ◌^◌, ◌<◌, ◌≤◌, List, ◌∷◌, ◌++◌, length, take};
+ghost use Rattle.std.specs.Prelude.{◌≡◌, ℕ, ◌+◌, ◌-◌, ◌*◌, ◌/◌, ◌^◌, ◌<◌, ◌≤◌, List, [], ◌∷◌, ◌++◌, length, slice_index, slice_index_or, take};
 ghost use Rattle.sha2.specs.Sha256.{sha256};
 ghost use Rattle.lms.specs.Kind.{digit_bits, chain_count};
-ghost use Rattle.lms.specs.Lms.{u16str, u32str, coef, lack, checksum, digit, chain, message_digest, chain_ends, ots_key, ots_digest};
+ghost use Rattle.lms.specs.Carrying.{row_of};
+ghost use Rattle.lms.specs.Lms.{block, u16str, u32str, coef, lack, checksum, digit, chain, message_digest, chain_ends, ots_key, ots_digest};
 ghost use Rattle.lms.specs.Signer.{chain_start, leaf_key};
 
+use crate::four::{MOST_CHAINS, carry_to_ends};
 use crate::kind::Width;
 use sha2::{Digest, Sha256};
 
@@ -35,6 +37,8 @@ fn coef(s: &[u8], i: usize, width: Width) -> u8
     ensures { result ≡ coef s.now i (digit_bits width) }
 {
     match width {
+        Width::W4 if i % 2 == 0 => s[i / 2] / 16,
+        Width::W4 => s[i / 2] % 16,
         Width::W8 => s[i],
     }
 }
@@ -84,7 +88,7 @@ pub(crate) fn chain(id: &[u8; 16], q: u32, i: u16, from: u8, to: u8, start: &[u8
 }
 
 // The digest `s` and its checksum.
-pub(crate) fn with_checksum(width: Width, s: &Node) -> [u8; 34]
+fn with_checksum(width: Width, s: &Node) -> [u8; 34]
     ensures { result ≡ s.now ++ u16str (checksum width s.now) }
 {
     let mut sum: u16 = 0;
@@ -100,12 +104,73 @@ pub(crate) fn with_checksum(width: Width, s: &Node) -> [u8; 34]
 }
 
 // The digit of chain `i` in a digest that `signed` holds with its checksum.
-pub(crate) fn digit(width: Width, signed: &[u8; 34], i: usize) -> u8
+fn digit(width: Width, signed: &[u8; 34], i: usize) -> u8
     requires { i < chain_count width }
-    ensures value { (s : List ℕ) → signed.now ≡ s ++ u16str (checksum width s) → result ≡ digit width s i }
+    ensures value { (s : List ℕ) → signed.now ≡ s ++ u16str (checksum width s)
+        → result ≡ digit width s i }
     ensures bound { result < 2 ^ digit_bits width }
 {
     coef(signed, i, width)
+}
+
+// The digits of the chains in the digest `s`, and then zeros.
+pub(crate) fn digits_of(width: Width, s: &Node) -> [u8; MOST_CHAINS]
+    ensures digits { (i : ℕ) → i < chain_count width → slice_index result i ≡ digit width s.now i }
+    ensures rest { (i : ℕ) → chain_count width ≤ i → slice_index result i ≡ 0 }
+{
+    let signed = with_checksum(width, s);
+    let mut digits = [0u8; MOST_CHAINS];
+    'chains: for i in 0..usize::from(width.chain_count()) {
+        digits[i] = digit(width, &signed, i);
+    }
+    digits
+}
+
+// The greatest digit for each chain, and then zeros.
+fn tops(width: Width) -> [u8; MOST_CHAINS]
+    ensures { (i : ℕ) → i < chain_count width → slice_index result i ≡ 2 ^ digit_bits width - 1 }
+{
+    let mut tops = [0u8; MOST_CHAINS];
+    'chains: for i in 0..usize::from(width.chain_count()) {
+        tops[i] = width.top();
+    }
+    tops
+}
+
+// The `k`-th node in a row of them.
+fn node(y: &[u8], k: usize) -> Node
+    requires { 32 * k + 32 ≤ length y.now }
+    ensures { result ≡ block k y.now }
+{
+    let mut node = [0u8; 32];
+    node.copy_from_slice(&y[32 * k..32 * k + 32]);
+    node
+}
+
+// The values of the chains in a signature.
+fn nodes(width: Width, y: &[u8]) -> [Node; MOST_CHAINS]
+    requires { length y.now ≡ 32 * chain_count width }
+    ensures { (i : ℕ) → i < chain_count width → slice_index_or result i [] ≡ block i y.now }
+{
+    let mut nodes = [[0u8; 32]; MOST_CHAINS];
+    'chains: for i in 0..usize::from(width.chain_count()) {
+        nodes[i] = node(y, i);
+    }
+    nodes
+}
+
+// The one-time public key whose chains end in these values.
+fn key_of(width: Width, id: &[u8; 16], q: u32, values: &[Node; MOST_CHAINS]) -> Node
+    ensures { result ≡ ots_digest id.now q (row_of values.now (chain_count width)) }
+{
+    let mut key = Sha256::new();
+    key.update(id);
+    key.update(u32str(q));
+    key.update(u16str(D_PBLC));
+    'chains: for i in 0..usize::from(width.chain_count()) {
+        key.update(values[i]);
+    }
+    key.finalize()
 }
 
 // The public key that a one-time signature leads to.
@@ -113,24 +178,11 @@ pub(crate) fn ots_key(width: Width, id: &[u8; 16], q: u32, c: &[u8], y: &[u8], m
     requires { length y.now ≡ 32 * chain_count width }
     ensures { result ≡ ots_key width id.now q c.now y.now msg.now }
 {
-    let signed = with_checksum(width, &message_digest(id, q, c, msg));
-    let mut key = Sha256::new();
-    key.update(id);
-    key.update(u32str(q));
-    key.update(u16str(D_PBLC));
-    'chains: for i in 0..width.chain_count() {
-        let k = usize::from(i);
-        let end = chain(
-            id,
-            q,
-            i,
-            digit(width, &signed, k),
-            width.top(),
-            &y[32 * k..32 * k + 32],
-        );
-        key.update(end);
-    }
-    key.finalize()
+    let digits = digits_of(width, &message_digest(id, q, c, msg));
+    let ends = tops(width);
+    let mut values = nodes(width, y);
+    carry_to_ends(id, q, &digits, &ends, &mut values);
+    key_of(width, id, q, &values)
 }
 
 // The digest that is signed.
@@ -154,17 +206,39 @@ pub(crate) fn chain_start(id: &[u8; 16], seed: &[u8; 32], q: u32, i: u16) -> Nod
     chain_step(&mut block, 0xff, seed)
 }
 
+// Where the chains of a leaf start.
+fn starts(width: Width, id: &[u8; 16], seed: &[u8; 32], q: u32) -> [Node; MOST_CHAINS]
+    ensures { (i : ℕ) → i < chain_count width
+        → slice_index_or result i [] ≡ chain_start id.now seed.now q i }
+{
+    let mut starts = [[0u8; 32]; MOST_CHAINS];
+    'chains: for i in 0..width.chain_count() {
+        starts[usize::from(i)] = chain_start(id, seed, q, i);
+    }
+    starts
+}
+
+// The values of a leaf's chains at these digits.
+pub(crate) fn values_at(
+    width: Width,
+    id: &[u8; 16],
+    seed: &[u8; 32],
+    q: u32,
+    digits: &[u8; MOST_CHAINS],
+) -> [Node; MOST_CHAINS]
+    ensures { (i : ℕ) → i < chain_count width → slice_index_or result i []
+        ≡ chain id.now q i 0 (slice_index digits.now i) (chain_start id.now seed.now q i) }
+{
+    let none = [0u8; MOST_CHAINS];
+    let mut values = starts(width, id, seed, q);
+    carry_to_ends(id, q, &none, digits, &mut values);
+    values
+}
+
 // The one-time public key of a leaf.
 pub(crate) fn leaf_key(width: Width, id: &[u8; 16], seed: &[u8; 32], q: u32) -> Node
     ensures { result ≡ leaf_key width id.now seed.now q }
 {
-    let mut key = Sha256::new();
-    key.update(id);
-    key.update(u32str(q));
-    key.update(u16str(D_PBLC));
-    'chains: for i in 0..width.chain_count() {
-        let start = chain_start(id, seed, q, i);
-        key.update(chain(id, q, i, 0, width.top(), &start));
-    }
-    key.finalize()
+    let values = values_at(width, id, seed, q, &tops(width));
+    key_of(width, id, q, &values)
 }

@@ -2,13 +2,13 @@
 
 ghost use Rattle.std.specs.Prelude.{◌≡◌, ◌↔◌, ℕ, ◌+◌, ◌-◌, ◌*◌, ◌^◌, ◌<◌, ◌≤◌, List, [], ◌++◌, IsTrue, OnOk, OnErr, IfOk, length, slice_index_or};
 ghost use Rattle.lms.specs.Kind.{chain_count, levels};
+ghost use Rattle.lms.specs.Carrying.{row_of};
 ghost use Rattle.lms.specs.Lms.{is_valid, message_digest};
 ghost use Rattle.lms.specs.Signer.{IsTree, chain_start, leaf_key, path_of, public_of, randomizer, sibling, signature_by, signed_chains, tree};
 
+use crate::four::MOST_CHAINS;
 use crate::kind::{Height, Kind, Width};
-use crate::ots::{
-    Node, chain, chain_start, digit, leaf_key, message_digest, u32str, with_checksum,
-};
+use crate::ots::{Node, chain_start, digits_of, leaf_key, message_digest, u32str, values_at};
 use crate::tree::{inner, leaf};
 use crate::verifier::Public;
 use cjson::NoMemory;
@@ -90,6 +90,20 @@ fn put_inner(nodes: &mut [Node], kind: Kind, id: &[u8; 16], seed: &[u8; 32])
     }
 }
 
+// Appends the first values, one for each chain.
+fn push_values(
+    sig: &mut Vec<u8>,
+    width: Width,
+    values: &[Node; MOST_CHAINS],
+) -> Result<(), AllocError>
+    ensures { OnOk result (sig.new.items ≡ sig.old.items ++ row_of values.now (chain_count width)) }
+{
+    'chains: for i in 0..usize::from(width.chain_count()) {
+        sig.extend_from_slice(&values[i])?;
+    }
+    Ok(())
+}
+
 // Appends each chain's value at its digit.
 fn push_chains(
     sig: &mut Vec<u8>,
@@ -102,13 +116,8 @@ fn push_chains(
     ensures { OnOk result (sig.new.items ≡ sig.old.items
         ++ signed_chains width id.now seed.now q s.now (chain_count width)) }
 {
-    let signed = with_checksum(width, s);
-    'chains: for i in 0..width.chain_count() {
-        let start = chain_start(id, seed, q, i);
-        let value = chain(id, q, i, 0, digit(width, &signed, usize::from(i)), &start);
-        sig.extend_from_slice(&value)?;
-    }
-    Ok(())
+    let values = values_at(width, id, seed, q, &digits_of(width, s));
+    push_values(sig, width, &values)
 }
 
 // The other child of a node's parent.
@@ -136,8 +145,8 @@ fn push_path(sig: &mut Vec<u8>, nodes: &[Node], height: Height, q: u32) -> Resul
 }
 
 impl Secret {
-    /// The key of height `h` whose identifier is `i` and whose one-time keys are made from `secret` (RFC 8554 sections
-    /// 4.2, 5.2 and appendix A).
+    /// The key of W8 and height `h` whose identifier is `i` and whose one-time keys are made from `secret` (RFC 8554
+    /// sections 4.2, 5.2 and appendix A).
     pub fn new(alloc: Global, i: [u8; 16], secret: [u8; 32], h: Height) -> Result<Secret, NoMemory>
         ensures key { IfOk result (λ s. s ≡ record {
           kind = record { width = Width.W8; height = h };
@@ -146,8 +155,29 @@ impl Secret {
           used = 0;
         }) }
     {
+        Secret::of(alloc, i, secret, Width::W8, h)
+    }
+
+    /// The key of width `w` and height `h` whose identifier is `i` and whose one-time keys are made from `secret` (RFC
+    /// 8554 sections 4.2, 5.2 and appendix A).
+    ///
+    /// It makes 2^h one-time keys of some 8,700 hashes (W8) or 1,100 (W4) each, and keeps 64 bytes for each of them.
+    pub fn of(
+        alloc: Global,
+        i: [u8; 16],
+        secret: [u8; 32],
+        w: Width,
+        h: Height,
+    ) -> Result<Secret, NoMemory>
+        ensures key { IfOk result (λ s. s ≡ record {
+          kind = record { width = w; height = h };
+          id = i;
+          seed = secret;
+          used = 0;
+        }) }
+    {
         let kind = Kind {
-            width: Width::W8,
+            width: w,
             height: h,
         };
         let mut nodes = vec![in alloc; [0u8; 32]; 2 * h.leaf_count() as usize]?;
@@ -190,8 +220,8 @@ impl Secret {
 
     /// Signs a message with the next leaf (RFC 8554 sections 4.5 and 5.4.1): the n-th message takes leaf n - 1.
     ///
-    /// A key of height 5 gives 32 signatures of 1,292 bytes, one of height 10 gives 1,024 of 1,452 bytes. `C` is made as
-    /// the start of a chain 0xfffd would be, so the key, the leaf and the message determine the signature.
+    /// A key of height 5, 10 or 15 gives 32, 1,024 or 32,768 signatures. `C` is made as the start of a chain 0xfffd would
+    /// be, so the key, the leaf and the message determine the signature.
     #[tactic(auto, using(crate::proofs::Valid::signature_is_valid))]
     pub fn sign(&mut self, msg: &[u8]) -> Result<Vec<u8>, SignFault>
         ensures ok { IfOk result (λ sig. sig.items ≡ signature_by self.old self.old.used msg.now) }

@@ -1,6 +1,6 @@
 //! The maker of test repositories, good and hostile ones.
 //!
-//! - [`secret`] gives the key of a key byte.
+//! - [`secret`] and [`secret_of`] give the key of a key byte.
 //! - [`seal`] signs a metadata file (TUF 1.0 section 4.2).
 //! - [`make`] follows a script that makes a repository.
 #![tactic(auto)]
@@ -20,4 +20,4 @@ mod words;
 pub use fault::MakeFault;
 pub use script::make;
 pub use sealing::seal;
-pub use signer::{Signer, secret};
+pub use signer::{Signer, secret, secret_of};

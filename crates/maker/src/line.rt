@@ -2,7 +2,7 @@
 
 use crate::refusal::Refusal;
 use crate::words::Words;
-use lms::Height;
+use lms::{Height, Width};
 use std::alloc::Global;
 
 /// A line of a script, as it is spelled.
@@ -10,14 +10,21 @@ use std::alloc::Global;
 pub enum Line<'a> {
     /// An empty line or a comment.
     Passed,
-    /// `key S H`
-    Key { byte: u8, height: Height },
+    /// `key S H` or `key S H W`
+    Key {
+        byte: u8,
+        width: Width,
+        height: Height,
+    },
     /// `consistent yes` or `consistent no`
     Consistent(bool),
     /// `expires TEXT`
     Expires(&'a str),
     /// `top ROLE T KEYS`
-    Top { role: &'a str, quorum: Quorum },
+    Top {
+        role: &'a str,
+        quorum: Quorum,
+    },
     /// `target ROLE PATH HEX HASHES`
     Target(TargetLine<'a>),
     /// `delegate FROM TO T KEYS END KIND LIST`
@@ -116,7 +123,12 @@ fn read_words<'a>(alloc: Global, words: &mut Words<'a>) -> Result<Line<'a>, Refu
 fn read_key<'a>(words: &mut Words<'a>) -> Result<Line<'a>, Refusal> {
     let byte = words.key_byte()?;
     let height = words.height()?;
-    Ok(Line::Key { byte, height })
+    let width = words.width()?;
+    Ok(Line::Key {
+        byte,
+        width,
+        height,
+    })
 }
 
 fn read_quorum(alloc: Global, words: &mut Words<'_>) -> Result<Quorum, Refusal> {

@@ -11,7 +11,7 @@ use crate::ring::{ids_of, new_signer, place_of, places_of, put_keys};
 use crate::sealing::seal;
 use crate::signer::Signer;
 use cjson::canonical;
-use lms::Height;
+use lms::{Height, Width};
 use meta::names;
 use serde_json::{Map, Value, json};
 use std::alloc::{AllocError, Global};
@@ -91,7 +91,11 @@ impl Repository {
     pub fn follow(&mut self, line: Line<'_>) -> Result<(), Refusal> {
         match line {
             Line::Passed => Ok(()),
-            Line::Key { byte, height } => self.add_key(byte, height),
+            Line::Key {
+                byte,
+                width,
+                height,
+            } => self.add_key(byte, width, height),
             Line::Consistent(consistent) => {
                 self.consistent = consistent;
                 Ok(())
@@ -111,11 +115,11 @@ impl Repository {
         self.files.into_iter().collect(self.alloc)
     }
 
-    fn add_key(&mut self, byte: u8, height: Height) -> Result<(), Refusal> {
+    fn add_key(&mut self, byte: u8, width: Width, height: Height) -> Result<(), Refusal> {
         if place_of(&self.signers, byte).is_ok() {
             return Err(Refusal::Line);
         }
-        let signer = new_signer(self.alloc, byte, height)?;
+        let signer = new_signer(self.alloc, byte, width, height)?;
         self.signers.push(signer)?;
         Ok(())
     }

@@ -4,15 +4,20 @@ ghost use Rattle.std.specs.Prelude.{◌<◌, IfSome, IfOk, All, length};
 
 use crate::objects::{key_object, put};
 use crate::refusal::Refusal;
-use crate::signer::{Signer, secret};
+use crate::signer::{Signer, secret_of};
 use keys::key_id;
-use lms::{Height, Public};
+use lms::{Height, Public, Width};
 use serde_json::{Map, Value};
 use std::alloc::Global;
 
 /// The key of a key byte under its id, which is that of the key object (TUF 1.0 section 4.2).
-pub fn new_signer(alloc: Global, byte: u8, height: Height) -> Result<Signer, Refusal> {
-    let secret = secret(alloc, byte, height)?;
+pub fn new_signer(
+    alloc: Global,
+    byte: u8,
+    width: Width,
+    height: Height,
+) -> Result<Signer, Refusal> {
+    let secret = secret_of(alloc, byte, width, height)?;
     let object = key_object(alloc, &secret.public())?;
     let id = key_id(alloc, &object)?;
     Ok(Signer { id, secret })

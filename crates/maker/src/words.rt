@@ -1,7 +1,7 @@
 //! The words of a line.
 
 use crate::refusal::Refusal;
-use lms::Height;
+use lms::{Height, Width};
 use std::alloc::Global;
 
 /// The greatest threshold and version of metadata.
@@ -58,11 +58,24 @@ impl<'a> Words<'a> {
         byte(self.word()?)
     }
 
-    /// The height of a key: 5 or 10.
+    /// The height of a key: 5, 10 or 15.
     pub fn height(&mut self) -> Result<Height, Refusal> {
         match self.word()? {
             "5" => Ok(Height::H5),
             "10" => Ok(Height::H10),
+            "15" => Ok(Height::H15),
+            _ => Err(Refusal::Line),
+        }
+    }
+
+    /// The width of a key's digits, which may be the last word: 4 or 8, and 8 where there is none.
+    pub fn width(&mut self) -> Result<Width, Refusal> {
+        if self.rest.is_none() {
+            return Ok(Width::W8);
+        }
+        match self.word()? {
+            "4" => Ok(Width::W4),
+            "8" => Ok(Width::W8),
             _ => Err(Refusal::Line),
         }
     }

@@ -1,8 +1,8 @@
 //! The commands of the rows.
 
 use crate::{
-    contents, forms, key_rings, moments, names, questions, readings, searches, signatures, states,
-    texts, thresholds, verdicts,
+    blocks, contents, forms, key_rings, moments, names, questions, readings, searches, signatures,
+    states, texts, thresholds, verdicts,
 };
 use anyhow::{Context, Result};
 use sessions::{Step, Told};
@@ -66,6 +66,9 @@ impl<'a, R: Files + AllocGlobal + Clone + Drop> Layers<'a, R> {
             return Ok(Some(text));
         }
         if let Some(text) = questions::given(self.alloc, step)? {
+            return Ok(Some(text));
+        }
+        if let Some(text) = blocks::given(self.alloc, step)? {
             return Ok(Some(text));
         }
         names::given(self.alloc, step)

@@ -6,6 +6,7 @@
 //! `cases/README.md` says how a row is written.
 #![tactic(auto)]
 
+mod blocks;
 mod contents;
 mod forms;
 mod key_rings;

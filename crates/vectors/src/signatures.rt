@@ -3,7 +3,7 @@
 use crate::layers::Layers;
 use crate::plain::{told, yes_or_no};
 use anyhow::{Context, Result, bail};
-use lms::{Height, MOST_SIGNATURE, Public, Secret, verify};
+use lms::{Height, MOST_SIGNATURE, Public, Secret, Width, verify};
 use sessions::Step;
 use sha2::{Digest, Sha256};
 use std::alloc::Global;
@@ -101,13 +101,19 @@ fn verified<R: Files + AllocGlobal + Clone + Drop>(
 }
 
 /// The secret key whose identifier and seed have the byte 1 throughout.
-fn secret(alloc: Global, height: &str) -> Result<Secret> {
+fn secret(alloc: Global, width: &str, height: &str) -> Result<Secret> {
+    let width = match width {
+        "4" => Width::W4,
+        "8" => Width::W8,
+        _ => bail!("no such width"),
+    };
     let height = match height {
         "5" => Height::H5,
         "10" => Height::H10,
+        "15" => Height::H15,
         _ => bail!("no such height"),
     };
-    Ok(Secret::new(alloc, [1; 16], [1; 32], height)?)
+    Ok(Secret::of(alloc, [1; 16], [1; 32], width, height)?)
 }
 
 /// Signs a message six times, leaves the first signature and the sixth in files, and tells of the
@@ -116,12 +122,12 @@ fn sign<R: Files + AllocGlobal + Clone + Drop>(
     layers: &Layers<'_, R>,
     step: &Step,
 ) -> Result<String> {
-    let mut secret = secret(layers.alloc, step.word(0)?)?;
-    let message = step.word(1)?.as_bytes();
+    let mut secret = secret(layers.alloc, step.word(0)?, step.word(1)?)?;
+    let message = step.word(2)?.as_bytes();
     let first = signed(layers.alloc, &mut secret, message)?;
     let sixth = fifth_from_here(layers.alloc, &mut secret, message)?;
-    leave(layers, step.word(2)?, &first)?;
-    leave(layers, step.word(3)?, &sixth)?;
+    leave(layers, step.word(3)?, &first)?;
+    leave(layers, step.word(4)?, &sixth)?;
     about(layers.alloc, &first)
 }
 
@@ -160,11 +166,11 @@ fn about(alloc: Global, vector: &Vector) -> Result<String> {
     Ok(format!(in alloc; "root {root}\n{length} bytes of {MOST_SIGNATURE}\nSHA-256 {digest}\n")?)
 }
 
-/// Signs a message with so many leaves of a key of height 5, and twice more.
+/// Signs a message with so many leaves of a key of W8 and height 5, and twice more.
 fn leaves(alloc: Global, step: &Step) -> Result<String> {
     let count = step.word(0)?.parse::<u32>()?;
     let message = step.word(1)?.as_bytes();
-    let mut secret = secret(alloc, "5")?;
+    let mut secret = secret(alloc, "8", "5")?;
     let public = secret.public();
     let mut text = String::new(alloc);
     for _ in 0..count.saturating_add(2) {

@@ -55,6 +55,38 @@ A snapshot key changed and changed back.
   $ keeps three
   root snapshot targets timestamp
 
+Keys of W8 give way to keys of W4 in all roles.
+  $ make
+  > @keys
+  > write root 1 1
+  > write targets 1 4
+  > write snapshot 1 3
+  > write timestamp 9 2
+  $ init one
+  root 1
+  $ verify one two
+  root 1
+  end ready
+  $ make
+  > @keys
+  > key 5 5 4
+  > key 6 5 4
+  > key 7 5 4
+  > key 8 10 4
+  > top root 1 5
+  > top timestamp 1 6
+  > top snapshot 1 7
+  > top targets 1 8
+  > write root 2 1,5
+  > write targets 1 8
+  > write snapshot 1 7
+  > write timestamp 1 6
+  $ verify two three
+  root 2
+  end ready
+  $ keeps three
+  root snapshot targets timestamp
+
 Rotation after a fast forward.
   $ make
   > @keys

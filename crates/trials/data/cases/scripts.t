@@ -22,6 +22,22 @@ Scripts that make refuses, by the line at which they are. No file is written the
   ! tufcheck: script 4
   [3]
 
+A width is the last word of a key's line, if there is one.
+  $ put script
+  > key 1 5 4
+  > key 2 5 8
+  > key 3 5 2
+  >
+  $ tufcheck make script made
+  ! tufcheck: script 3
+  [3]
+  $ put script
+  > key 1 5 8 8
+  >
+  $ tufcheck make script made
+  ! tufcheck: script 1
+  [3]
+
 The last line may lack its line feed.
   $ put script
   > key 1 6

@@ -1,6 +1,7 @@
-Signatures that Bouncy Castle made, by two leaves of a key of height 5 and one of a key of height 10. Each is valid, and
-isn't with a bit turned in any of its fields, in the message or in the key, nor with a byte more or less. The bits 3 put
-the types of the two heights, 5 and 6, in the place of one another.
+Signatures that Bouncy Castle made: of W8 by two leaves of a key of height 5 and one of a key of height 10, and of W4 by a
+leaf of a key of each height. Each is valid, and isn't with a bit turned in any of its fields, in the message or in the key,
+nor with a byte more or less. The bits 3 put the types of the heights 5 and 6 in the place of one another, and the bits 7
+those of W4 and W8, 3 and 4.
   $ verify cases/bouncy-5-4.vector
   yes
   $ verify cases/bouncy-5-4.vector message 0 1
@@ -9,9 +10,13 @@ the types of the two heights, 5 and 6, in the place of one another.
   no
   $ verify cases/bouncy-5-4.vector public 55 1
   no
+  $ verify cases/bouncy-5-4.vector public 7 7
+  no
   $ verify cases/bouncy-5-4.vector signature 3 1
   no
   $ verify cases/bouncy-5-4.vector signature 7 1
+  no
+  $ verify cases/bouncy-5-4.vector signature 7 7
   no
   $ verify cases/bouncy-5-4.vector signature 8 1
   no
@@ -35,9 +40,13 @@ the types of the two heights, 5 and 6, in the place of one another.
   no
   $ verify cases/bouncy-5-7.vector public 55 1
   no
+  $ verify cases/bouncy-5-7.vector public 7 7
+  no
   $ verify cases/bouncy-5-7.vector signature 3 1
   no
   $ verify cases/bouncy-5-7.vector signature 7 1
+  no
+  $ verify cases/bouncy-5-7.vector signature 7 7
   no
   $ verify cases/bouncy-5-7.vector signature 8 1
   no
@@ -61,9 +70,13 @@ the types of the two heights, 5 and 6, in the place of one another.
   no
   $ verify cases/bouncy-10-5.vector public 55 1
   no
+  $ verify cases/bouncy-10-5.vector public 7 7
+  no
   $ verify cases/bouncy-10-5.vector signature 3 1
   no
   $ verify cases/bouncy-10-5.vector signature 7 1
+  no
+  $ verify cases/bouncy-10-5.vector signature 7 7
   no
   $ verify cases/bouncy-10-5.vector signature 8 1
   no
@@ -79,12 +92,102 @@ the types of the two heights, 5 and 6, in the place of one another.
   no
   $ verify cases/bouncy-10-5.vector shorter
   no
+  $ verify cases/bouncy-w4-5-4.vector
+  yes
+  $ verify cases/bouncy-w4-5-4.vector message 0 1
+  no
+  $ verify cases/bouncy-w4-5-4.vector public 8 1
+  no
+  $ verify cases/bouncy-w4-5-4.vector public 55 1
+  no
+  $ verify cases/bouncy-w4-5-4.vector public 7 7
+  no
+  $ verify cases/bouncy-w4-5-4.vector signature 3 1
+  no
+  $ verify cases/bouncy-w4-5-4.vector signature 7 1
+  no
+  $ verify cases/bouncy-w4-5-4.vector signature 7 7
+  no
+  $ verify cases/bouncy-w4-5-4.vector signature 8 1
+  no
+  $ verify cases/bouncy-w4-5-4.vector signature 600 1
+  no
+  $ verify cases/bouncy-w4-5-4.vector signature 2187 1
+  no
+  $ verify cases/bouncy-w4-5-4.vector signature 2187 3
+  no
+  $ verify cases/bouncy-w4-5-4.vector signature 2200 1
+  no
+  $ verify cases/bouncy-w4-5-4.vector longer
+  no
+  $ verify cases/bouncy-w4-5-4.vector shorter
+  no
+  $ verify cases/bouncy-w4-10-4.vector
+  yes
+  $ verify cases/bouncy-w4-10-4.vector message 0 1
+  no
+  $ verify cases/bouncy-w4-10-4.vector public 8 1
+  no
+  $ verify cases/bouncy-w4-10-4.vector public 55 1
+  no
+  $ verify cases/bouncy-w4-10-4.vector public 7 7
+  no
+  $ verify cases/bouncy-w4-10-4.vector signature 3 1
+  no
+  $ verify cases/bouncy-w4-10-4.vector signature 7 1
+  no
+  $ verify cases/bouncy-w4-10-4.vector signature 7 7
+  no
+  $ verify cases/bouncy-w4-10-4.vector signature 8 1
+  no
+  $ verify cases/bouncy-w4-10-4.vector signature 600 1
+  no
+  $ verify cases/bouncy-w4-10-4.vector signature 2187 1
+  no
+  $ verify cases/bouncy-w4-10-4.vector signature 2187 3
+  no
+  $ verify cases/bouncy-w4-10-4.vector signature 2200 1
+  no
+  $ verify cases/bouncy-w4-10-4.vector longer
+  no
+  $ verify cases/bouncy-w4-10-4.vector shorter
+  no
+  $ verify cases/bouncy-w4-15-4.vector
+  yes
+  $ verify cases/bouncy-w4-15-4.vector message 0 1
+  no
+  $ verify cases/bouncy-w4-15-4.vector public 8 1
+  no
+  $ verify cases/bouncy-w4-15-4.vector public 55 1
+  no
+  $ verify cases/bouncy-w4-15-4.vector public 7 7
+  no
+  $ verify cases/bouncy-w4-15-4.vector signature 3 1
+  no
+  $ verify cases/bouncy-w4-15-4.vector signature 7 1
+  no
+  $ verify cases/bouncy-w4-15-4.vector signature 7 7
+  no
+  $ verify cases/bouncy-w4-15-4.vector signature 8 1
+  no
+  $ verify cases/bouncy-w4-15-4.vector signature 600 1
+  no
+  $ verify cases/bouncy-w4-15-4.vector signature 2187 1
+  no
+  $ verify cases/bouncy-w4-15-4.vector signature 2187 3
+  no
+  $ verify cases/bouncy-w4-15-4.vector signature 2200 1
+  no
+  $ verify cases/bouncy-w4-15-4.vector longer
+  no
+  $ verify cases/bouncy-w4-15-4.vector shorter
+  no
 
-Signatures of abc by a key whose identifier and seed have the byte 1 throughout, at height 5. The root, the SHA-256 of the
-first signature and the sixth one are from a program that shares no code with this one.
-  $ sign 5 abc first sixth
+Signatures of abc by a key whose identifier and seed have the byte 1 throughout, of W8 and height 5. The root, the SHA-256
+of the first signature and the sixth one are from a program that shares no code with this one.
+  $ sign 8 5 abc first sixth
   root 599d16861dc9aacdc40b4275991c60ebdf9decfb219eb795df51d5c9a347762a
-  1292 bytes of 1452
+  1292 bytes of 2668
   SHA-256 4a6ffc8bf6d95c56f514e0fee496e3309e9bb02a1fae0f95d16f2349006e1e34
   $ same sixth cases/leaf-5-5.vector
   $ verify first
@@ -95,9 +198,13 @@ first signature and the sixth one are from a program that shares no code with th
   no
   $ verify first public 55 1
   no
+  $ verify first public 7 7
+  no
   $ verify first signature 3 1
   no
   $ verify first signature 7 1
+  no
+  $ verify first signature 7 7
   no
   $ verify first signature 8 1
   no
@@ -118,10 +225,10 @@ Leaf 32 of 32.
   $ verify first signature 3 32
   no
 
-The same at height 10, whose signatures are the longest.
-  $ sign 10 abc first sixth
+The same at height 10.
+  $ sign 8 10 abc first sixth
   root 63f3aa29d987632d5bddaa237e3d676706638f8bb9dd19da28c8fce34d2f3ccf
-  1452 bytes of 1452
+  1452 bytes of 2668
   SHA-256 8b6519e5d41c04a930b5f59b57511d0f094879238865c279ad0947b6f15ca39f
   $ same sixth cases/leaf-10-5.vector
   $ verify first
@@ -132,9 +239,13 @@ The same at height 10, whose signatures are the longest.
   no
   $ verify first public 55 1
   no
+  $ verify first public 7 7
+  no
   $ verify first signature 3 1
   no
   $ verify first signature 7 1
+  no
+  $ verify first signature 7 7
   no
   $ verify first signature 8 1
   no
@@ -151,6 +262,117 @@ The same at height 10, whose signatures are the longest.
   $ verify first shorter
   no
 
+The same of W4, at each height. Those of height 15 are the longest.
+  $ sign 4 5 abc first sixth
+  root 66bf6f5816eee4bbf33c50acb480e09b4169ebb533372959bc4315c388e501ac
+  2348 bytes of 2668
+  SHA-256 aa36317cebffcb1bddc47df6b4c0fc91588a78182cff95d58fec107c28100133
+  $ same sixth cases/leaf-w4-5-5.vector
+  $ verify first
+  yes
+  $ verify first message 0 1
+  no
+  $ verify first public 8 1
+  no
+  $ verify first public 55 1
+  no
+  $ verify first public 7 7
+  no
+  $ verify first signature 3 1
+  no
+  $ verify first signature 7 1
+  no
+  $ verify first signature 7 7
+  no
+  $ verify first signature 8 1
+  no
+  $ verify first signature 600 1
+  no
+  $ verify first signature 2187 1
+  no
+  $ verify first signature 2187 3
+  no
+  $ verify first signature 2200 1
+  no
+  $ verify first longer
+  no
+  $ verify first shorter
+  no
+  $ verify first signature 3 32
+  no
+  $ sign 4 10 abc first sixth
+  root f59d2b7804e210b9265620a3d4f64005aa1c786bf805f2ba113c77aabb20ce19
+  2508 bytes of 2668
+  SHA-256 eb11d9015ad15449c97962941ab4fa414f72582d96fe4ff7e164cd43a1625a95
+  $ same sixth cases/leaf-w4-10-5.vector
+  $ verify first
+  yes
+  $ verify first message 0 1
+  no
+  $ verify first public 8 1
+  no
+  $ verify first public 55 1
+  no
+  $ verify first public 7 7
+  no
+  $ verify first signature 3 1
+  no
+  $ verify first signature 7 1
+  no
+  $ verify first signature 7 7
+  no
+  $ verify first signature 8 1
+  no
+  $ verify first signature 600 1
+  no
+  $ verify first signature 2187 1
+  no
+  $ verify first signature 2187 3
+  no
+  $ verify first signature 2200 1
+  no
+  $ verify first longer
+  no
+  $ verify first shorter
+  no
+  $ sign 4 15 abc first sixth
+  root b43dc95d0d427c855b94fa340547b79d585237fc7435cb65d56bbf9c6340fadb
+  2668 bytes of 2668
+  SHA-256 1c237299ed62ed6a2344d53051ef408d4e67173091156dfe944b11c54d2f3873
+  $ same sixth cases/leaf-w4-15-5.vector
+  $ verify first
+  yes
+  $ verify first message 0 1
+  no
+  $ verify first public 8 1
+  no
+  $ verify first public 55 1
+  no
+  $ verify first public 7 7
+  no
+  $ verify first signature 3 1
+  no
+  $ verify first signature 7 1
+  no
+  $ verify first signature 7 7
+  no
+  $ verify first signature 8 1
+  no
+  $ verify first signature 600 1
+  no
+  $ verify first signature 2187 1
+  no
+  $ verify first signature 2187 3
+  no
+  $ verify first signature 2200 1
+  no
+  $ verify first longer
+  no
+  $ verify first shorter
+  no
+
+The same of W8 at height 15, whose key takes 284 million hashes.
+@8-15@
 Each leaf signs once.
   $ leaves 32 hello
   leaf 00000000, 1292 bytes, valid: yes

@@ -1,0 +1,5 @@
+use Rattle.lms.specs.Carrying.{AreOn}
+use Rattle.lms.proofs.four.carry_most.Given as goal
+
+abbrev pub invariant-turns : goal.invariant-turns
+invariant-turns l = AreOn l.fn.ends l.fn.id l.fn.q l.initial.digits l.initial.values l.digits l.values
