@@ -371,8 +371,6 @@ The same of W4, at each height. Those of height 15 are the longest.
   $ verify first shorter
   no
 
-The same of W8 at height 15, whose key takes 284 million hashes.
-@8-15@
 Each leaf signs once.
   $ leaves 32 hello
   leaf 00000000, 1292 bytes, valid: yes
