@@ -1,0 +1,216 @@
+#!/bin/bash
+# Shows that a release works on a machine without the kit: it unpacks the Debian package and the tarball that
+# dist/package.sh made into temporary folders and runs the program from there, with a cleaned environment.
+#
+#   dist/check.sh [FOLDER]      the folder of the release, dist/out unless given
+#
+# A line for each thing says `ok`, `failed` with what was seen, or `not tried` with what is missing on this machine. The
+# status is 1 where something failed. It takes a few seconds, and installs nothing.
+#
+# For both: the help, the run without a word, a repository that is made and verified, the man page, the completions of each
+# shell that is here, the libraries, and with strace every file that the program asks for. Then the program runs in a root
+# folder that has nothing but it and its libraries (for the superuser, or where user namespaces are allowed), and the
+# release is packaged again from the unpacked program, which must give the same bytes.
+set -u
+export LC_ALL=C
+top=$(cd "$(dirname "$0")/.." && pwd) || exit 1
+from=$(realpath -m "${1:-$top/dist/out}")
+version=$(sed -n 's/^version=//p' "$top/dist/package.sh")
+name=tufcheck-$version-x86_64-linux deb=tufcheck_${version}_amd64.deb
+work=$(mktemp -d) || exit 1
+trap 'rm -rf "$work"' EXIT
+mkdir "$work/home" "$work/deb" "$work/tar" || exit 1
+failed=0
+printf 'root 1\nend ready\nok "abc.txt" 3 "targets"\n' > "$work/three"
+(echo "root 1" && cat "$work/three") > "$work/four"
+
+# told STATUS THING: `ok` or `failed` of a thing, by the status of what tried it and what it wrote to the file `seen`
+told() {
+    if [ "$1" = 0 ]; then
+        echo "ok $2"
+    else
+        echo "failed $2: $(head -c 400 "$work/seen" | tr '\n' ' ')"
+        failed=1
+    fi
+}
+
+# has TOOL THING: whether a tool is here; if not, its thing isn't tried
+has() {
+    command -v "$1" > "$work/found" || { echo "not tried $2: $1 is missing"; return 1; }
+}
+
+# clean TOOL..: runs a tool that is found by its path, with nothing in the environment
+clean() {
+    env -i HOME="$work/home" PATH="$root/bin" "$@"
+}
+
+# same EXPECTED: asks that `seen` is that file
+same() {
+    cmp -s "$work/seen" "$1"
+}
+
+# session FOLDER RUN..: in a folder, makes a repository, trusts its first root and verifies a target; RUN is the program
+session() {
+    local folder=$1
+    shift
+    cp "$share/doc/tufcheck/examples/first.script" "$folder" && cd "$folder" && "$@" make first.script repo &&
+        "$@" init repo/metadata/1.root.json --out state &&
+        "$@" verify --state state --metadata repo/metadata --targets repo/targets --now 2026-01-01T00:00:00Z --out state abc.txt
+}
+
+# completed FILE WORD..: what the completions in a file offer in bash for the last of the words, one a line
+completed() {
+    # shellcheck disable=SC2016 # for the other bash
+    clean "$BASH" --noprofile --norc -c '
+        source "$1" && shift && named=$(complete -p tufcheck) && named=${named##*-F } && COMP_WORDS=("$@") COMP_CWORD=$(($# - 1)) &&
+            "${named%% *}" && printf "%s\n" "${COMPREPLY[@]}"' bash "$@"
+}
+
+# offered: asks that `seen` has each option that the program's help of `verify` names
+offered() {
+    local option options
+    options=$(clean tufcheck help verify | grep -o -- '--[a-z][a-z]*' | sort -u)
+    [ -n "$options" ] || return 1
+    for option in $options; do
+        grep -q -x -e "$option" -e "${option}[[:space:]].*" "$work/seen" || { echo "lacks $option" >> "$work/seen"; return 1; }
+    done
+}
+
+# keyed FOLDER LINE: the line that zsh has after LINE and a tab, with the completions in FOLDER
+keyed() {
+    rm -f "$work/line"
+    # shellcheck disable=SC2016 # for zsh
+    env -i HOME="$work/home" PATH="$root/bin:$PATH" TERM=dumb timeout 30 zsh -f -c '
+        zmodload zsh/zpty && zpty inner zsh -f -i || exit 1
+        zpty -w inner "fpath=($1 \$fpath) && autoload -U compinit && compinit -u -D"
+        zpty -w inner "shown() { print -r -- \$BUFFER > $3.new && mv $3.new $3; }; zle -N shown; bindkey \"^X\" shown"
+        zpty -w -n inner "$2"$'\''\t\x18'\''
+        for n in {1..200}; do [[ -f $3 ]] && break; zpty -r -t inner got; sleep 0.1; done
+        zpty -d inner' zsh "$1" "$2" "$work/line" > "$work/found" 2>&1
+    cat "$work/line"
+}
+
+# shells TAKEN ZSH: the completions, in each shell that is here
+shells() {
+    local loader="/usr/share/bash-completion/bash_completion" file=$share/bash-completion/completions/tufcheck
+    completed "$file" tufcheck ver > "$work/seen" 2>&1
+    [ "$(cat "$work/seen")" = verify ]
+    told $? "$1: bash completes \`tufcheck ver\` to \`verify\`"
+    completed "$file" tufcheck verify -- > "$work/seen" 2>&1
+    offered
+    told $? "$1: bash offers each option of \`verify\`"
+    if [ -f "$loader" ]; then
+        # shellcheck disable=SC2016 # for the other bash
+        env -i HOME="$work/home" PATH="$PATH" XDG_DATA_DIRS="$share" bash --noprofile --norc -c '
+            source "$1"; if declare -F _comp_load; then _comp_load tufcheck; else _completion_loader tufcheck; fi
+            complete -p tufcheck' bash "$loader" > "$work/seen" 2>&1
+        grep -q -- '-F _tufcheck tufcheck' "$work/seen"
+        told $? "$1: bash-completion finds the file by the program's name"
+    else
+        echo "not tried $1: bash-completion is missing"
+    fi
+    if has zsh "$1: completion in zsh"; then
+        keyed "$share/zsh/$2" "tufcheck ver" > "$work/seen" 2>&1
+        [ "$(sed 's/ *$//' "$work/seen")" = "tufcheck verify" ]
+        told $? "$1: zsh completes \`tufcheck ver\` to \`verify\`"
+        keyed "$share/zsh/$2" "tufcheck verify --wor" > "$work/seen" 2>&1
+        [ "$(sed 's/ *$//' "$work/seen")" = "tufcheck verify --workers" ]
+        told $? "$1: zsh completes \`tufcheck verify --wor\` to \`--workers\`"
+    fi
+    if has fish "$1: completion in fish"; then
+        fished "tufcheck ver" > "$work/seen" 2>&1
+        [ "$(cut -f 1 "$work/seen")" = verify ]
+        told $? "$1: fish completes \`tufcheck ver\` to \`verify\`"
+        fished "tufcheck verify --" > "$work/seen" 2>&1
+        offered
+        told $? "$1: fish offers each option of \`verify\`"
+    fi
+}
+
+# fished LINE: what fish offers for a line, with the completions where the release has them
+fished() {
+    # shellcheck disable=SC2016 # for fish
+    env -i HOME="$work/home" PATH="$root/bin:$PATH" XDG_DATA_DIRS="$share" TERM=dumb fish -c 'complete -C "$argv[1]"' "$1"
+}
+
+# strange: the files that a trace names and that are neither the system's nor in the temporary folders
+strange() {
+    grep -h -o '"[^"]*"' "$@" | tr -d '"' | grep '^/' | sort -u |
+        grep -v -E "^($work/|/etc/ld\.so\.|/lib|/usr/lib|/proc/|/sys/|/dev/)"
+}
+
+# tried TAKEN ROOT ZSH: all that is tried with one unpacked release
+tried() {
+    local root=$2 share=$2/share
+    mkdir "$work/room.$1" && cd "$work/room.$1" || exit 1
+    clean tufcheck --help > "$work/seen" 2>&1
+    told $? "$1: \`tufcheck --help\` has status 0"
+    clean tufcheck > "$work/seen" 2>&1 && same "$work/three"
+    told $? "$1: \`tufcheck\` prints its three lines"
+    (session "$work/room.$1" clean tufcheck) > "$work/seen" 2>&1 && same "$work/four"
+    told $? "$1: a repository is made, trusted and verified"
+    if has man "$1: the man page"; then
+        MANPAGER=cat MANWIDTH=80 man --warnings -M "$share/man" tufcheck > "$work/page" 2> "$work/seen"
+        [ ! -s "$work/seen" ] && grep -q SYNOPSIS "$work/page" && grep -q 'EXIT STATUS' "$work/page"
+        told $? "$1: \`man\` renders the page, with no warning"
+    fi
+    shells "$1" "$3"
+    ldd "$root/bin/tufcheck" > "$work/seen" 2>&1
+    ! grep -v -E '^\s*(linux-vdso\.so|lib(c|m|pthread|dl|rt)\.so|/lib64/ld-linux-x86-64\.so|statically linked)' "$work/seen" > "$work/found"
+    told $? "$1: the libraries are the C library's"
+    if has strace "$1: the files that the program asks for"; then
+        # shellcheck disable=SC2016 # for the other bash
+        (session "$work/room.$1" clean "$BASH" -c 'strace="$1" && shift && exec "$strace" -f -A -e trace=%file -o "$0" "$@"' \
+            "$work/trace.$1" "$(command -v strace)" "$root/bin/tufcheck") > "$work/seen" 2>&1 && same "$work/four" &&
+            ! strange "$work/trace.$1" > "$work/seen"
+        told $? "$1: the program asks for no file but the system's and those of its command line"
+    fi
+}
+
+# bare RUN..: by RUN, the session in a root folder that has nothing but the program and its libraries
+bare() {
+    local library room=$work/bare
+    mkdir "$room" && cp "$root/bin/tufcheck" "$room/tufcheck" || return 1
+    ldd "$root/bin/tufcheck" | grep -o '/[^ ]*' > "$work/libraries"
+    while read -r library; do
+        install -D "$library" "$room$library" || return 1
+    done < "$work/libraries"
+    (session "$room" "$@" "$room" /tufcheck) > "$work/seen" 2>&1 && same "$work/four"
+}
+
+for tool in tar sha256sum ldd; do
+    command -v $tool > "$work/found" || { echo "check.sh: $tool is missing" >&2; exit 1; }
+done
+[ -f "$from/$name.tar.gz" ] || { echo "check.sh: no $from/$name.tar.gz: dist/package.sh makes it" >&2; exit 1; }
+(cd "$from" && sha256sum -c SHA256SUMS) > "$work/seen" 2>&1
+told $? "SHA256SUMS"
+if tar -xzf "$from/$name.tar.gz" -C "$work/tar" > "$work/seen" 2>&1; then
+    tried tarball "$work/tar/$name" site-functions
+else
+    told 1 "tarball: it can be unpacked"
+fi
+if has dpkg-deb "the Debian package"; then
+    if dpkg-deb -x "$from/$deb" "$work/deb" > "$work/seen" 2>&1; then
+        tried package "$work/deb/usr" vendor-completions
+        cmp "$work/deb/usr/bin/tufcheck" "$work/tar/$name/bin/tufcheck" > "$work/seen" 2>&1
+        told $? "package: its program is the tarball's"
+        dpkg-deb -e "$from/$deb" "$work/deb/DEBIAN" && (cd "$work/deb" && md5sum -c DEBIAN/md5sums) > "$work/seen" 2>&1
+        told $? "package: its list of sums"
+    else
+        told 1 "package: it can be unpacked"
+    fi
+fi
+root=$work/tar/$name share=$root/share
+if [ "$(id -u)" = 0 ]; then
+    bare chroot
+    told $? "a session in a root folder with nothing but the program and its libraries"
+elif unshare -r true > "$work/found" 2>&1; then
+    bare unshare -r chroot
+    told $? "a session in a root folder with nothing but the program and its libraries"
+else
+    echo "not tried a session in a bare root folder: chroot isn't allowed"
+fi
+SOURCE_DATE_EPOCH=$(stat -c %Y "$root/bin/tufcheck") "$top/dist/package.sh" "$root/bin/tufcheck" "$work/again" > "$work/found" 2> "$work/seen" &&
+    diff -r "$from" "$work/again" > "$work/seen" 2>&1
+told $? "packaged again, the release has the same bytes"
+exit $failed

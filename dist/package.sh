@@ -1,0 +1,131 @@
+#!/bin/bash
+# Makes a release of the built program: a tarball and a Debian package, and SHA256SUMS of both.
+#
+#   dist/package.sh [PROGRAM [FOLDER]]      crates/tufcheck/out/tufcheck and dist/out unless given
+#
+# Both have the program, the man page, completions for bash, zsh and fish, the user's page with the page on scripts and the
+# examples that it leads to, and the licenses. The program is taken as it was built; only one of 2,000,000 bytes or more is
+# stripped, which is told. The package depends on what the program links, by the packages of this machine that own it.
+#
+# The same files give the same bytes: times are SOURCE_DATE_EPOCH or else the last commit's, the owner is 0, and names are
+# sorted. (Another gzip, tar or dpkg may compress otherwise.) The status is 0, or 1 where something is refused, which is told.
+# Without dpkg-deb the tarball alone is made, and the status is 1.
+set -u
+version=1.0.0
+umask 022
+export LC_ALL=C
+top=$(cd "$(dirname "$0")/.." && pwd) || exit 1
+program=${1:-$top/crates/tufcheck/out/tufcheck} out=${2:-$top/dist/out}
+name=tufcheck-$version-x86_64-linux deb=tufcheck_${version}_amd64.deb
+work=$(mktemp -d) || exit 1
+trap 'rm -rf "$work"' EXIT
+
+# refused WHY: the end of a release that can't be made
+refused() {
+    echo "package.sh: $1" >&2
+    exit 1
+}
+
+# size FILE: its bytes
+size() {
+    stat -c %s "$1"
+}
+
+# The program: there, of this kind of machine, and small.
+for tool in gzip tar sha256sum od; do
+    command -v $tool > "$work/found" || refused "$tool is missing"
+done
+[ -f "$program" ] || refused "no program at $program: \`rt run\` in crates/tufcheck builds it"
+cp "$program" "$work/tufcheck" || exit 1
+case $(od -A n -t x1 -N 20 "$work/tufcheck" | tr -d ' \n') in
+7f454c4602*3e00) ;;
+*) refused "$program isn't an ELF file for x86-64" ;;
+esac
+if [ "$(size "$work/tufcheck")" -ge 2000000 ]; then
+    command -v strip > "$work/found" || refused "the program has $(size "$work/tufcheck") bytes, and strip (binutils) is missing"
+    strip "$work/tufcheck" || refused "the program can't be stripped"
+    echo "stripped: the program has $(size "$program") bytes as it was built, and $(size "$work/tufcheck") in the release"
+    [ "$(size "$work/tufcheck")" -lt 2000000 ] || refused "the program has 2,000,000 bytes or more, stripped too"
+fi
+when=${SOURCE_DATE_EPOCH:-$(git -C "$top" log -1 --format=%ct 2> "$work/found")}
+[[ $when =~ ^[0-9]+$ ]] || refused "no date: give SOURCE_DATE_EPOCH, or package in a clone with git"
+mkdir -p "$out" && rm -f "$out/$name.tar.gz" "$out/$deb" "$out/SHA256SUMS" || exit 1
+
+# laid ROOT ZSH: the files of a release below ROOT, with the completions for zsh in the folder ZSH below share/zsh
+laid() {
+    local doc=$1/share/doc/tufcheck
+    install -D -m 755 "$work/tufcheck" "$1/bin/tufcheck" &&
+        install -D -m 644 "$top/completions/tufcheck.bash" "$1/share/bash-completion/completions/tufcheck" &&
+        install -D -m 644 "$top/completions/_tufcheck" "$1/share/zsh/$2/_tufcheck" &&
+        install -D -m 644 "$top/completions/tufcheck.fish" "$1/share/fish/vendor_completions.d/tufcheck.fish" &&
+        install -D -m 644 -t "$doc" "$top/docs/USERS.md" "$top/docs/SCRIPTS.md" &&
+        install -D -m 644 -t "$doc/examples" "$top"/examples/*.script &&
+        sed -i 's,](\.\./examples),](examples),' "$doc/SCRIPTS.md" &&
+        cat "$top/dist/notices" "$top/LICENSE" > "$doc/copyright" &&
+        mkdir -p "$1/share/man/man1" &&
+        gzip -9n < "$top/docs/tufcheck.1" > "$1/share/man/man1/tufcheck.1.gz"
+}
+
+# dated ROOT: gives all below ROOT its time
+dated() {
+    find "$1" -exec touch -h -d "@$when" {} +
+}
+
+laid "$work/$name" site-functions || refused "a file of the release is missing"
+dated "$work/$name"
+tar -C "$work" --sort=name --format=ustar --owner=0 --group=0 --numeric-owner --mtime="@$when" -cf "$work/release.tar" "$name" || exit 1
+gzip -9n < "$work/release.tar" > "$out/$name.tar.gz" || exit 1
+
+# depends: the packages that own the libraries which the program links, with the version of the C library that it asks for
+depends() {
+    local library path owner least
+    ldd "$work/tufcheck" > "$work/links" 2>&1 || return 0
+    grep -q 'not found' "$work/links" && refused "a library is missing: $(grep 'not found' "$work/links")"
+    # The names of versions are texts of the program.
+    least=$(grep -a -o 'GLIBC_[0-9][0-9.]*' "$work/tufcheck" | sort -u -V | tail -1)
+    sed -n 's/^.* => \(\/[^ ]*\) .*/\1/p; s/^\t\(\/[^ ]*\) .*/\1/p' "$work/links" | while read -r library; do
+        owner=
+        for path in "$library" "$(realpath "$library")" "/usr$library"; do
+            owner=$(dpkg-query -S "$path" 2> "$work/found" | grep -v '^diversion' | head -1)
+            owner=${owner%%:*}
+            [ -n "$owner" ] && break
+        done
+        [ -n "$owner" ] || { echo "unowned $library"; continue; }
+        [ "$owner" = libc6 ] && [ -n "$least" ] && owner+=" (>= ${least#GLIBC_})"
+        echo "$owner"
+    done | sort -u
+}
+
+if command -v dpkg-deb > "$work/found" && command -v ldd > "$work/found"; then
+    root=$work/deb
+    laid "$root/usr" vendor-completions || refused "a file of the release is missing"
+    depends > "$work/depends" || exit 1
+    grep -q '^unowned' "$work/depends" && refused "no package owns a library: $(grep '^unowned' "$work/depends")"
+    mkdir "$root/DEBIAN" || exit 1
+    (cd "$root" && find usr -type f | sort | xargs md5sum) > "$root/DEBIAN/md5sums" || exit 1
+    {
+        echo "Package: tufcheck"
+        echo "Version: $version"
+        echo "Architecture: amd64"
+        echo "Maintainer: Fullqimi maintainers <maintainers@users.noreply.fullqimi.example>"
+        # A kibibyte for each folder, and each file's bytes rounded up
+        echo "Installed-Size: $(find "$root/usr" \( -type f -printf '%s\n' \) -o -printf '1\n' | awk '{ n += int(($1 + 1023) / 1024) } END { print n }')"
+        [ -s "$work/depends" ] && echo "Depends: $(paste -s -d, "$work/depends" | sed 's/,/, /g')"
+        echo "Section: utils"
+        echo "Priority: optional"
+        echo "Description: verify an update repository of The Update Framework"
+        echo " tufcheck verifies a repository of The Update Framework (TUF 1.0) with LMS"
+        echo " signatures (RFC 8554) that lies in two folders, one of metadata files and"
+        echo " one of target files. It fetches nothing."
+    } > "$root/DEBIAN/control"
+    chmod 644 "$root"/DEBIAN/*
+    dated "$root"
+    SOURCE_DATE_EPOCH=$when dpkg-deb --root-owner-group -Zgzip -z9 -b "$root" "$out/$deb" > "$work/built" 2>&1 ||
+        refused "dpkg-deb: $(cat "$work/built")"
+    (cd "$out" && sha256sum "$name.tar.gz" "$deb") > "$out/SHA256SUMS" || exit 1
+    cat "$out/SHA256SUMS"
+else
+    (cd "$out" && sha256sum "$name.tar.gz") > "$out/SHA256SUMS" || exit 1
+    cat "$out/SHA256SUMS"
+    refused "dpkg-deb (or ldd) is missing, so there is no Debian package"
+fi
