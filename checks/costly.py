@@ -127,11 +127,21 @@ def keys(size):
     return {"targets": delegating(b'"keys":{' + listed + b'},"roles":[' + role + b"]"), "r": sealed}
 
 
+def shared(size):
+    """As many delegations as fit, all to one role, whose file has thousands of entries under its key's id."""
+    listed = tuf.canonical({OTHER.id: OTHER.object})
+    item = tuf.canonical(tuf.delegation("r", OTHER, paths=["a*"]))
+    entries = b",".join(b'{"keyid":"%s","sig":"%06x"}' % (OTHER.id.encode(), n) for n in range(size // 1250)) + b","
+    sealed = tuf.signed(tuf.canonical(tuf.part("targets", targets={})), OTHER, entries)
+    return {"targets": delegating(b'"keys":' + listed + b',"roles":[' + fill(size, lambda n: item) + b"]"), "r": sealed}
+
+
 CASES = {
     "deep": (deep, FOUND), "wide": (wide, FOUND), "members": (members, FOUND), "short_entries": (short_entries, FOUND),
     "long_entries": (long_entries, FOUND), "stars": (stars, f'no "{PATH}" NotFound'),
     "prefixes": (prefixes, f'no "{PATH}" NotFound'), "roles": (roles, f'no "{PATH}" NotFound'),
     "skipped": (skipped, f'no "{PATH}" NotFound'), "keys": (keys, f'no "{PATH}" Unsigned "r"'),
+    "shared": (shared, f'role "r" 1\nno "{PATH}" NotFound'),
 }
 
 

@@ -102,7 +102,7 @@ impl<'a> Plan<'a> {
         let mut documents = Vec::new(alloc);
         let ahead = read_ahead(&scope, &mut documents)?;
         let mut draft = Draft::new(alloc, documents, most);
-        sign_all(&mut draft, lists(&scope, &ahead)?.as_slice())?;
+        sign_all(alloc, &mut draft, lists(&scope, &ahead)?.as_slice())?;
         put_all(&mut draft, digests(&scope, repo, &ahead)?)?;
         Ok(Plan::of_draft(draft))
     }
@@ -194,7 +194,7 @@ pub(crate) fn ask_of<'b>(documents: &'b [Document], planned: &'b Planned<'_>) ->
                 place: *place,
                 public,
                 message: document.message.as_slice(),
-                sig: document.entries[*place].sig.as_str(),
+                sig: document.sigs[*place].as_str(),
             }
         }
         Planned::Digest {

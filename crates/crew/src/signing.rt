@@ -1,6 +1,6 @@
 //! The questions about signatures.
 
-ghost use Rattle.std.specs.Prelude.{◌≡◌, IsTrue, slice_get};
+ghost use Rattle.std.specs.Prelude.{IfSome, slice_get};
 ghost use Rattle.crew.specs.Held.{HasEntry};
 ghost use Rattle.crew.specs.Drafts.{IsDraft, Grows};
 
@@ -12,6 +12,7 @@ use cjson::NoMemory;
 use keys::{Key, KeyRing, RoleKeys};
 use meta::{Delegation, Root};
 use rolechain::Trusted;
+use std::alloc::Global;
 use std::collections::BTreeSet;
 
 /// Whose signatures are asked of a document.
@@ -165,35 +166,65 @@ fn document_of(roles: &Roles, role: &str) -> Option<usize> {
     Some(roles.files.get(place)?.document)
 }
 
-/// Plans the questions about the signatures of these signers.
+/// Plans the questions about the signatures of these signers. Those of a document under one id are planned
+/// once, however many list the id.
 #[tactic(auto, using(crate::proofs::Drafting::grows_none, crate::proofs::Drafting::grows_on))]
-pub(crate) fn sign_all<'a>(draft: &mut Draft<'a>, all: &[Signers]) -> Result<(), NoMemory>
+pub(crate) fn sign_all<'a>(
+    alloc: Global,
+    draft: &mut Draft<'a>,
+    all: &[Signers],
+) -> Result<(), NoMemory>
     requires { IsDraft draft.old }
     ensures { Grows draft.old draft.new }
 {
+    let mut planned = BTreeSet::new(alloc);
     for signers in all {
-        sign(draft, signers)?;
+        sign(draft, signers, &mut planned)?;
     }
     Ok(())
 }
 
 /// Plans a question for each entry under the id of a key that the role lists.
 #[tactic(auto, using(crate::proofs::Drafting::grows_none, crate::proofs::Drafting::grows_on))]
-fn sign<'a>(draft: &mut Draft<'a>, signers: &Signers) -> Result<(), NoMemory>
+fn sign<'a, 'b>(
+    draft: &mut Draft<'a>,
+    signers: &Signers<'b>,
+    planned: &mut BTreeSet<(usize, &'b str)>,
+) -> Result<(), NoMemory>
     requires { IsDraft draft.old }
     ensures { Grows draft.old draft.new }
 {
-    for key in signers.ring.keys() {
-        if is_listed(signers.role, key) {
-            sign_by(draft, signers.document, key)?;
-        }
+    for id in signers.role.ids() {
+        sign_under(draft, signers, id.as_str(), planned)?;
     }
     Ok(())
 }
 
-fn is_listed(role: &RoleKeys, key: &Key) -> bool {
-    let id = key.id();
-    role.ids().iter().any(|listed| id == listed.as_str())
+/// Plans a question for each entry under the id, if the ring has its key and they weren't planned yet.
+#[tactic(auto, using(crate::proofs::Drafting::grows_none))]
+fn sign_under<'a, 'b>(
+    draft: &mut Draft<'a>,
+    signers: &Signers<'b>,
+    id: &str,
+    planned: &mut BTreeSet<(usize, &'b str)>,
+) -> Result<(), NoMemory>
+    requires { IsDraft draft.old }
+    ensures { Grows draft.old draft.new }
+{
+    let Some(key) = key_of(signers.ring, id) else {
+        return Ok(());
+    };
+    if !planned.insert((signers.document, key.id()))? {
+        return Ok(());
+    }
+    sign_by(draft, signers.document, key)
+}
+
+/// The ring's key of that id. The keys stand in the order of their ids.
+fn key_of<'b>(ring: &'b KeyRing, id: &str) -> Option<&'b Key> {
+    let keys = ring.keys();
+    let place = keys.binary_search_by(|key| key.id().cmp(id)).ok()?;
+    keys.get(place)
 }
 
 /// Plans a question for each entry under the key's id.
@@ -202,11 +233,11 @@ fn sign_by<'a>(draft: &mut Draft<'a>, document: usize, key: &Key) -> Result<(), 
     requires { IsDraft draft.old }
     ensures { Grows draft.old draft.new }
 {
-    for place in 0..entry_count(draft, document) {
+    for nth in 0..count_by(draft, document, key) {
         if draft.is_full() {
             break;
         }
-        if is_by(draft, document, place, key) {
+        if let Some(place) = place_by(draft, document, key, nth) {
             let public = *key.public();
             put(
                 draft,
@@ -221,22 +252,24 @@ fn sign_by<'a>(draft: &mut Draft<'a>, document: usize, key: &Key) -> Result<(), 
     Ok(())
 }
 
-fn entry_count(draft: &Draft, document: usize) -> usize {
+/// How many entries the document has under the key's id.
+fn count_by(draft: &Draft, document: usize, key: &Key) -> usize {
     match draft.documents.get(document) {
-        Some(document) => document.entries.len(),
+        Some(document) => document.places_of(key.id()).len(),
         None => 0,
     }
 }
 
-/// Whether the document has an entry at the place, and it is under the key's id.
-fn is_by(draft: &Draft, document: usize, place: usize, key: &Key) -> bool
-    ensures { IsTrue result → HasEntry place (slice_get draft.now.documents.items document) }
+/// The place of such an entry, by its number among those under the key's id.
+fn place_by(draft: &Draft, document: usize, key: &Key, nth: usize) -> Option<usize>
+    ensures { IfSome result (λ place.
+        HasEntry place (slice_get draft.now.documents.items document)) }
 {
-    let Some(document) = draft.documents.get(document) else {
-        return false;
-    };
-    let Some(entry) = document.entries.get(place) else {
-        return false;
-    };
-    entry.keyid.as_str() == key.id()
+    let document = draft.documents.get(document)?;
+    let place = *document.places_of(key.id()).get(nth)?;
+    if place < document.sigs.len() {
+        Some(place)
+    } else {
+        None
+    }
 }

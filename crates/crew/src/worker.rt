@@ -29,7 +29,8 @@ pub fn settle<C: Checks, G: Gate>(board: &Board, seat: &mut Seat, checks: &C, j:
     gate.leave(j);
 }
 
-/// Takes the next number and decides its check, where the seat wins it. The answer is whether to go on.
+/// Takes the next number and decides its check, where the seat wins it. The answer is whether to go on. Numbers count from
+/// the last check, since the work in order begins with the first: so the two meet once, and don't go side by side.
 #[tactic(auto, using(board::proofs::SeatLemmas::keeps_trans, board::proofs::SeatLemmas::free_kept))]
 fn step<C: Checks, G: Gate>(
     board: &Board,
@@ -48,9 +49,10 @@ fn step<C: Checks, G: Gate>(
     if board.stopped(seat) {
         return false;
     }
-    let Some(j) = hand.next() else {
+    let Some(n) = hand.next() else {
         return false;
     };
+    let j = checks.count() - 1 - n;
     if !board.claim(seat, j) {
         return true;
     }

@@ -1,4 +1,5 @@
 pub mod Asks
+pub mod Found
 pub mod Decoded
 mod Rows
 pub mod Sets

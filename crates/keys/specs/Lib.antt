@@ -1,3 +1,4 @@
+pub mod ById
 pub mod GivesText
 pub use Rattle.cjson.specs.Document
 pub use Rattle.cjson.specs.DocOf

@@ -2,6 +2,7 @@
 #![tactic(auto)]
 
 mod direct;
+mod entries;
 mod judge;
 mod key;
 mod ring;

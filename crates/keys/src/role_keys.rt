@@ -1,5 +1,7 @@
-ghost use Rattle.std.specs.Prelude.{◌≡◌, IfOk};
+ghost use Rattle.std.specs.Prelude.{◌≡◌, ℕ, List, IfOk, bytes_eq};
+ghost use Rattle.std.specs.List.{list_any};
 ghost use Rattle.serde_json.specs.View.{view};
+ghost use Rattle.keys.specs.ById.{has_id};
 ghost use Rattle.keys.specs.Keys as spec;
 
 use cjson::form::{FromJson, if_formed, needed};
@@ -9,6 +11,7 @@ use cjson::text::Text;
 use cjson::{Misread, NoMemory};
 use serde_json::Value;
 use std::alloc::Global;
+use std::collections::BTreeSet;
 use std::marker::Model;
 
 /// Which keys a role lists, by their ids, and how many of them must sign (TUF 1.0 section 4.3).
@@ -40,6 +43,18 @@ impl RoleKeys {
         ensures value { result.now ≡ self.now.ids }
     {
         self.ids.as_slice()
+    }
+
+    /// The set of the listed ids, in which one is found at the price of a few comparisons.
+    pub(crate) fn id_set(&self, alloc: Global) -> Result<BTreeSet<&str>, NoMemory>
+        ensures ids { IfOk result (λ s. (id : List ℕ)
+            → has_id s id ≡ list_any (bytes_eq id) self.now.ids) }
+    {
+        let mut ids: BTreeSet<&str> = BTreeSet::new(alloc);
+        for id in self.ids() {
+            ids.insert(id.as_str())?;
+        }
+        Ok(ids)
     }
 
     /// How many keys must sign, 1 to 9223372036854775807.

@@ -1,8 +1,9 @@
-ghost use Rattle.std.specs.Prelude.{◌≡◌, bytes_eq, IfOk};
-ghost use Rattle.std.specs.List.{list_any};
+ghost use Rattle.std.specs.Prelude.{◌≡◌, ◌&&◌, IfOk};
 ghost use Rattle.cjson.specs.DocOf.{doc_of};
+ghost use Rattle.keys.specs.ById.{IsById, has_id};
 ghost use Rattle.keys.specs.Signers as spec;
 
+use crate::entries::Entries;
 use crate::judge::{Ask, Judge};
 use crate::key::Key;
 use crate::ring::KeyRing;
@@ -10,13 +11,15 @@ use crate::role_keys::RoleKeys;
 use crate::signers::Signers;
 use cjson::{Doc, NoMemory};
 use std::alloc::Global;
+use std::collections::BTreeSet;
 
 /// Whether as many keys signed the document as the role asks for (TUF 1.0 section 4.3): keys of
 /// the ring that the role lists, each with an entry under its id that is valid on the canonical
 /// text of `signed`. Keys with one public value count once, however many ids or entries they have.
 ///
 /// The judge is told `file` as the name of the document's file. It is asked no more once there are
-/// enough keys, nor about a key that has a valid entry. Want of memory is the only refusal.
+/// enough keys, nor about a key that has a valid entry. Listed ids and entries are looked up by id, so
+/// that many keys over many entries cost no more than their number. Want of memory is the only refusal.
 pub fn enough<J: Judge>(
     alloc: Global,
     doc: &Doc,
@@ -28,53 +31,59 @@ pub fn enough<J: Judge>(
     ensures met { IfOk result (λ b. b ≡ spec.is_met (doc_of doc.now).text (doc_of doc.now).entries
         ring.now role.now) }
 {
+    let listed = role.id_set(alloc)?;
+    let entries = Entries::of(alloc, doc)?;
     let mut signers = Signers::new(alloc);
     for key in ring.keys() {
         if signers.len() as u64 >= role.threshold() {
             return Ok(true);
         }
-        if has_signed(doc, file, role, key, judge)? {
+        if has_signed(doc, file, &listed, &entries, key, judge)? {
             signers.add(key.public())?;
         }
     }
     Ok(signers.len() as u64 >= role.threshold())
 }
 
-/// Whether the role lists the key, and an entry under its id has a valid signature.
+/// Whether the key's id is listed, and an entry under it has a valid signature.
 fn has_signed<J: Judge>(
     doc: &Doc,
     file: &str,
-    role: &RoleKeys,
+    listed: &BTreeSet<&str>,
+    entries: &Entries,
     key: &Key,
     judge: &mut J,
 ) -> Result<bool, NoMemory>
-    ensures { IfOk result (λ b. b ≡ spec.has_signed (doc_of doc.now).text (doc_of doc.now).entries role.now key.now) }
+    requires { IsById entries.now.by_id (doc_of doc.now).entries }
+    ensures { IfOk result (λ b. b ≡ (has_id listed.now key.now.id
+        && spec.has_entry (doc_of doc.now).text (doc_of doc.now).entries key.now)) }
 {
-    Ok(is_listed(role, key) && has_entry(doc, file, key, judge)?)
-}
-
-fn is_listed(role: &RoleKeys, key: &Key) -> bool
-    ensures { result ≡ list_any (bytes_eq key.now.id) role.now.ids }
-{
-    let id = key.id();
-    role.ids().iter().any(|listed| id == listed.as_str())
+    Ok(listed.contains(key.id()) && has_entry(doc, file, entries, key, judge)?)
 }
 
 /// Whether an entry under the key's id has a valid signature.
-fn has_entry<J: Judge>(doc: &Doc, file: &str, key: &Key, judge: &mut J) -> Result<bool, NoMemory>
+fn has_entry<J: Judge>(
+    doc: &Doc,
+    file: &str,
+    entries: &Entries,
+    key: &Key,
+    judge: &mut J,
+) -> Result<bool, NoMemory>
+    requires { IsById entries.now.by_id (doc_of doc.now).entries }
     ensures { IfOk result (λ b. b ≡ spec.has_entry (doc_of doc.now).text (doc_of doc.now).entries key.now) }
 {
+    let Some(under) = entries.under(key.id()) else {
+        return Ok(false);
+    };
     let message = doc.bytes();
-    for (place, entry) in doc.entries().iter().enumerate() {
-        if entry.keyid() == key.id()
-            && judge.valid(&Ask::Signature {
-                file,
-                place,
-                public: key.public(),
-                message,
-                sig: entry.sig(),
-            })?
-        {
+    for placed in under {
+        if judge.valid(&Ask::Signature {
+            file,
+            place: placed.place,
+            public: key.public(),
+            message,
+            sig: placed.sig,
+        })? {
             return Ok(true);
         }
     }

@@ -23,7 +23,7 @@ pub enum Rule {
     HeldToEnd(u64),
     /// The work in order begins, and a check that has entered is decided, once two have entered.
     TwoEntered,
-    /// Checks 4 to 7 wait until check 0 has entered, and check 0 until six have.
+    /// Checks 0 to 3 wait until check 7 has entered, and check 7 until six have.
     Stealing,
     /// Each check takes so many turns before it is decided.
     Slow(u64),
@@ -59,8 +59,8 @@ pub struct Schedule {
     rule: Rule,
     /// How many checks have entered.
     entered: AtomicU64,
-    /// How often check 0 has entered.
-    first: AtomicU64,
+    /// How often check 7 has entered.
+    seventh: AtomicU64,
     /// How many checks have left.
     left: AtomicU64,
     /// How often the end was told.
@@ -74,7 +74,7 @@ impl Schedule {
         Schedule {
             rule,
             entered: AtomicU64::new(0),
-            first: AtomicU64::new(0),
+            seventh: AtomicU64::new(0),
             left: AtomicU64::new(0),
             ended: AtomicU64::new(0),
             late: AtomicU64::new(0),
@@ -100,8 +100,8 @@ impl Schedule {
 
     fn enter_stealing(&self, j: usize) {
         match j {
-            0 => self.wait(&self.entered, 6),
-            4..=7 => self.wait(&self.first, 1),
+            7 => self.wait(&self.entered, 6),
+            0..=3 => self.wait(&self.seventh, 1),
             _ => {}
         }
     }
@@ -119,8 +119,8 @@ impl Gate for Schedule {
     }
 
     fn enter(&self, j: usize) {
-        if j == 0 {
-            self.first.fetch_add(1, Ordering::SeqCst);
+        if j == 7 {
+            self.seventh.fetch_add(1, Ordering::SeqCst);
         }
         self.entered.fetch_add(1, Ordering::SeqCst);
         match self.rule {

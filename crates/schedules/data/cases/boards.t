@@ -27,6 +27,6 @@ A worker that is refused memory at a check gives its right back, so the check is
   $ worker refused refused
   done 0: Open Open, won 2
 
-Two workers with four of eight checks each. Checks 4 to 7 wait until check 0 has entered, and check 0 until six have. So the first worker, held at check 0, can't enter its other three, and the second one's four with check 0 are five: the sixth is one that the second worker steals.
+Two workers with four of eight checks each, which they take from the last one on: the first has checks 7 to 4, and the second 3 to 0. Checks 0 to 3 wait until check 7 has entered, and check 7 until six have. So the first worker, held at check 7, can't enter its other three, and the second one's four with check 7 are five: the sixth is one that the second worker steals.
   $ stealing valid valid valid valid valid valid valid valid
   done 8, late 0

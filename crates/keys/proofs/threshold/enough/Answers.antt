@@ -1,4 +1,5 @@
-use Rattle.keys.specs.Signers.{has_signed}
+use Rattle.std.proofs.Common.{◌∙◌, ◌&&◌, ap}
+use Rattle.keys.specs.Signers.{has_entry, has_signed}
 use Rattle.cjson.specs.DocOf.{doc_of}
 use Rattle.keys.proofs.Sets.{added_to, met_early, signed_more}
 use Rattle.keys.proofs.threshold.enough.Goals as goal
@@ -12,7 +13,8 @@ returns-then-len-threshold g c =
 pub loop-key-preserved : goal.loop-key-preserved
 loop-key-preserved g c =
     let d = doc_of c.args.doc.now in
-    signed_more (has_signed d.text d.entries c.args.role.now) c.keys-key-items.result.now c.loop-key.key-index c.key-item.result c.in_ok-has_signed.field-0 _ _ c.loop-key-test.true c.key-item.is c.in_ok-has_signed.ensures c.loop-key.invariant
+    signed_more (has_signed d.text d.entries c.args.role.now) c.keys-key-items.result.now c.loop-key.key-index c.key-item.result c.in_ok-has_signed.field-0 _ _ c.loop-key-test.true c.key-item.is
+    (c.in_ok-has_signed.ensures ∙ ap (λ b. b && has_entry d.text d.entries c.key-item.result) (c.in_ok-listed.ensures.ids c.key-item.result.id)) c.loop-key.invariant
     (elim c.if-branch.branch [
       | then-branch+in_ok-add w ↦ rw w.if-branch.true (added_to c.loop-key.signers _ _ _ _ w.signers-is w.in_ok-add.ensures.ok w.public.ensures.value)
       | else-branch w ↦ rw w.if-branch.false w.signers-is

@@ -1,8 +1,9 @@
 use Rattle.std.proofs.Common.{◌≡◌, drop}
+use Rattle.std.specs.List.{list_any}
 use Rattle.cjson.specs.DocOf.{doc_of}
-use Rattle.keys.specs.Signers.{has_entry}
+use Rattle.keys.specs.Signers.{has_entry, is_signed_by}
 use Rattle.keys.proofs.threshold.has_entry.Given as goal
 
-abbrev pub invariant-loop-place : goal.invariant-loop-place
-invariant-loop-place g l =
-    has_entry (doc_of l.doc).text (doc_of l.doc).entries l.key ≡ has_entry (doc_of l.doc).text (drop l.place l.entry-items) l.key
+abbrev pub invariant-loop-placed : goal.invariant-loop-placed
+invariant-loop-placed g l =
+    has_entry (doc_of l.doc).text (doc_of l.doc).entries l.key ≡ list_any (λ p. is_signed_by l.key.public (doc_of l.doc).text p.sig.now) (drop l.placed-index l.under)

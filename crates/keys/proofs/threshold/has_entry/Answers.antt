@@ -1,0 +1,25 @@
+use Rattle.std.proofs.Common.{◌∙◌, ◌&&◌, sym, ap, bytes_eq}
+use Rattle.std.specs.List.{list_any}
+use Rattle.cjson.specs.DocOf.{doc_of}
+use Rattle.keys.specs.ById.{placed_of, sigs_under}
+use Rattle.keys.specs.Signers.{is_signed_by}
+use Rattle.keys.proofs.Found.{found}
+use Rattle.keys.proofs.threshold.has_entry.Goals as goal
+
+pub returns-in_default : goal.returns-in_default
+returns-in_default g c =
+    let d = doc_of c.args.doc.now in
+    let is_by = is_signed_by c.args.key.now.public d.text in
+    sym (
+    ap (λ id. list_any (λ e. bytes_eq e.keyid id && is_by e.sig) d.entries) (sym c.id.ensures.value)
+    ∙ found is_by c.id.result.now d.entries c.under.result (sigs_under c.args.entries.now.by_id c.id.result.now) c.under.ensures (c.requires c.id.result.now)
+    ∙ ap (λ o. list_any (λ p. is_by p.sig.now) (placed_of o)) c.in_default.is
+    )
+
+pub loop-placed-init : goal.loop-placed-init
+loop-placed-init g c =
+    let d = doc_of c.args.doc.now in
+    let is_by = is_signed_by c.args.key.now.public d.text in
+    ap (λ id. list_any (λ e. bytes_eq e.keyid id && is_by e.sig) d.entries) (sym c.id.ensures.value)
+    ∙ found is_by c.id.result.now d.entries c.under.result (sigs_under c.args.entries.now.by_id c.id.result.now) c.under.ensures (c.requires c.id.result.now)
+    ∙ ap (λ o. list_any (λ p. is_by p.sig.now) (placed_of o)) c.in-Some.is
