@@ -20,10 +20,11 @@ struct Verdict {
     valid: bool,
 }
 
-/// The signed bytes of a file, and verdicts by the signature's place and the key's public value. Each is
-/// the truth of what is kept with it.
+/// A file's name and signed bytes, and verdicts by the signature's place and the key's public value. Each is
+/// the truth of what is kept with it. The name is for finding the file, and bears on no truth.
 #[derive(Drop)]
 struct Remembered {
+    name: String,
     message: Vec<u8>,
     verdicts: BTreeMap<(usize, [u8; 56]), Verdict>,
     ghost truth: { All (λ v. v.valid ≡ is_signed_by v.public message.items (string_bytes v.sig))
@@ -32,10 +33,11 @@ struct Remembered {
 
 impl Remembered {
     /// A file with no verdict yet.
-    fn new(alloc: Global, message: &[u8]) -> Result<Remembered, NoMemory>
+    fn new(alloc: Global, name: &str, message: &[u8]) -> Result<Remembered, NoMemory>
         ensures { IfOk result (λ r. r.message.items ≡ message.now) }
     {
         Ok(Remembered {
+            name: String::from_str(alloc, name)?,
             message: Vec::from_slice(alloc, message)?,
             verdicts: BTreeMap::new(alloc),
         })
@@ -87,8 +89,8 @@ fn verdict_on(alloc: Global, public: &Public, sig: &str, valid: bool) -> Result<
     })
 }
 
-/// Verdicts on the signatures of the files that were used last, found by the digest of a file's signed bytes. Each is
-/// the truth, and none is used unless the signed bytes themselves are equal.
+/// Verdicts on the signatures of the files that were used last, found by a digest of a file's name and signed bytes.
+/// Each is the truth, and none is used unless the signed bytes themselves are equal.
 #[derive(Drop)]
 pub struct Cache {
     alloc: Global,
@@ -111,17 +113,18 @@ impl Cache {
         })
     }
 
-    /// The SHA-256 of the message. It isn't computed again where the file that was used last has these very bytes.
-    pub(crate) fn digest_of(&self, message: &[u8]) -> [u8; 32] {
+    /// The digest by which the file of this name with this message is found. It isn't computed again where the file that
+    /// was used last has this name and these very bytes.
+    pub(crate) fn digest_of(&self, name: &str, message: &[u8]) -> [u8; 32] {
         if let Some((digest, file)) = self.files.peek_mru() {
-            if file.message.as_slice() == message {
+            if file.name.as_str() == name && file.message.as_slice() == message {
                 return *digest;
             }
         }
-        Sha256::digest(message)
+        digest_of_parts(name, message)
     }
 
-    /// The kept verdict on the message with this digest, if all parts of the question are equal.
+    /// The kept verdict on the message of the file with this digest, if all parts of the question are equal.
     pub(crate) fn find(
         &mut self,
         digest: &[u8; 32],
@@ -135,10 +138,11 @@ impl Cache {
         self.files.get(digest)?.find(place, public, message, sig)
     }
 
-    /// Keeps a verdict on the message with this digest. After a refusal it may know less.
+    /// Keeps a verdict on the message of the file of this name with this digest. After a refusal it may know less.
     pub(crate) fn learn(
         &mut self,
         digest: [u8; 32],
+        name: &str,
         place: usize,
         public: &Public,
         message: &[u8],
@@ -153,9 +157,18 @@ impl Cache {
                 return file.learn(place, verdict);
             }
         }
-        let mut file = Remembered::new(self.alloc, message)?;
+        let mut file = Remembered::new(self.alloc, name, message)?;
         file.learn(place, verdict)?;
         self.files.put(digest, file)?;
         Ok(())
     }
+}
+
+/// The SHA-256 of the name's length, the name and the message.
+fn digest_of_parts(name: &str, message: &[u8]) -> [u8; 32] {
+    let mut hasher = Sha256::new();
+    hasher.update(&(name.len() as u64).to_be_bytes());
+    hasher.update(name.as_bytes());
+    hasher.update(message);
+    hasher.finalize()
 }

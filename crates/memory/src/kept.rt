@@ -35,11 +35,11 @@ impl<'a, J: Judge> Kept<'a, J> {
 impl<J: Judge> Judge for Kept<'_, J> {
     fn valid(&mut self, ask: &Ask) -> Result<bool, NoMemory> {
         let Ask::Signature {
+            file,
             place,
             public,
             message,
             sig,
-            ..
         } = *ask
         else {
             return self.inner.valid(ask);
@@ -48,13 +48,15 @@ impl<J: Judge> Judge for Kept<'_, J> {
         if sig.len() / 2 != public.signature_len() {
             return self.inner.valid(ask);
         }
-        let digest = self.cache.digest_of(message);
+        let digest = self.cache.digest_of(file, message);
         if let Some(valid) = self.cache.find(&digest, place, public, message, sig) {
             self.taken_over = self.taken_over.saturating_add(1);
             return Ok(valid);
         }
         let valid = self.inner.valid(ask)?;
-        let _ = self.cache.learn(digest, place, public, message, sig, valid);
+        let _ = self
+            .cache
+            .learn(digest, file, place, public, message, sig, valid);
         Ok(valid)
     }
 }
