@@ -1,7 +1,7 @@
 //! The commands that look at files and change them.
 
 use crate::case::Step;
-use crate::line::joined;
+use crate::script::script_of;
 use crate::told::Told;
 use anyhow::Result;
 use std::alloc::Global;
@@ -27,10 +27,11 @@ pub fn perform<R: Files + AllocGlobal + Clone + Drop>(
     Ok(Some(Told::nothing(alloc)))
 }
 
-/// Writes a file with the text of the lines.
+/// Writes a file with the text that the lines spell, without the last line feed.
 fn put<R: Files + AllocGlobal + Clone + Drop>(rt: &R, alloc: Global, step: &Step) -> Result<()> {
-    let text = joined(alloc, step.script.as_slice())?;
-    fs::write(rt, step.word(0)?, text.as_str())?;
+    let text = script_of(rt, alloc, step.script.as_slice())?;
+    let text = text.as_str().strip_suffix("\n").unwrap_or("");
+    fs::write(rt, step.word(0)?, text)?;
     Ok(())
 }
 

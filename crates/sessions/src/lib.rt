@@ -13,9 +13,11 @@ mod files;
 mod given;
 mod line;
 mod room;
+mod script;
 mod told;
 
 pub use case::Step;
 pub use cases::run_all;
 pub use line::{joined, words_of};
+pub use script::script_of;
 pub use told::Told;

@@ -1,13 +1,12 @@
 //! Files with one part changed.
 
-use crate::script::script_of;
 use crate::shell::Shell;
 use anyhow::{Context, Result, bail};
 use cjson::{canonical, read_tree, signed_bytes};
 use lms::Height;
 use maker::{Signer, seal, secret};
 use serde_json::Value;
-use sessions::Told;
+use sessions::{Told, script_of};
 use std::alloc::Global;
 use std::fs;
 use std::rt::{Clock, Files};

@@ -6,11 +6,11 @@
 
 mod change;
 mod clocks;
+mod cuts;
 mod files;
 mod narrow;
 mod rights;
 mod run;
-mod script;
 mod session;
 mod shell;
 mod workers;

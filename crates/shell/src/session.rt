@@ -2,6 +2,7 @@
 
 use crate::change::change;
 use crate::clocks::{clock, failing};
+use crate::cuts::cuts;
 use crate::files::{digests, keeps, state};
 use crate::narrow::{with_narrow_error, with_narrow_output};
 use crate::rights::{allow, link};
@@ -29,6 +30,7 @@ impl<'a, R: Files + Clock + AllocGlobal + Clone + Drop, T: Threads + Wait + Sync
                 step.word(2)?,
                 rest(words, 3),
             ),
+            "cuts" => cuts(self, step, rest(words, 5)),
             "change" => change(self, step.word(0)?, words.get(1), step.script.as_slice()),
             "state" => state(self, step.word(0)?, rest(words, 1)),
             "keeps" => keeps(self, step.word(0)?),

@@ -1,9 +1,8 @@
 //! What runs the commands of a session.
 
-use crate::script::script_of;
 use anyhow::Result;
 use command::perform;
-use sessions::{Told, words_of};
+use sessions::{Told, script_of, words_of};
 use std::alloc::Global;
 use std::fs;
 use std::rt::{Clock, Files};

@@ -1,8 +1,8 @@
 Files that are cut off, or made to cost: each is verified by no worker and by eight.
 
-A repository with a second root and a delegated role, in which one file at a time is cut off after 1,000 bytes, and then
-is empty. The timestamp lists how long the snapshot is, the snapshot how long the targets files are, and nothing how long
-the root and the timestamp are.
+A repository with a second root and a delegated role, in which one file at a time is cut off at each multiple of 97 bytes.
+The timestamp lists how long the snapshot is, the snapshot how long the targets files are, and nothing how long the root and
+the timestamp are. The files have 4,211, 2,925, 3,047, 3,325 and 3,003 bytes.
   $ make
   > @keys
   > write root 1 1
@@ -15,78 +15,32 @@ the root and the timestamp are.
   > @files
   $ init old
   root 1
-  $ copy metadata/2.root.json good
-  $ pad metadata/2.root.json 1000
-  $ by 0,8 old new p
+  $ cuts 97 metadata/2.root.json 0,8 old new p
+  44 lengths, status 2
   root 1
   end root Malformed
   no "p" NotSearched
-  [2]
-  $ pad metadata/2.root.json 0
-  $ by 0,8 old new p
-  root 1
-  end root Malformed
-  no "p" NotSearched
-  [2]
-  $ copy good metadata/2.root.json
-  $ copy metadata/timestamp.json good
-  $ pad metadata/timestamp.json 1000
-  $ by 0,8 old new p
+  $ cuts 97 metadata/timestamp.json 0,8 old new p
+  31 lengths, status 2
   root 2
   end timestamp Malformed
   no "p" NotSearched
-  [2]
-  $ pad metadata/timestamp.json 0
-  $ by 0,8 old new p
-  root 2
-  end timestamp Malformed
-  no "p" NotSearched
-  [2]
-  $ copy good metadata/timestamp.json
-  $ copy metadata/snapshot.json good
-  $ pad metadata/snapshot.json 1000
-  $ by 0,8 old new p
+  $ cuts 97 metadata/snapshot.json 0,8 old new p
+  32 lengths, status 2
   root 2
   end snapshot LengthWrong
   no "p" NotSearched
-  [2]
-  $ pad metadata/snapshot.json 0
-  $ by 0,8 old new p
-  root 2
-  end snapshot LengthWrong
-  no "p" NotSearched
-  [2]
-  $ copy good metadata/snapshot.json
-  $ copy metadata/targets.json good
-  $ pad metadata/targets.json 1000
-  $ by 0,8 old new p
+  $ cuts 97 metadata/targets.json 0,8 old new p
+  35 lengths, status 2
   root 2
   end targets LengthWrong
   no "p" NotSearched
-  [2]
-  $ pad metadata/targets.json 0
-  $ by 0,8 old new p
-  root 2
-  end targets LengthWrong
-  no "p" NotSearched
-  [2]
-  $ copy good metadata/targets.json
-  $ copy metadata/c.json good
-  $ pad metadata/c.json 1000
-  $ by 0,8 old new p q
+  $ cuts 97 metadata/c.json 0,8 old new p q
+  31 lengths, status 1
   root 2
   end ready
   no "p" LengthWrong "c"
   no "q" LengthWrong "c"
-  [1]
-  $ pad metadata/c.json 0
-  $ by 0,8 old new p q
-  root 2
-  end ready
-  no "p" LengthWrong "c"
-  no "q" LengthWrong "c"
-  [1]
-  $ copy good metadata/c.json
   $ by 0,8 old new p q
   root 2
   end ready
@@ -162,6 +116,25 @@ role.
   role "b" 1
   no "p" LimitReached
   [1]
+
+A snapshot that lists 20,000 files more, in 540,000 bytes.
+  $ make
+  > @keys
+  > write root 1 1
+  > @files
+  $ init old
+  root 1
+  $ change metadata/snapshot.json 3
+  > "meta":{
+  > "meta":{
+  > @10000..29999 "r{}.json":{"version":1},
+  $ change metadata/timestamp.json 2
+  > "hashes":{...,"version"
+  > "version"
+  $ by 0,8 old many abc.txt
+  root 1
+  end ready
+  ok "abc.txt" 3 "targets"
 
 Entries under the key's id before the good one, in a targets file that nothing lists the length and digests of: 1,000, and
 4,100, which are more than workers look at.

@@ -83,6 +83,17 @@ A keeper of three files remembers as much. With fewer, each file has taken the p
   planned 0, taken over 0, alone 6
   late 0
 
+Two hash bins that list nothing sign the same bytes, each with a leaf of its own. The keeper finds a file by its name and its bytes, so it remembers both: of nine questions, five are about signatures. There are five files.
+  $ make alike
+  $ kept alike,alike 0 0 open 5 abc x/1
+  planned 0, taken over 0, alone 9
+  planned 0, taken over 5, alone 4
+  late 0
+  $ kept alike,alike 0 0 open 4 abc x/1
+  planned 0, taken over 0, alone 9
+  planned 0, taken over 0, alone 9
+  late 0
+
 Workers with a plan of the three signatures, that are held until the first cycle is done: the thread in order decides all six, and in the second cycle the signatures are there.
   $ kept first,first 2 3 held-to-end 64 abc.txt
   planned 3, taken over 0, alone 6

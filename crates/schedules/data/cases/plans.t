@@ -44,3 +44,17 @@ Of hash bins those are asked about in which wanted paths lie, each once, where t
   7 questions, 7 true
   $ plan bins 4096 x/2
   3 questions, 3 true
+
+Each entry under the key's id is a question, whatever its text looks like, and a plan has 4,096 at most. With the signatures of timestamp and snapshot, which alone are true, a targets file of 1,001 entries makes 1,003 questions, and one of 4,101 more than there may be.
+  $ put first/metadata/targets.json
+  > {"signatures":[
+  > @1000..1999 {"keyid":"14bcfefb9c4f1cc3d375d9080c6f9cccf0492b63f4decdcdc46e7b35c1cdd28a","sig":"{}"},
+  > {"keyid":"14bcfefb9c4f1cc3d375d9080c6f9cccf0492b63f4decdcdc46e7b35c1cdd28a","sig":"00"}],"signed":{"_type":"targets","expires":"2030-01-01T00:00:00Z","spec_version":"1.0.0","targets":{},"version":1}}
+  $ plan first 4096 abc.txt
+  1003 questions, 2 true
+  $ put first/metadata/targets.json
+  > {"signatures":[
+  > @1000..5099 {"keyid":"14bcfefb9c4f1cc3d375d9080c6f9cccf0492b63f4decdcdc46e7b35c1cdd28a","sig":"{}"},
+  > {"keyid":"14bcfefb9c4f1cc3d375d9080c6f9cccf0492b63f4decdcdc46e7b35c1cdd28a","sig":"00"}],"signed":{"_type":"targets","expires":"2030-01-01T00:00:00Z","spec_version":"1.0.0","targets":{},"version":1}}
+  $ plan first 4096 abc.txt
+  4096 questions, 2 true

@@ -30,6 +30,24 @@ Each check takes five million turns before it is decided.
   $ agrees first 1 4096 slow=5000000 abc.txt
   yes
   late 0
+  $ agrees first 2 4096 slow=5000000 abc.txt
+  yes
+  late 0
+  $ agrees first 3 4096 slow=5000000 abc.txt
+  yes
+  late 0
+  $ agrees first 4 4096 slow=5000000 abc.txt
+  yes
+  late 0
+  $ agrees first 5 4096 slow=5000000 abc.txt
+  yes
+  late 0
+  $ agrees first 6 4096 slow=5000000 abc.txt
+  yes
+  late 0
+  $ agrees first 7 4096 slow=5000000 abc.txt
+  yes
+  late 0
   $ agrees first 8 4096 slow=5000000 abc.txt
   yes
   late 0

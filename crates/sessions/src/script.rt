@@ -1,5 +1,6 @@
 //! The lines that are handed to a command.
 
+use crate::room::CASES;
 use anyhow::{Context, Result};
 use std::alloc::Global;
 use std::fs;
@@ -33,7 +34,7 @@ fn push_line(script: &mut String, line: &str) -> Result<()> {
 }
 
 fn prologue<R: Files + AllocGlobal>(rt: &R, alloc: Global, name: &str) -> Result<String> {
-    let path = format!(in alloc; "cases/{name}.script")?;
+    let path = format!(in alloc; "{CASES}/{name}.script")?;
     fs::read_to_string(rt, path.as_str()).context("no file of that name and .script")
 }
 

@@ -1,0 +1,67 @@
+//! Verifications of a file that is cut off.
+
+use crate::shell::Shell;
+use crate::workers::by;
+use anyhow::{Result, ensure};
+use sessions::{Step, Told};
+use std::alloc::Global;
+use std::fs;
+use std::io::Write;
+use std::rt::{Clock, Files};
+use std::sync::Wait;
+use std::thread::Threads;
+
+/// An answer, and how many lengths gave it.
+#[derive(Drop)]
+struct Answer {
+    told: Told,
+    lengths: u32,
+}
+
+/// Cuts a file off at each multiple of a step below its length, and verifies each time by several numbers
+/// of workers. It gives each different answer once, behind the number of lengths that gave it. Then the
+/// file is as before.
+pub fn cuts<R: Files + Clock + AllocGlobal + Clone + Drop, T: Threads + Wait + Sync>(
+    shell: &Shell<'_, R, T>,
+    step: &Step,
+    more: &[String],
+) -> Result<Told> {
+    let size = step.word(0)?.parse::<usize>()?;
+    ensure!(size > 0, "no step");
+    let name = step.word(1)?;
+    let whole = fs::read(shell.rt, name)?;
+    let mut cut: Vec<u8> = Vec::new(shell.alloc);
+    let mut answers: Vec<Answer> = Vec::new(shell.alloc);
+    for part in whole.as_slice().chunks(size) {
+        fs::write(shell.rt, name, cut.as_slice())?;
+        let (numbers, old, new) = (step.word(2)?, step.word(3)?, step.word(4)?);
+        count(&mut answers, by(shell, numbers, old, new, more)?)?;
+        cut.extend_from_slice(part)?;
+    }
+    fs::write(shell.rt, name, whole.as_slice())?;
+    all_told(shell.alloc, answers.as_slice())
+}
+
+/// Counts one length more that gave this.
+fn count(answers: &mut Vec<Answer>, told: Told) -> Result<()> {
+    for answer in answers.iter_mut() {
+        if answer.told.is(&told) {
+            answer.lengths = answer.lengths.saturating_add(1);
+            return Ok(());
+        }
+    }
+    answers.push(Answer { told, lengths: 1 })?;
+    Ok(())
+}
+
+/// Each answer behind the number of its lengths and its status.
+fn all_told(alloc: Global, answers: &[Answer]) -> Result<Told> {
+    let mut all = Told::nothing(alloc);
+    for answer in answers {
+        let (lengths, status) = (answer.lengths, answer.told.status);
+        writeln!(all.out, "{lengths} lengths, status {status}")?;
+        all.out.extend_from_slice(answer.told.out.as_slice())?;
+        all.err.extend_from_slice(answer.told.err.as_slice())?;
+    }
+    Ok(all)
+}
