@@ -1,13 +1,15 @@
 #!/bin/bash
-# Times `tufcheck verify` by several numbers of workers: on a repository of 1,024 signatures, where a path is searched in
-# vain through 32 delegated roles that 32 keys sign each, and on the repository of examples/first.script. Then it times
-# `tufcheck replay` by no worker of the first repository, once and several times over.
+# Times whole runs of the program. `tufcheck verify` by several numbers of workers: on a repository of 1,024 signatures, where
+# a path is searched in vain through 32 delegated roles that 32 keys sign each, on one of 100 delegated roles, signed by
+# a key each, on one whose targets file has 5 MB, and on that of examples/first.script. Then `tufcheck replay` by no worker of
+# the first repository, once and several times over, and `tufcheck make` of thirty keys, 27 of which sign one file.
 #
 #   checks/ahead.sh [RUNS]      the runs of each, 11 unless given
 #
-# For each number it prints the median and the least of the milliseconds that a run took, from its start to its end, and
-# asks that each run prints the same lines and stores the same state. `rt run` in crates/tufcheck proves and builds the
-# program, once; this takes a minute. Idle cores are what it measures: nothing else should run meanwhile.
+# For each it prints the median and the least of the milliseconds that a run took, from its start to its end, and for workers
+# by the median of the rounds how many times as fast it was as the run by no worker beside it. It asks that each run prints
+# the same lines and stores the same state. `rt run` in crates/tufcheck proves and builds the program, once; this takes some
+# minutes. Idle cores are what it measures: nothing else should run meanwhile.
 set -u
 runs=${1:-11}
 top=$(cd "$(dirname "$0")/.." && pwd) || exit 2
@@ -20,64 +22,104 @@ joined() {
     seq -s, "$1" "$2"
 }
 
-# many: a script with 32 roles, each signed by the same 32 keys and with a target of its own, since a keeper remembers one
-# file of those that sign the same bytes
-many() {
+# heads: the keys of the top-level roles and those of bytes up to the given one
+heads() {
     local n
-    for n in $(seq 1 36); do echo "key $n 5"; done
+    for n in $(seq 1 "$1"); do echo "key $n 5"; done
     echo "top root 1 1"
     echo "top timestamp 1 2"
     echo "top snapshot 1 3"
     echo "top targets 1 4"
-    for n in $(seq 1 32); do echo "delegate targets r$n 32 $(joined 5 36) go paths *"; done
-    for n in $(seq 1 32); do echo "target r$n t$n 31 sha256"; done
-    for n in $(seq 1 32); do echo "write r$n 1 $(joined 5 36)"; done
+}
+
+# files KEYS: the top-level files, the targets file signed by these keys
+files() {
     echo "write root 1 1"
-    echo "write targets 1 4"
+    echo "write targets 1 $1"
     echo "write snapshot 1 3"
     echo "write timestamp 1 2"
 }
 
+# many: a script with 32 roles that list nothing, each signed by the same 32 keys
+many() {
+    heads 36
+    for n in $(seq 1 32); do echo "delegate targets r$n 32 $(joined 5 36) go paths *"; done
+    for n in $(seq 1 32); do echo "write r$n 1 $(joined 5 36)"; done
+    files 4
+}
+
+# roles: a script with 100 roles that list nothing, each signed by a key of four
+roles() {
+    local n
+    heads 8
+    for n in $(seq 1 100); do echo "delegate targets r$n 1 $((5 + n % 4)) go paths *"; done
+    for n in $(seq 1 100); do echo "write r$n 1 $((5 + n % 4))"; done
+    files 4
+}
+
+# large: a script whose targets file has 45,000 targets in 4.9 MB
+large() {
+    local n
+    heads 4
+    for n in $(seq 10001 55000); do echo "target targets p$n 31 sha256"; done
+    files 4
+}
+
+# thirty: a script with thirty keys, of which 27 sign the targets file
+thirty() {
+    heads 30
+    echo "top targets 27 $(joined 4 30)"
+    files "$(joined 4 30)"
+}
+
 # verify FOLDER WORKERS PATH: a run, with its lines in FOLDER/lines
 verify() {
-    "$program" verify --state "$1/state" --metadata "$1/metadata" --targets "$1/targets" --limit 33 \
+    "$program" verify --state "$1/state" --metadata "$1/metadata" --targets "$1/targets" --limit 101 \
         --now 2026-01-01T00:00:00Z --workers "$2" --out "$1/new" "$3" > "$1/lines"
 }
 
-# timed FOLDER WORKERS PATH: the milliseconds of each run, sorted
+# timed FOLDER WORKERS PATH: the microseconds of a run
 timed() {
     local from to
-    for _ in $(seq "$runs"); do
-        from=$(date +%s%N)
-        verify "$@"
-        to=$(date +%s%N)
-        echo $(((to - from) / 1000))
-        if ! cmp -s "$1/lines" "$1/due.lines" || ! cmp -s "$1/new" "$1/due.state"; then
-            echo "$1: other lines or another state by $2 workers" >&2
-        fi
-    done | sort -n
+    from=$(date +%s%N)
+    verify "$@"
+    to=$(date +%s%N)
+    echo $(((to - from) / 1000))
+    if ! cmp -s "$1/lines" "$1/due.lines" || ! cmp -s "$1/new" "$1/due.state"; then
+        echo "$1: other lines or another state by $2 workers" >&2
+    fi
 }
 
-# told NAME FOLDER PATH: a line for each number of workers
+# middle: the one in the middle of the numbers that are read
+middle() {
+    sort -n | sed -n "$((runs / 2 + 1))p"
+}
+
+# told NAME FOLDER PATH: a line for each number of workers. Each round has a run of each, so that all meet the same machine
 told() {
-    local workers times
+    local workers
     verify "$2" 0 "$3"
     cp "$2/lines" "$2/due.lines"
     cp "$2/new" "$2/due.state" || exit 2
+    for _ in $(seq "$runs"); do
+        for workers in 0 1 2 4; do
+            timed "$2" "$workers" "$3" >> "$2/times.$workers"
+        done
+    done
     for workers in 0 1 2 4; do
-        mapfile -t times < <(timed "$2" "$workers" "$3")
-        printf '%s, %d workers: %.1f ms, at least %.1f ms\n' "$1" "$workers" \
-            "${times[$((runs / 2))]}e-3" "${times[0]}e-3"
+        printf '%s, %d workers: %.1f ms, at least %.1f ms, %.2f times as fast as none\n' "$1" "$workers" \
+            "$(middle < "$2/times.$workers")e-3" "$(sort -n "$2/times.$workers" | head -n 1)e-3" \
+            "$(paste "$2/times.0" "$2/times.$workers" | awk '{ printf "%.4f\n", $1 / $2 }' | middle)"
     done
 }
 
-# replayed FOLDER TIMES PATH: the milliseconds of each replay of the repository so many times over, sorted
+# replayed FOLDER TIMES PATH: the microseconds of each replay of the repository so many times over, sorted
 replayed() {
     local from to
     for _ in $(seq "$runs"); do
         from=$(date +%s%N)
         # shellcheck disable=SC2046 # so many words
-        "$program" replay --state "$1/state" --limit 33 --now 2026-01-01T00:00:00Z --workers 0 --out "$1/new" "$3" \
+        "$program" replay --state "$1/state" --limit 101 --now 2026-01-01T00:00:00Z --workers 0 --out "$1/new" "$3" \
             $(yes "$1" | head -n "$2") > "$1/lines"
         to=$(date +%s%N)
         echo $(((to - from) / 1000))
@@ -92,16 +134,41 @@ made() {
     mkdir -p "$1/targets" && "$program" make "$1/script" "$1" && "$program" init "$1/metadata/1.root.json" --out "$1/state" > "$1/lines"
 }
 
-mkdir "$work/many" "$work/first"
-many > "$work/many/script"
-cp "$top/examples/first.script" "$work/first/script"
-made "$work/many" && made "$work/first" || exit 2
-told "1,024 signatures" "$work/many" nowhere 2> "$work/differs"
-told "first.script" "$work/first" abc.txt 2>> "$work/differs"
-for cycles in 1 2 21; do
-    mapfile -t times < <(replayed "$work/many" "$cycles" nowhere 2>> "$work/differs")
-    printf '1,024 signatures, %d cycles of replay: %.1f ms, at least %.1f ms\n' "$cycles" \
-        "${times[$((runs / 2))]}e-3" "${times[0]}e-3"
+# making FOLDER: the microseconds of each making of what the script FOLDER/script says, sorted
+making() {
+    local from to
+    for _ in $(seq "$runs"); do
+        from=$(date +%s%N)
+        "$program" make "$1/script" "$1/made"
+        to=$(date +%s%N)
+        echo $(((to - from) / 1000))
+    done | sort -n
+}
+
+# line NAME: the median and the least of the sorted times that are read
+line() {
+    local times
+    mapfile -t times
+    printf '%s: %.1f ms, at least %.1f ms\n' "$1" "${times[$((runs / 2))]}e-3" "${times[0]}e-3"
+}
+
+for name in many roles large thirty; do
+    mkdir "$work/$name"
+    $name > "$work/$name/script"
 done
+mkdir "$work/first"
+cp "$top/examples/first.script" "$work/first/script"
+made "$work/many" && made "$work/roles" && made "$work/large" && made "$work/first" || exit 2
+find "$work/large/targets" -type f ! -name p10001 -delete
+{
+    told "1,024 signatures" "$work/many" nowhere
+    told "100 roles" "$work/roles" nowhere
+    told "targets file of 5 MB" "$work/large" p10001
+    told "first.script" "$work/first" abc.txt
+    for cycles in 1 2 21; do
+        replayed "$work/many" "$cycles" nowhere | line "1,024 signatures, $cycles cycles of replay"
+    done
+    making "$work/thirty" | line "make of thirty keys"
+} 2> "$work/differs"
 cat "$work/differs" >&2
 [ ! -s "$work/differs" ]
