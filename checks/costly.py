@@ -1,7 +1,8 @@
 #!/usr/bin/env python3
-"""Times `tufcheck verify` of files that are made to cost, each of a quarter, half and all of 5,000,000 bytes.
+"""Times `tufcheck verify` of files that are made to cost, each of a quarter, half and all of 5,000,000 bytes, and of a
+snapshot of a quarter, half and all of 2,000,000 bytes that is verified after one with the same names.
 
-  checks/costly.py [CASE..]      all cases unless given
+  checks/costly.py [CASE..]      all cases unless given, `snapshots` the last of them
 
 Every file is signed as it should be, by the Python beside this script. It prints for each case the seconds from start to
 end by 0 and by 4 workers, the processor's seconds by 0 and the peak memory, and asks for the lines that the workflow gives.
@@ -172,30 +173,51 @@ def made(make, size):
         sys.exit("costly.py: the files couldn't be made")
 
 
-def measure(name, size):
-    make, lines = CASES[name]
-    made(make, size - ROOM)
-    verify = ["verify", "--state", "state", "--metadata", "metadata", "--targets", "targets", "--now", NOW, "--out", "new"]
-    runs = [run(*verify, "--workers", workers, PATH) for workers in ("0", "4")]
+VERIFY = ["verify", "--metadata", "metadata", "--targets", "targets", "--now", NOW, "--out", "new"]
+
+
+def told(name, file, lines, state):
+    """Runs by 0 and by 4 workers from a state, asks for their lines, and prints what they took."""
+    runs = [run(*VERIFY, "--state", state, "--workers", workers, PATH) for workers in ("0", "4")]
     for given in runs:
         if given[0] != f"root 1\nend ready\n{lines}\n":
             sys.exit(f"costly.py: {name}: {given[0]}")
     (_, alone, used, memory), (_, beside, _, _) = runs
-    length = os.path.getsize("metadata/targets.json")
-    print(f"{name}: {length} bytes: {alone:.2f} s by 0 workers, {beside:.2f} s by 4, {used:.2f} s of processor, {memory} MB",
-          flush=True)
+    print(f"{name}: {os.path.getsize(file)} bytes: {alone:.2f} s by 0 workers, {beside:.2f} s by 4, {used:.2f} s of"
+          f" processor, {memory} MB", flush=True)
+
+
+def measure(name, size):
+    make, lines = CASES[name]
+    made(make, size - ROOM)
+    told(name, "metadata/targets.json", lines, "state")
+
+
+def snapshots(size):
+    """A snapshot with as many names as fit, after one with the same names."""
+    names = ["targets", *("%06d" % n for n in range((size - ROOM) // 28))]
+    write({"metadata/targets.json": targets()})
+    for version in (1, 2):
+        write({"metadata/snapshot.json": tuf.snapshot(KEY, names, version)})
+        write({"metadata/timestamp.json": tuf.timestamp(KEY, version)})
+        told("snapshots", "metadata/snapshot.json", FOUND, "state" if version == 1 else "first")
+        os.replace("new", "first")
 
 
 def main():
+    cases = sys.argv[1:] or [*CASES, "snapshots"]
     with tempfile.TemporaryDirectory() as room:
         os.chdir(room)
         os.mkdir("metadata")
         os.mkdir("targets")
         write({"metadata/1.root.json": tuf.root(KEY), f"targets/{PATH}": b"x"})
         run("init", "metadata/1.root.json", "--out", "state")
-        for name in sys.argv[1:] or CASES:
+        for name in cases:
             for quarters in (1, 2, 4):
-                measure(name, LIMIT * quarters // 4)
+                if name == "snapshots":
+                    snapshots(2_000_000 * quarters // 4)
+                else:
+                    measure(name, LIMIT * quarters // 4)
 
 
 main()

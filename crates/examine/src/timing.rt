@@ -1,4 +1,4 @@
-ghost use Rattle.std.specs.Prelude.{◌≡◌, false, option_map};
+ghost use Rattle.std.specs.Prelude.{◌≡◌, ◌≤◌, ◌<◌, length, false, is_none, IfSome, position, option_map};
 ghost use Rattle.std.specs.Option.{option_map_or};
 ghost use Rattle.examine.specs.Checks as spec;
 
@@ -48,18 +48,41 @@ pub(crate) fn falls_short(old: Option<&Snapshot>, new: &Snapshot) -> bool
     }
 }
 
+/// Both snapshots list their files in byte order of their names, so what keeps a file stands close
+/// behind what keeps the file before it: each name of the new snapshot is passed once.
 fn lists_less(old: &Snapshot, new: &Snapshot) -> bool
     ensures { result ≡ spec.lists_less old.now new.now }
 {
-    old.files()
-        .iter()
-        .any(|named| is_listed_below(new.files(), named))
+    let files = new.files();
+    let mut from = 0;
+    for named in old.files() {
+        let Some(place) = place_kept(files, from, named) else {
+            return true;
+        };
+        from = place;
+    }
+    false
 }
 
-fn is_listed_below(files: &[Named], old: &Named) -> bool
-    ensures { result ≡ spec.is_listed_below files.now old.now }
+/// The place of what keeps the file: the first from `from` on, or else the first before it.
+#[tactic(auto, using(crate::proofs::Places::within))]
+fn place_kept(files: &[Named], from: usize, old: &Named) -> Option<usize>
+    requires { from ≤ length files.now }
+    ensures none { is_none result ≡ spec.is_listed_below files.now old.now }
+    ensures within { IfSome result (λ p. p < length files.now) }
 {
-    files.iter().all(|new| !is_kept_by(old, new))
+    let (before, after) = files.split_at(from);
+    match first_kept(after, old) {
+        Some(place) => Some(from + place),
+        None => first_kept(before, old),
+    }
+}
+
+/// The first place of what keeps the file.
+fn first_kept(files: &[Named], old: &Named) -> Option<usize>
+    ensures { result ≡ position (spec.is_kept_by old.now) files.now }
+{
+    files.iter().position(|new| is_kept_by(old, new))
 }
 
 /// Whether it has the same name and no lower version.

@@ -136,6 +136,33 @@ A snapshot that lists 20,000 files more, in 540,000 bytes.
   end ready
   ok "abc.txt" 3 "targets"
 
+And the next snapshot, which lists as many: all of these, and all but the last.
+  $ make
+  > @keys
+  > target targets abc.txt 616263 sha256
+  > write targets 1 4
+  > write snapshot 2 3
+  > write timestamp 2 2
+  $ change metadata/snapshot.json 3
+  > "meta":{
+  > "meta":{
+  > @10000..29999 "r{}.json":{"version":1},
+  $ change metadata/timestamp.json 2
+  > "hashes":{...,"version"
+  > "version"
+  $ by 0,8 many new abc.txt
+  root 1
+  end ready
+  ok "abc.txt" 3 "targets"
+  $ change metadata/snapshot.json 3
+  > "r29999.json"
+  > "s29999.json"
+  $ by 0,8 many new abc.txt
+  root 1
+  end snapshot Rollback
+  no "abc.txt" NotSearched
+  [2]
+
 Entries under the key's id before the good one, in a targets file that nothing lists the length and digests of: 1,000, and
 4,100, which are more than workers look at.
   $ make
