@@ -1,8 +1,7 @@
 //! The commands of the rows.
 
 use crate::{
-    blocks, contents, forms, key_rings, moments, names, questions, readings, searches, signatures,
-    states, texts, thresholds, verdicts,
+    blocks, contents, forms, key_rings, moments, questions, readings, signatures, texts, thresholds,
 };
 use anyhow::{Context, Result};
 use sessions::{Step, Told};
@@ -20,11 +19,6 @@ pub struct Layers<'a, R> {
 impl<'a, R: Files + AllocGlobal + Clone + Drop> Layers<'a, R> {
     pub fn new(rt: &'a R, alloc: Global) -> Layers<'a, R> {
         Layers { rt, alloc }
-    }
-
-    /// The bytes of a file.
-    pub fn bytes(&self, name: &str) -> Result<Vec<u8>> {
-        Ok(fs::read(self.rt, name)?)
     }
 
     /// The text of a file.
@@ -68,10 +62,7 @@ impl<'a, R: Files + AllocGlobal + Clone + Drop> Layers<'a, R> {
         if let Some(text) = questions::given(self.alloc, step)? {
             return Ok(Some(text));
         }
-        if let Some(text) = blocks::given(self.alloc, step)? {
-            return Ok(Some(text));
-        }
-        names::given(self.alloc, step)
+        blocks::given(self.alloc, step)
     }
 
     /// What a step prints that reads files or writes them.
@@ -85,9 +76,6 @@ impl<'a, R: Files + AllocGlobal + Clone + Drop> Layers<'a, R> {
         if let Some(text) = readings::given(self, step)? {
             return Ok(Some(text));
         }
-        if let Some(text) = contents::given(self, step)? {
-            return Ok(Some(text));
-        }
-        states::given(self, step)
+        contents::given(self, step)
     }
 }
