@@ -14,7 +14,8 @@ pub trait Questions: Checks {
     /// The number of a check whose truth is that of the question, if there is any.
     fn find(&self, ask: &Ask) -> Option<usize>
         ensures check { IfSome result (λ j. j < length (Self.truths self.now)) }
-        ensures truth { IfSome result (λ j. moment.truth (Self.truths self.now) j ≡ truth ask.now) };
+        ensures truth { IfSome result (λ j.
+            moment.truth (Self.truths self.now) j ≡ truth ask.now) };
 }
 
 impl Checks for Plan<'_> {

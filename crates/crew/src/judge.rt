@@ -42,7 +42,8 @@ impl<'a, P: Questions, K: Sitting> Model for BoardJudge<'a, P, K> {
 
     ghost view = { λ s. s.seat };
 
-    ghost invariant = { λ s. IsFree s.board.now s.seat × Keeps K.start s.seat × (s.board.now.truths ≡ P.truths s.plan.now) };
+    ghost invariant = { λ s. IsFree s.board.now s.seat × Keeps K.start s.seat
+        × (s.board.now.truths ≡ P.truths s.plan.now) };
 }
 
 impl<'a, P: Questions, K: Sitting> BoardJudge<'a, P, K> {

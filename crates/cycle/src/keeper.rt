@@ -77,7 +77,8 @@ impl Keeper {
     ) -> Result<Outcome, NoMemory>
         requires workers { workers ≤ 64 }
         ensures workflow { IfOk result (λ o. o ≡ spec.workflow (file_in repo.now.metadata)
-            (file_in repo.now.targets) now self.old (map string_bytes wanted.now) limits.now.roles) }
+            (file_in repo.now.targets) now self.old (map string_bytes wanted.now)
+            limits.now.roles) }
         ensures state { IfOk result (λ o. self.new ≡ o.trusted) }
         ensures refused { OnErr result (self.new ≡ self.old) }
     {

@@ -49,8 +49,9 @@ impl Ordered for Cycle<'_> {
 /// The workflow with this judge: each file is judged when its turn comes, and each wanted path is
 /// searched on its own, in order.
 fn in_order<J: Judge>(cycle: &Cycle, judge: &mut J) -> Result<Outcome, NoMemory>
-    ensures { IfOk result (λ o. o ≡ spec.workflow (file_in cycle.now.repo.now.metadata) (file_in cycle.now.repo.now.targets)
-        cycle.now.moment cycle.now.trusted.now (map string_bytes cycle.now.wanted.now) cycle.now.limits.now.roles) }
+    ensures { IfOk result (λ o. o ≡ spec.workflow (file_in cycle.now.repo.now.metadata)
+        (file_in cycle.now.repo.now.targets) cycle.now.moment cycle.now.trusted.now
+        (map string_bytes cycle.now.wanted.now) cycle.now.limits.now.roles) }
 {
     let (trusted, end) = advance(cycle.alloc, cycle.trusted, cycle.repo, cycle.moment, judge)?;
     let searches = searches(cycle, &trusted, end, judge)?;
@@ -65,7 +66,8 @@ fn close<J: Judge>(
     searches: &[Option<Searched>],
     judge: &mut J,
 ) -> Result<Outcome, NoMemory>
-    ensures { IfOk result (λ o. o ≡ spec.closed (file_in cycle.now.repo.now.targets) trusted end searches.now) }
+    ensures { IfOk result (λ o.
+        o ≡ spec.closed (file_in cycle.now.repo.now.targets) trusted end searches.now) }
 {
     let consistent = is_consistent(&trusted);
     let verdicts = verdicts_of(
@@ -95,8 +97,8 @@ fn searches<J: Judge>(
 ) -> Result<Vec<Option<Searched>>, NoMemory>
     requires { end ≡ End.Ready → is_ready trusted.now ≡ true }
     ensures { IfOk result (λ all. all.items
-        ≡ map (spec.searched (file_in cycle.now.repo.now.metadata) cycle.now.moment cycle.now.limits.now.roles trusted.now end)
-        (map string_bytes cycle.now.wanted.now)) }
+        ≡ map (spec.searched (file_in cycle.now.repo.now.metadata) cycle.now.moment
+        cycle.now.limits.now.roles trusted.now end) (map string_bytes cycle.now.wanted.now)) }
 {
     let mut all = Vec::with_capacity(cycle.alloc, cycle.wanted.len())?;
     for path in cycle.wanted {
@@ -115,7 +117,8 @@ fn searched<J: Judge>(
 ) -> Result<Option<Searched>, NoMemory>
     requires { end ≡ End.Ready → is_ready trusted.now ≡ true }
     ensures { IfOk result (λ s. s
-        ≡ spec.searched (file_in cycle.now.repo.now.metadata) cycle.now.moment cycle.now.limits.now.roles trusted.now end path.now) }
+        ≡ spec.searched (file_in cycle.now.repo.now.metadata) cycle.now.moment
+        cycle.now.limits.now.roles trusted.now end path.now) }
 {
     let End::Ready = end else {
         return Ok(None);

@@ -26,8 +26,8 @@ pub fn run_alone(
     wanted: &[String],
     limits: &Limits,
 ) -> Result<Outcome, NoMemory>
-    ensures workflow { IfOk result (λ o. o ≡ spec.workflow (file_in repo.now.metadata) (file_in repo.now.targets)
-        now trusted.now (map string_bytes wanted.now) limits.now.roles) }
+    ensures workflow { IfOk result (λ o. o ≡ spec.workflow (file_in repo.now.metadata)
+        (file_in repo.now.targets) now trusted.now (map string_bytes wanted.now) limits.now.roles) }
 {
     let cycle = Cycle {
         alloc,
@@ -59,8 +59,8 @@ pub fn run<R: Threads + Wait + Sync, G: Gate + Sync>(
     gate: &G,
 ) -> Result<Outcome, NoMemory>
     requires workers { workers ≤ 64 }
-    ensures workflow { IfOk result (λ o. o ≡ spec.workflow (file_in repo.now.metadata) (file_in repo.now.targets)
-        now trusted.now (map string_bytes wanted.now) limits.now.roles) }
+    ensures workflow { IfOk result (λ o. o ≡ spec.workflow (file_in repo.now.metadata)
+        (file_in repo.now.targets) now trusted.now (map string_bytes wanted.now) limits.now.roles) }
 {
     let cycle = Cycle {
         alloc,

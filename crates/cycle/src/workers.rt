@@ -85,7 +85,8 @@ pub(crate) fn with_plan<
         thread::scope_env(),
         rt,
         |scope| -> Result<Outcome, NoMemory>
-            requires { IsFree shared.now seat × (shared.now.truths ≡ P.truths plan.now) × All (λ h. h.count ≡ length shared.now.truths) hands.items }
+            requires { IsFree shared.now seat × (shared.now.truths ≡ P.truths plan.now)
+                × All (λ h. h.count ≡ length shared.now.truths) hands.items }
             ensures { IfOk result (λ o. o ≡ T.outcome task.entry.now) }
         {
             with_workers(

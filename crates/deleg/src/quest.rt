@@ -34,7 +34,8 @@ pub(crate) fn examine<J: Judge>(
     edge: &Edge,
     judge: &mut J,
 ) -> Result<Part<Targets>, Stop>
-    ensures { Answers (spec.examined (file_in quest.now.files.now) quest.now.moment quest.now.root.now quest.now.snapshot.now (edge_of edge.now)) result (λ p. p) }
+    ensures { Answers (spec.examined (file_in quest.now.files.now) quest.now.moment
+        quest.now.root.now quest.now.snapshot.now (edge_of edge.now)) result (λ p. p) }
 {
     let (listed, name) = place_of(quest.alloc, quest.root, quest.snapshot, edge.name)?;
     let expect = Expect {

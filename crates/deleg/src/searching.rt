@@ -36,8 +36,10 @@ pub fn search<J: Judge>(
     judge: &mut J,
 ) -> Result<Searched, NoMemory>
     requires { IsTrue (is_ready trusted.now) }
-    ensures preorder { (snapshot : Snapshot) → spec.IsPreorder (file_in repo.now.metadata) now trusted.now.root.reading snapshot path.now limit }
-    ensures searched { IfOk result (λ s. spec.search_in (file_in repo.now.metadata) now trusted.now path.now limit ≡ Some s) }
+    ensures preorder { (snapshot : Snapshot) → spec.IsPreorder (file_in repo.now.metadata) now
+        trusted.now.root.reading snapshot path.now limit }
+    ensures searched { IfOk result (λ s.
+        spec.search_in (file_in repo.now.metadata) now trusted.now path.now limit ≡ Some s) }
 {
     let Some(snapshot) = trusted.snapshot() else {
         unreachable!()
@@ -64,7 +66,8 @@ fn search_from<J: Judge>(
     judge: &mut J,
 ) -> Result<Searched, NoMemory>
     ensures { let q = quest_of quest.now in
-        IfOk result (λ s. s ≡ spec.search_from q.files q.now q.top q.snap q.path q.most targets.now) }
+        IfOk result (λ s.
+        s ≡ spec.search_from q.files q.now q.top q.snap q.path q.most targets.now) }
 {
     if let Some(target) = target_of(targets, quest.path) {
         let role = Text::new(String::from_str(quest.alloc, "targets")?);

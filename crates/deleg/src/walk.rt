@@ -19,7 +19,9 @@ pub(crate) fn walk<'a, J: Judge>(
     mut stack: Vec<Frame<'a>>,
     judge: &mut J,
 ) -> Result<Searched, NoMemory>
-    ensures { IfOk result (λ s. s ≡ spec.outlook (quest_of quest.now) (spec.pending quest.now.path.now stack.entry.items) []) }
+    ensures { IfOk result (λ s.
+        s ≡ spec.outlook (quest_of quest.now)
+        (spec.pending quest.now.path.now stack.entry.items) []) }
 {
     let mut seen = Vec::new(quest.alloc);
     while let Some(frame) = next_frame(quest, &mut stack, seen.as_slice()) {
@@ -34,7 +36,8 @@ pub(crate) fn walk<'a, J: Judge>(
 /// tried.
 fn next_frame<'a>(quest: &Quest, stack: &mut Vec<Frame<'a>>, seen: &[Accepted]) -> Option<Frame<'a>>
     ensures none { let q = quest_of quest.now in
-        IfNone result (spec.Ends q (spec.pending q.path stack.old.items) seen.now found.NotFound seen.now) }
+        IfNone result (spec.Ends q (spec.pending q.path stack.old.items) seen.now found.NotFound
+        seen.now) }
     ensures next { IfSome result (spec.IsNext quest.now.path.now seen.now) }
     ensures same { let q = quest_of quest.now in
         IfSome result (λ f. spec.outlook q (spec.pending q.path stack.old.items) seen.now
@@ -64,10 +67,12 @@ fn visit<'a, J: Judge>(
 ) -> Result<Option<Found>, NoMemory>
     requires { spec.IsNext quest.now.path.now seen.old.items frame }
     ensures goes_on { let q = quest_of quest.now in
-        IfOk result (λ o. IfNone o (spec.GoesOn q (spec.pending_with q.path frame.entry stack.old.items) seen.old.items
+        IfOk result (λ o. IfNone o (spec.GoesOn q
+        (spec.pending_with q.path frame.entry stack.old.items) seen.old.items
         (spec.pending q.path stack.new.items) seen.new.items)) }
     ensures ends { let q = quest_of quest.now in
-        IfOk result (λ o. IfSome o (λ f. spec.Ends q (spec.pending_with q.path frame.entry stack.old.items) seen.old.items f seen.new.items)) }
+        IfOk result (λ o. IfSome o (λ f. spec.Ends q
+        (spec.pending_with q.path frame.entry stack.old.items) seen.old.items f seen.new.items)) }
 {
     if seen.len() >= quest.limit.saturating_sub(1) {
         return Ok(Some(Found::LimitReached));
@@ -98,8 +103,11 @@ fn accept(
     seen: &mut Vec<Accepted>,
 ) -> Result<Option<Found>, NoMemory>
     requires { length seen.old.items + 1 < quest.now.limit }
-    ensures accepted { IfOk result (λ _. seen.new.items ≡ seen.old.items ++ record { role = role; version = part.now.reading.header.version } ∷ []) }
-    ensures found { IfOk result (λ o. o ≡ option_map (λ t. found.Listed role t (length seen.new.items + 1)) (listed_in part.now.reading quest.now.path.now)) }
+    ensures accepted { IfOk result (λ _. seen.new.items ≡ seen.old.items
+        ++ record { role = role; version = part.now.reading.header.version } ∷ []) }
+    ensures found { IfOk result (λ o.
+        o ≡ option_map (λ t. found.Listed role t (length seen.new.items + 1))
+        (listed_in part.now.reading quest.now.path.now)) }
 {
     let name = Text::new(String::from_str(quest.alloc, role.as_str())?);
     let version = part.reading().header().version();
@@ -121,7 +129,8 @@ fn put_back<'a>(
     terminating: bool,
     stack: &mut Vec<Frame<'a>>,
 ) -> Result<(), NoMemory>
-    ensures { IfOk result (λ _. stack.new.items ≡ (if terminating then [] else stack.old.items ++ drop 1 frame.entry ∷ [])) }
+    ensures { IfOk result (λ _. stack.new.items
+        ≡ (if terminating then [] else stack.old.items ++ drop 1 frame.entry ∷ [])) }
 {
     if terminating {
         stack.clear();

@@ -85,7 +85,8 @@ impl From<NoMemory> for Failure {
 }
 
 impl From<StateFault> for Failure {
-    ghost from_gives = { λ e f. (e ≡ state.NoMemory → f ≡ failure.Memory) × (e ≢ state.NoMemory → f ≡ failure.State) };
+    ghost from_gives = { λ e f. (e ≡ state.NoMemory → f ≡ failure.Memory)
+        × (e ≢ state.NoMemory → f ≡ failure.State) };
 
     fn from(error: StateFault) -> Failure {
         match error {
@@ -107,7 +108,8 @@ impl From<MakeFault> for Failure {
 }
 
 impl From<LoadFault> for Failure {
-    ghost from_gives = { λ e f. (e ≡ fault.Folder → f ≡ failure.Folder) × (e ≡ fault.NoMemory → f ≡ failure.Memory) };
+    ghost from_gives = { λ e f. (e ≡ fault.Folder → f ≡ failure.Folder)
+        × (e ≡ fault.NoMemory → f ≡ failure.Memory) };
 
     fn from(error: LoadFault) -> Failure {
         match error {

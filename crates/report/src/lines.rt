@@ -85,7 +85,8 @@ pub fn root_line(alloc: Global, version: u64) -> Result<String, AllocError>
 
 /// Adds the line `end ready` or `end STEP FAULT`.
 pub fn push_end(text: &mut String, end: End) -> Result<(), AllocError>
-    ensures line { OnOk result (string_bytes text.new ≡ string_bytes text.old ++ spec.end_text end) }
+    ensures line { OnOk result (
+        string_bytes text.new ≡ string_bytes text.old ++ spec.end_text end) }
 {
     match end {
         End::Ready => text.push_str("end ready\n"),
@@ -165,7 +166,8 @@ fn push_good(
     role: &str,
 ) -> Result<(), AllocError>
     ensures line { OnOk result (string_bytes text.new ≡ string_bytes text.old
-        ++ spec.line (codes "ok" ∷ quoted_text path.now ∷ decimal length ∷ quoted_text role.now ∷ [])) }
+        ++ spec.line (codes "ok" ∷ quoted_text path.now ∷ decimal length
+        ∷ quoted_text role.now ∷ [])) }
 {
     let path = quoted(alloc, path)?;
     let role = quoted(alloc, role)?;
@@ -190,7 +192,8 @@ fn push_refused(
     role: &str,
 ) -> Result<(), AllocError>
     ensures line { OnOk result (string_bytes text.new ≡ string_bytes text.old
-        ++ spec.line (codes "no" ∷ quoted_text path.now ∷ spec.fault_word fault ∷ quoted_text role.now ∷ [])) }
+        ++ spec.line (codes "no" ∷ quoted_text path.now ∷ spec.fault_word fault
+        ∷ quoted_text role.now ∷ [])) }
 {
     let path = quoted(alloc, path)?;
     let role = quoted(alloc, role)?;

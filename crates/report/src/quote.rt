@@ -28,7 +28,8 @@ fn push_byte(text: &mut String, byte: u8) -> Result<(), AllocError>
 
 fn push_escape(text: &mut String, byte: u8) -> Result<(), AllocError>
     ensures { OnOk result (string_bytes text.new
-        ≡ string_bytes text.old ++ 92 ∷ 120 ∷ digit_char (byte / 16) ∷ digit_char (byte % 16) ∷ []) }
+        ≡ string_bytes text.old
+        ++ 92 ∷ 120 ∷ digit_char (byte / 16) ∷ digit_char (byte % 16) ∷ []) }
 {
     text.push('\\')?;
     text.push('x')?;

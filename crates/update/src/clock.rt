@@ -10,7 +10,8 @@ use system::System;
 /// The moment that the text spells, or without a text the clock's, without its fraction of a second. A text that spells
 /// none is the failure `Now`, and a clock that can't be read or is past the year 9999 the failure `Clock`.
 pub fn moment<S: System>(system: &S, text: Option<&str>) -> Result<Moment, Failure>
-    ensures moment { IfOk result (IsMomentOf (S.shows system.now) (option_map (λ t. t.now) text.entry)) }
+    ensures moment { IfOk result (
+        IsMomentOf (S.shows system.now) (option_map (λ t. t.now) text.entry)) }
     ensures refused { IfErr result (λ f. f ≡ Failure.Now
         → IsNoMoment (option_map (λ t. t.now) text.entry)) }
 {

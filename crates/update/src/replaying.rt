@@ -48,8 +48,8 @@ pub fn replay<R: Threads + Wait + Sync, S: System, M: Folder + Drop, T: Folder +
 ) -> Result<u8, Failure>
     ensures known { IfOk result (λ status. status ≤ 2) }
     ensures replayed { IfOk result (λ status. Begins (S.gives system.old terms.now.state.now)
-        (S.shows system.old) (option_map (λ t. t.now) terms.now.moment) (λ trusted moment. IsReplayed
-        (AreLoaded (λ f. IsLoaded (M.lists f.metadata) (M.holds f.metadata))
+        (S.shows system.old) (option_map (λ t. t.now) terms.now.moment) (λ trusted moment.
+        IsReplayed (AreLoaded (λ f. IsLoaded (M.lists f.metadata) (M.holds f.metadata))
         (λ f. IsLoaded (T.lists f.targets) (T.holds f.targets)) folders.items)
         (start_from terms.now trusted moment) (S.keeps system.new terms.now.out.now)
         (λ os. AreTold os (map string_bytes terms.now.wanted.items) status (W.contents out.old)
@@ -112,7 +112,8 @@ fn replay_in<R: Threads + Wait + Sync, S: System, W: Write>(
     ensures known { IfOk result (λ status. status ≤ 2) }
     ensures told { IfOk result (λ status. AreTold
         (outcomes_of (start_of cycles.now.start) repos.now)
-        (map string_bytes cycles.now.start.wanted.now) status (W.contents out.old) (W.contents out.new)) }
+        (map string_bytes cycles.now.start.wanted.now) status (W.contents out.old)
+        (W.contents out.new)) }
     ensures kept { OnOk result (S.keeps system.new cycles.now.start.state.now
         (state_text (state_after (start_of cycles.now.start) repos.now)) ≡ true) }
     ensures order { OnErr result (((S.keeps system.new ≡ S.keeps system.old)

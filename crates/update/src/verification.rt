@@ -87,7 +87,8 @@ fn verify_in<R: Threads + Wait + Sync, S: System, W: Write>(
         (outcome_of (start_of start.now) (file_in repo.now.metadata) (file_in repo.now.targets))
         (map string_bytes start.now.wanted.now) status (W.contents out.old) (W.contents out.new)) }
     ensures kept { OnOk result (S.keeps system.new start.now.state.now (state_text (outcome_of
-        (start_of start.now) (file_in repo.now.metadata) (file_in repo.now.targets)).trusted) ≡ true) }
+        (start_of start.now) (file_in repo.now.metadata)
+        (file_in repo.now.targets)).trusted) ≡ true) }
     ensures order { OnErr result (((S.keeps system.new ≡ S.keeps system.old)
         × (W.contents out.new ≡ W.contents out.old))
         ⊎ (S.keeps system.new start.now.state.now (state_text (outcome_of (start_of start.now)
