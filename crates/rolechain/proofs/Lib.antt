@@ -1,6 +1,8 @@
 pub mod Chain
+pub mod InOrder
 pub mod Ready
 pub mod Longest
+pub mod Dropped
 pub mod Along
 pub mod Bytes
 pub mod Digits

@@ -1,65 +1,71 @@
 -- The last root that a cycle trusts is the last of the longest chain.
-use Rattle.std.proofs.Common.{◌≡◌, ℕ, zero, suc, Bool, true, false, Option, Some, None, Result, Ok, Err, IfOk, inl, inr, refl, sym, ap, ◌∙◌, subst, arith}
+use Rattle.std.proofs.Common.{◌≡◌, ℕ, zero, suc, Bool, true, false, Option, Some, None, Result, Ok, Err, inl, inr, refl, sym, ap, ◌∙◌, subst, arith}
 use Rattle.std.specs.Prelude.{if◌then◌else◌}
+use Rattle.cjson.specs.Checks.{◌>>=◌}
 use Rattle.moment.specs.Moment.{Moment}
-use Rattle.meta.specs.Metadata.{Root, Timestamp, Snapshot, Targets}
+use Rattle.meta.specs.Metadata.{Root, Timestamp}
 use Rattle.meta.specs.Part.{Part}
 use Rattle.meta.specs.declared.fault.Fault.{Fault}
-use Rattle.meta.specs.declared.fault.Fault.TheVariants.{Expired}
-use Rattle.examine.specs.Checks.{Files, is_expired, first_timestamp, next_timestamp, snapshot_part}
-use Rattle.cjson.specs.declared.fault.NoMemory.{NoMemory}
+use Rattle.examine.specs.Checks.{Files, expiry_check}
 use Rattle.rolechain.specs.State.{State}
-use Rattle.rolechain.specs.Expected.{due_timestamp, next_snapshot}
-use Rattle.rolechain.specs.declared.end.End.{End}
+use Rattle.rolechain.specs.declared.end.Step.{Step}
 use Rattle.rolechain.specs.declared.end.Step.TheVariants as step
-use Rattle.rolechain.specs.Advance.{Advanced, stops, is_rotated, with_root, with_timestamp, with_snapshot, reading_in, targeted, snapshotted, snapshot_step, timestamped, timestamped_again, timestamp_step, rooted, chained, successor, followed}
-use Rattle.rolechain.specs.Answers.{advanced_of}
+use Rattle.rolechain.specs.Advance.{Advanced, or_stop, is_rotated, with_root, with_newer, with_snapshot, with_targets, successor, followed, most_roots, unexpired, root_step, newer_timestamp, timestamp_step, listed_snapshot, snapshot_step, listed_targets, targets_step, steps, ended, advanced}
+use Rattle.rolechain.proofs.Chain.{behind}
 use Rattle.rolechain.specs.Roots.{IsLongestChain, IsRootStep}
-
--- the root stays
-abbrev Keeps : Part Root → Advanced → Type 0
-Keeps r a = r ≡ a.state.root
-
-choice : (r : Part Root) (b : Bool) (x y : Advanced) → Keeps r x → Keeps r y → Keeps r (if b then x else y)
-choice r true x y p q = p
-choice r false x y p q = q
 
 root_of_rotated : (b : Bool) (s t : State) (r : Part Root) → s.root ≡ r → t.root ≡ r → (if b then s else t).root ≡ r
 root_of_rotated true s t r p q = p
 root_of_rotated false s t r p q = q
 
-with_root-root : (s : State) (r : Part Root) → (with_root s r).root ≡ r
+pub with_root-root : (s : State) (r : Part Root) → (with_root s r).root ≡ r
 with_root-root s r = root_of_rotated (is_rotated s.root.reading r.reading) _ _ r refl refl
 
+newer-root : (s : State) (o : Option (Part Timestamp)) → s.root ≡ (with_newer s o).root
+newer-root s None = refl
+newer-root s (Some p) = refl
+
+-- ---- a step that leaves the root
+
+abbrev Keeps : Part Root → Result State Advanced → Type 0
+Keeps r (Ok s) = r ≡ s.root
+Keeps r (Err a) = r ≡ a.state.root
+
+keeps-next : (r : Part Root) (o : Result State Advanced) (f : State → Result State Advanced) → Keeps r o → ((s : State) → Keeps s.root (f s)) → Keeps r (o >>= f)
+keeps-next r (Ok s) f h more = subst (λ a. Keeps a (f s)) (sym h) (more s)
+keeps-next r (Err a) f h more = h
+
+keeps-checked : {A : Type 0} (s : State) (at : Step) (r : Result A Fault) (f : A → State) → ((x : A) → s.root ≡ (f x).root)
+    → Keeps s.root (or_stop s at r >>= λ x. Ok (f x))
+keeps-checked s at (Ok x) f same = same x
+keeps-checked s at (Err fault) f same = refl
+
 module _ (files : Files) (now : Moment) where
-  targeted-keeps : (s : State) (o : Result (Part Targets) Fault) → Keeps s.root (targeted files now s o)
-  targeted-keeps s (Ok p) = refl
-  targeted-keeps s (Err fault) = refl
+  unexpired-keeps : (s : State) → Keeps s.root (unexpired files now s)
+  unexpired-keeps s = keeps-checked s step.Root (expiry_check s.root.reading.header now) (λ x. s) (λ x. refl)
 
-  snapshotted-keeps : (s : State) (o : Result (Part Snapshot) Fault) → Keeps s.root (snapshotted files now s o)
-  snapshotted-keeps s (Ok p) = targeted-keeps (with_snapshot s p) _
-  snapshotted-keeps s (Err fault) = refl
+  timestamp_step-keeps : (s : State) → Keeps s.root (timestamp_step files now s)
+  timestamp_step-keeps s = keeps-checked s step.Timestamp (newer_timestamp files now s.root.reading s.timestamp) (with_newer s) (newer-root s)
 
-  timestamped-keeps : (s : State) (o : Result (Part Timestamp) Fault) → Keeps s.root (timestamped files now s o)
-  timestamped-keeps s (Ok p) = snapshotted-keeps (with_timestamp s p) (snapshot_part (next_snapshot s.root.reading p.reading.snapshot) (reading_in s.snapshot) files now)
-  timestamped-keeps s (Err fault) = refl
+  snapshot_step-keeps : (s : State) → Keeps s.root (snapshot_step files now s)
+  snapshot_step-keeps s = keeps-checked s step.Snapshot (listed_snapshot files now s) (with_snapshot s) (λ p. refl)
 
-  timestamped_again-keeps : (s : State) (old : Timestamp) (o : Result (Option (Part Timestamp)) Fault) → Keeps s.root (timestamped_again files now s old o)
-  timestamped_again-keeps s old (Ok (Some p)) = timestamped-keeps s (Ok p)
-  timestamped_again-keeps s old (Ok None) =
-      choice s.root (is_expired old.header now) (stops s step.Timestamp Expired) (snapshot_step files now s old.snapshot) refl (snapshotted-keeps s (snapshot_part (next_snapshot s.root.reading old.snapshot) (reading_in s.snapshot) files now))
-  timestamped_again-keeps s old (Err fault) = refl
+  targets_step-keeps : (s : State) → Keeps s.root (targets_step files now s)
+  targets_step-keeps s = keeps-checked s step.Targets (listed_targets files now s) (with_targets s) (λ p. refl)
 
-  timestamp_step-keeps : (s : State) (o : Option (Part Timestamp)) → Keeps s.root (timestamp_step files now s o)
-  timestamp_step-keeps s None = timestamped-keeps s (first_timestamp (due_timestamp s.root.reading) files now)
-  timestamp_step-keeps s (Some old) = timestamped_again-keeps s old.reading (next_timestamp (due_timestamp s.root.reading) old.reading files now)
+  -- ---- the chain
 
-  rooted-keeps : (s : State) → Keeps s.root (rooted files now s)
-  rooted-keeps s = choice s.root (is_expired s.root.reading.header now) (stops s step.Root Expired) (timestamp_step files now s s.timestamp) refl (timestamp_step-keeps s s.timestamp)
+  abbrev Longest : ℕ → Part Root → Result State Advanced → Type 0
+  Longest most a (Ok s) = IsLongestChain files now most a s.root
+  Longest most a (Err x) = IsLongestChain files now most a x.state.root
 
-  -- no root step leads on from the root that stays
-  no_step : (o : Option (Result (Part Root) Fault)) (a b next : Part Root) → a ≡ b → successor files now a.reading ≡ o → ((p : Part Root) → o ≡ Some (Ok p) → ⊥) → ¬ IsRootStep files now b next
-  no_step o a b next same e none h = none next (sym e ∙ ap (λ r. successor files now r.reading) same ∙ h)
+  longest-kept : (most : ℕ) (a b : Part Root) (o : Result State Advanced) → Keeps b o → IsLongestChain files now most a b → Longest most a o
+  longest-kept most a b (Ok s) h chain = subst (IsLongestChain files now most a) h chain
+  longest-kept most a b (Err x) h chain = subst (IsLongestChain files now most a) h chain
+
+  longest-next : (most : ℕ) (a : Part Root) (o : Result State Advanced) (f : State → Result State Advanced) → Longest most a o → ((s : State) → Keeps s.root (f s)) → Longest most a (o >>= f)
+  longest-next most a (Ok s) f chain more = longest-kept most a s.root (f s) (more s) chain
+  longest-next most a (Err x) f chain more = chain
 
   longer : (most : ℕ) (a next b : Part Root) → IsRootStep files now a next → IsLongestChain files now most next b → IsLongestChain files now (suc most) a b
   longer most a next b first rest = (
@@ -72,20 +78,42 @@ module _ (files : Files) (now : Moment) where
     ],
   )
 
-  chained-longest : (most : ℕ) (s : State) (o : Option (Result (Part Root) Fault)) → successor files now s.root.reading ≡ o
-      → ((t : State) → IsLongestChain files now most t.root (followed files now most t).state.root)
-      → IsLongestChain files now (suc most) s.root (chained files now s (followed files now most) o).state.root
-  chained-longest most s None e more = (0, omega arith, rooted-keeps s, inr (λ next. no_step None s.root _ next (rooted-keeps s) e (λ p h. cc)))
-  chained-longest most s (Some (Ok r)) e more = longer most s.root r _ e (subst (λ a. IsLongestChain files now most a (followed files now most (with_root s r)).state.root) (with_root-root s r) (more (with_root s r)))
-  chained-longest most s (Some (Err fault)) e more = (0, omega arith, refl, inr (λ next. no_step (Some (Err fault)) s.root s.root next refl e (λ p h. cc)))
+  longer-after : (most : ℕ) (a next : Part Root) (o : Result State Advanced) → IsRootStep files now a next → Longest most next o → Longest (suc most) a o
+  longer-after most a next (Ok s) first rest = longer most a next s.root first rest
+  longer-after most a next (Err x) first rest = longer most a next x.state.root first rest
 
-  followed-longest : (most : ℕ) (s : State) → IsLongestChain files now most s.root (followed files now most s).state.root
+  -- no root step leads on from a root that has no good successor
+  no_step : (o : Result (Option (Part Root)) Fault) (a next : Part Root) → successor files now a.reading ≡ o → ((p : Part Root) → o ≡ Ok (Some p) → ⊥) → ¬ IsRootStep files now a next
+  no_step o a next e none h = none next (sym e ∙ h)
+
+  ends_here : (most : ℕ) (s : State) (o : Result (Option (Part Root)) Fault) → successor files now s.root.reading ≡ o → ((p : Part Root) → o ≡ Ok (Some p) → ⊥) → IsLongestChain files now most s.root s.root
+  ends_here most s o e none = (0, omega arith, refl, inr (λ next. no_step o s.root next e none))
+
+  behind-longest : (most : ℕ) (s : State) (o : Result (Option (Part Root)) Fault) → successor files now s.root.reading ≡ o
+      → ((t : State) → Longest most t.root (followed files now most t)) → Longest (suc most) s.root (behind files now most s o)
+  behind-longest most s (Ok None) e more = ends_here (suc most) s (Ok None) e (λ p h. cc)
+  behind-longest most s (Ok (Some r)) e more = longer-after most s.root r _ e (subst (λ a. Longest most a (followed files now most (with_root s r))) (with_root-root s r) (more (with_root s r)))
+  behind-longest most s (Err fault) e more = ends_here (suc most) s (Err fault) e (λ p h. cc)
+
+  followed-longest : (most : ℕ) (s : State) → Longest most s.root (followed files now most s)
   unfolding followed
-  followed-longest zero s = (0, omega arith, rooted-keeps s, inl refl)
-  followed-longest (suc most) s = chained-longest most s (successor files now s.root.reading) refl (followed-longest most)
+  followed-longest zero s = (0, omega arith, refl, inl refl)
+  followed-longest (suc most) s = behind-longest most s (successor files now s.root.reading) refl (followed-longest most)
 
--- an answer that is what the chain leaves
-pub IfOk-longest : (files : Files) (now : Moment) (most : ℕ) (s t : State) (r : Result (State × End) NoMemory) → t ≡ s → IfOk r (λ x. advanced_of x ≡ followed files now most t)
-    → IfOk r (λ x. IsLongestChain files now most s.root x.0.root)
-IfOk-longest files now most s t (Ok x) same h = subst (λ a. IsLongestChain files now most s.root a.state.root) (sym (h ∙ ap (followed files now most) same)) (followed-longest files now most s)
-IfOk-longest files now most s t (Err e) same h = tt
+  -- ---- the whole
+
+  later-keeps : (s : State) → Keeps s.root (timestamp_step files now s >>= λ t. snapshot_step files now t >>= targets_step files now)
+  later-keeps s = keeps-next s.root (timestamp_step files now s) _ (timestamp_step-keeps s)
+      (λ t. keeps-next t.root (snapshot_step files now t) (targets_step files now) (snapshot_step-keeps t) targets_step-keeps)
+
+  steps-longest : (s : State) → Longest most_roots s.root (steps files now s)
+  steps-longest s = longest-next most_roots s.root (root_step files now s) _
+      (longest-next most_roots s.root (followed files now most_roots s) (unexpired files now) (followed-longest most_roots s) unexpired-keeps)
+      later-keeps
+
+  ended-longest : (most : ℕ) (a : Part Root) (o : Result State Advanced) → Longest most a o → IsLongestChain files now most a (ended o).state.root
+  ended-longest most a (Ok s) chain = chain
+  ended-longest most a (Err x) chain = chain
+
+pub advanced-longest : (files : Files) (now : Moment) (s : State) → IsLongestChain files now most_roots s.root (advanced files now s).state.root
+advanced-longest files now s = ended-longest files now most_roots s.root (steps files now s) (steps-longest files now s)

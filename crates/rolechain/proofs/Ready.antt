@@ -1,74 +1,99 @@
 -- A cycle that ends ready leaves a ready state.
-use Rattle.std.proofs.Common.{◌≡◌, ℕ, zero, suc, Bool, true, false, ◌&&◌, Option, Some, None, Result, Ok, Err, IfOk, is_some, refl, sym, ap, subst}
-use Rattle.std.specs.Prelude.{if◌then◌else◌}
+use Rattle.std.proofs.Common.{◌≡◌, ℕ, zero, suc, Bool, true, false, ◌&&◌, Option, Some, None, Result, Ok, Err, is_some, refl, ap}
+use Rattle.cjson.specs.Checks.{◌>>=◌}
 use Rattle.moment.specs.Moment.{Moment}
-use Rattle.meta.specs.Metadata.{Root, Timestamp, Snapshot, Targets}
+use Rattle.meta.specs.Metadata.{Root, Timestamp}
 use Rattle.meta.specs.Part.{Part}
 use Rattle.meta.specs.declared.fault.Fault.{Fault}
-use Rattle.meta.specs.declared.fault.Fault.TheVariants.{Expired}
-use Rattle.examine.specs.Checks.{Files, is_expired, first_timestamp, next_timestamp, snapshot_part}
+use Rattle.examine.specs.Checks.{Files, expiry_check, first_timestamp}
 use Rattle.rolechain.specs.State.{State, is_ready}
-use Rattle.rolechain.specs.Expected.{due_timestamp, next_snapshot}
+use Rattle.rolechain.specs.Expected.{due_timestamp}
 use Rattle.rolechain.specs.declared.end.Step.{Step}
 use Rattle.rolechain.specs.declared.end.Step.TheVariants as step
 use Rattle.rolechain.specs.declared.end.End.TheVariants.{Ready}
-use Rattle.rolechain.specs.Advance.{Advanced, stops, with_root, with_timestamp, with_snapshot, reading_in, targeted, snapshotted, snapshot_step, timestamped, timestamped_again, timestamp_step, rooted, chained, successor, followed}
-use Rattle.rolechain.specs.Answers.{advanced_of}
-use Rattle.rolechain.specs.declared.end.End.{End}
-use Rattle.cjson.specs.declared.fault.NoMemory.{NoMemory}
+use Rattle.rolechain.specs.Advance.{Advanced, or_stop, with_root, with_newer, successor, chained, followed, unexpired, root_step, renewed, newer_timestamp, timestamp_step, listed_snapshot, snapshot_step, listed_targets, targets_step, steps, ended, advanced}
 
-abbrev pub IsSound : Advanced → Type 0
-IsSound a = a.end ≡ Ready → is_ready a.state ≡ true
+-- where a step goes on, the state passes the test; a stop isn't ready
+abbrev Gives : (State → Bool) → Result State Advanced → Type 0
+Gives test (Ok s) = test s ≡ true
+Gives test (Err a) = ¬ (a.end ≡ Ready)
 
-stops-sound : (s : State) (at : Step) (fault : Fault) → IsSound (stops s at fault)
-stops-sound s at fault e = absurd (cc)
+gives-next : (first next : State → Bool) (r : Result State Advanced) (f : State → Result State Advanced) → Gives first r
+    → ((s : State) → first s ≡ true → Gives next (f s)) → Gives next (r >>= f)
+gives-next first next (Ok s) f h more = more s h
+gives-next first next (Err a) f h more = h
 
-choice : (b : Bool) (x y : Advanced) → IsSound x → IsSound y → IsSound (if b then x else y)
-choice true x y p q = p
-choice false x y p q = q
+gives-checked : {A : Type 0} (test : State → Bool) (s : State) (at : Step) (r : Result A Fault) (f : A → Result State Advanced)
+    → ((x : A) → Gives test (f x)) → Gives test (or_stop s at r >>= f)
+gives-checked test s at (Ok x) f more = more x
+gives-checked test s at (Err fault) f more = λ e. cc
 
-all_there : (a b : Bool) → a ≡ true → b ≡ true → (a && b && true) ≡ true
-all_there true true p q = refl
-all_there true false p q = absurd (cc)
-all_there false b p q = absurd (cc)
+abbrev any : State → Bool
+any s = true
+
+abbrev has_timestamp : State → Bool
+has_timestamp s = is_some s.timestamp
+
+abbrev has_snapshot : State → Bool
+has_snapshot s = is_some s.timestamp && is_some s.snapshot
+
+both : (b : Bool) → b ≡ true → (b && true) ≡ true
+both true e = refl
+both false e = absurd (cc)
+
+all_three : (a b : Bool) → (a && b) ≡ true → (a && b && true) ≡ true
+all_three true true e = refl
+all_three true false e = absurd (cc)
+all_three false b e = absurd (cc)
+
+first-there : (s : State) (r : Result (Part Timestamp) Fault) → Gives has_timestamp (or_stop s step.Timestamp (r >>= λ p. Ok (Some p)) >>= λ n. Ok (with_newer s n))
+first-there s (Ok p) = refl
+first-there s (Err fault) = λ e. cc
+
+later-there : (s : State) (r : Result (Option (Part Timestamp)) Fault) → is_some s.timestamp ≡ true → Gives has_timestamp (or_stop s step.Timestamp r >>= λ n. Ok (with_newer s n))
+later-there s (Ok (Some p)) there = refl
+later-there s (Ok None) there = there
+later-there s (Err fault) there = λ e. cc
 
 module _ (files : Files) (now : Moment) where
-  targeted-sound : (s : State) (r : Result (Part Targets) Fault) → is_some s.timestamp ≡ true → is_some s.snapshot ≡ true → IsSound (targeted files now s r)
-  targeted-sound s (Ok p) t n e = all_there (is_some s.timestamp) (is_some s.snapshot) t n
-  targeted-sound s (Err fault) t n e = stops-sound s step.Targets fault e
+  chained-gives : (s : State) (more : State → Result State Advanced) (o : Option (Part Root)) → ((t : State) → Gives any (more t)) → Gives any (chained files now s more o)
+  chained-gives s more None given = refl
+  chained-gives s more (Some next) given = given (with_root s next)
 
-  snapshotted-sound : (s : State) (r : Result (Part Snapshot) Fault) → is_some s.timestamp ≡ true → IsSound (snapshotted files now s r)
-  snapshotted-sound s (Ok p) t = targeted-sound (with_snapshot s p) _ t refl
-  snapshotted-sound s (Err fault) t = stops-sound s step.Snapshot fault
-
-  timestamped-sound : (s : State) (r : Result (Part Timestamp) Fault) → IsSound (timestamped files now s r)
-  timestamped-sound s (Ok p) = snapshotted-sound (with_timestamp s p) (snapshot_part (next_snapshot s.root.reading p.reading.snapshot) (reading_in s.snapshot) files now) refl
-  timestamped-sound s (Err fault) = stops-sound s step.Timestamp fault
-
-  timestamped_again-sound : (s : State) (old : Timestamp) (r : Result (Option (Part Timestamp)) Fault) → is_some s.timestamp ≡ true → IsSound (timestamped_again files now s old r)
-  timestamped_again-sound s old (Ok (Some p)) t = timestamped-sound s (Ok p)
-  timestamped_again-sound s old (Ok None) t = choice (is_expired old.header now) (stops s step.Timestamp Expired) (snapshot_step files now s old.snapshot) (stops-sound s step.Timestamp Expired) (snapshotted-sound s (snapshot_part (next_snapshot s.root.reading old.snapshot) (reading_in s.snapshot) files now) t)
-  timestamped_again-sound s old (Err fault) t = stops-sound s step.Timestamp fault
-
-  timestamp_step-sound : (s : State) (o : Option (Part Timestamp)) → s.timestamp ≡ o → IsSound (timestamp_step files now s o)
-  timestamp_step-sound s None is = timestamped-sound s (first_timestamp (due_timestamp s.root.reading) files now)
-  timestamp_step-sound s (Some old) is = timestamped_again-sound s old.reading (next_timestamp (due_timestamp s.root.reading) old.reading files now) (ap is_some is)
-
-  rooted-sound : (s : State) → IsSound (rooted files now s)
-  rooted-sound s = choice (is_expired s.root.reading.header now) (stops s step.Root Expired) (timestamp_step files now s s.timestamp) (stops-sound s step.Root Expired) (timestamp_step-sound s s.timestamp refl)
-
-  chained-sound : (s : State) (next : State → Advanced) (o : Option (Result (Part Root) Fault)) → ((t : State) → IsSound (next t)) → IsSound (chained files now s next o)
-  chained-sound s next None sound = rooted-sound s
-  chained-sound s next (Some (Ok r)) sound = sound (with_root s r)
-  chained-sound s next (Some (Err fault)) sound = stops-sound s step.Root fault
-
-  followed-sound : (most : ℕ) (s : State) → IsSound (followed files now most s)
+  followed-gives : (most : ℕ) (s : State) → Gives any (followed files now most s)
   unfolding followed
-  followed-sound zero s = rooted-sound s
-  followed-sound (suc most) s = chained-sound s (followed files now most) (successor files now s.root.reading) (followed-sound most)
+  followed-gives zero s = refl
+  followed-gives (suc most) s = gives-checked any s step.Root (successor files now s.root.reading) _ (λ o. chained-gives s (followed files now most) o (followed-gives most))
 
--- an answer that is what the chain leaves
-pub IfOk-ready : (files : Files) (now : Moment) (most : ℕ) (s : State) (r : Result (State × End) NoMemory) → IfOk r (λ x. advanced_of x ≡ followed files now most s)
-    → IfOk r (λ x. x.1 ≡ Ready → is_ready x.0 ≡ true)
-IfOk-ready files now most s (Ok x) h = subst IsSound (sym h) (followed-sound files now most s)
-IfOk-ready files now most s (Err e) h = tt
+  root_step-gives : (s : State) → Gives any (root_step files now s)
+  root_step-gives s = gives-next any any (followed files now 256 s) (unexpired files now) (followed-gives 256 s)
+      (λ t e. gives-checked any t step.Root (expiry_check t.root.reading.header now) _ (λ x. refl))
+
+  -- the first timestamp is there, or the trusted one stays
+  newer-there : (s : State) (o : Option (Part Timestamp)) → s.timestamp ≡ o
+      → Gives has_timestamp (or_stop s step.Timestamp (newer_timestamp files now s.root.reading o) >>= λ n. Ok (with_newer s n))
+  newer-there s None is = first-there s (first_timestamp (due_timestamp s.root.reading) files now)
+  newer-there s (Some old) is = later-there s (renewed files now s.root.reading old.reading) (ap is_some is)
+
+  timestamp_step-gives : (s : State) → Gives has_timestamp (timestamp_step files now s)
+  timestamp_step-gives s = newer-there s s.timestamp refl
+
+  snapshot_step-gives : (s : State) → has_timestamp s ≡ true → Gives has_snapshot (snapshot_step files now s)
+  snapshot_step-gives s there = gives-checked has_snapshot s step.Snapshot (listed_snapshot files now s) _ (λ p. both (is_some s.timestamp) there)
+
+  targets_step-gives : (s : State) → has_snapshot s ≡ true → Gives is_ready (targets_step files now s)
+  targets_step-gives s there = gives-checked is_ready s step.Targets (listed_targets files now s) _ (λ p. all_three (is_some s.timestamp) (is_some s.snapshot) there)
+
+  steps-give : (s : State) → Gives is_ready (steps files now s)
+  steps-give s =
+      gives-next any is_ready (root_step files now s) _ (root_step-gives s) (λ r e.
+      gives-next has_timestamp is_ready (timestamp_step files now r) _ (timestamp_step-gives r) (λ t there.
+      gives-next has_snapshot is_ready (snapshot_step files now t) _ (snapshot_step-gives t there) (λ n both.
+      targets_step-gives n both)))
+
+ended-ready : (r : Result State Advanced) → Gives is_ready r → (ended r).end ≡ Ready → is_ready (ended r).state ≡ true
+ended-ready (Ok s) h e = h
+ended-ready (Err a) h e = absurd (h e)
+
+pub advanced-ready : (files : Files) (now : Moment) (s : State) → (advanced files now s).end ≡ Ready → is_ready (advanced files now s).state ≡ true
+advanced-ready files now s = ended-ready (steps files now s) (steps-give files now s)

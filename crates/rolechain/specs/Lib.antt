@@ -10,4 +10,5 @@ pub mod Advance
 pub mod Roots
 pub mod Answers
 pub mod Kept
+pub mod Held
 pub mod Text

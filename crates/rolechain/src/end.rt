@@ -1,4 +1,7 @@
-use meta::Fault;
+ghost use Rattle.std.specs.Prelude.{◌≡◌};
+ghost use Rattle.rolechain.specs.Answers as spec;
+
+use meta::{Fault, Stop};
 
 /// The steps of a cycle, in order (TUF 1.0 sections 5.3 to 5.6).
 #[derive(Clone, Copy, Debug, PartialEq, Eq)]
@@ -16,4 +19,24 @@ pub enum End {
     Ready,
     /// The step's file has the fault. What was trusted before stays.
     Stopped(Step, Fault),
+}
+
+/// Why a cycle ends before its last step is done.
+#[derive(Clone, Copy)]
+pub(crate) enum Halt {
+    /// The step's file has the fault.
+    Stopped(Step, Fault),
+    /// Memory was refused.
+    NoMemory,
+}
+
+/// The answer of a step's checks, which end the cycle in that step where they end early.
+pub(crate) fn or_halt<A: Drop>(step: Step, answer: Result<A, Stop>) -> Result<A, Halt>
+    ensures { result ≡ spec.or_halt step answer }
+{
+    match answer {
+        Ok(value) => Ok(value),
+        Err(Stop::Refused(fault)) => Err(Halt::Stopped(step, fault)),
+        Err(Stop::NoMemory) => Err(Halt::NoMemory),
+    }
 }

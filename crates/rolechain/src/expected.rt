@@ -68,7 +68,8 @@ pub fn place_of<'a>(
     role: &str,
 ) -> Result<(Listed<'a>, String), AllocError>
     ensures listed { IfOk result (λ p. listed_of p.0 ≡ spec.listing_of role.now snapshot.now) }
-    ensures name { IfOk result (λ p. string_bytes p.1 ≡ spec.file_name root.now role.now (spec.listing_of role.now snapshot.now)) }
+    ensures name { IfOk result (λ p. string_bytes p.1
+        ≡ spec.file_name root.now role.now (spec.listing_of role.now snapshot.now)) }
 {
     let plain = role_name(alloc, role)?;
     match find_name(snapshot.files(), plain.as_str()) {

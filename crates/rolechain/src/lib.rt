@@ -2,6 +2,7 @@
 //! 5.3 to 5.6).
 #![tactic(auto)]
 
+mod draft;
 mod end;
 mod expected;
 mod fault;
@@ -10,9 +11,10 @@ mod rotation;
 mod state;
 mod steps;
 mod text;
+mod workflow;
 
 pub use end::{End, Step};
 pub use expected::place_of;
 pub use fault::StateFault;
-pub use roots::advance;
 pub use state::Trusted;
+pub use workflow::advance;

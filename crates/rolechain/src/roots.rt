@@ -1,26 +1,20 @@
-ghost use Rattle.std.specs.Prelude.{◌≡◌, ◌+◌, ◌-◌, ◌^◌, ◌<◌, IfOk, true};
+ghost use Rattle.std.specs.Prelude.{◌≡◌, ◌+◌, ◌-◌, ◌^◌, ◌<◌};
 ghost use Rattle.meta.specs.Answers.{Answers};
 ghost use Rattle.examine.specs.Checks.{root_part};
 ghost use Rattle.examine.specs.Expecting.{file_in};
 ghost use Rattle.meta.specs.Names.{root_name as file_name};
 ghost use Rattle.rolechain.specs.Advance as spec;
-ghost use Rattle.rolechain.specs.Advance.{most_roots};
-ghost use Rattle.rolechain.specs.Roots.{IsLongestChain};
-ghost use Rattle.rolechain.specs.Parts.{AreRead};
 ghost use Rattle.rolechain.specs.Expected.{next_root};
-ghost use Rattle.rolechain.specs.State.{is_ready};
-ghost use Rattle.rolechain.specs.Answers.{advanced_of, Follows};
+ghost use Rattle.rolechain.specs.Answers.{Leaves};
 
-use crate::end::{End, Step};
+use crate::draft::Draft;
+use crate::end::{Halt, Step, or_halt};
 use crate::expected::due_root;
-use crate::state::Trusted;
-use crate::steps::{Round, rooted, stopped};
-use cjson::NoMemory;
-use examine::examine_root;
+use crate::steps::Round;
+use examine::{examine_root, is_expired};
 use keys::Judge;
 use meta::names::root_name;
-use meta::{Moment, Part, Repo, Root, Stop};
-use std::alloc::Global;
+use meta::{Fault, Part, Root, Stop};
 
 /// The most roots that a cycle accepts.
 const MOST_ROOTS: u32 = 256;
@@ -28,59 +22,34 @@ const MOST_ROOTS: u32 = 256;
 /// The greatest version: a root of this version has no successor.
 const LAST_VERSION: u64 = i64::MAX as u64;
 
-/// One cycle of the client workflow, from the trusted state up to the top-level targets file (TUF
-/// 1.0 sections 5.3 to 5.6): the new trusted state, and how the cycle ended. A stop leaves what was
-/// trusted before it. The new root ends the longest chain of at most 256 roots that follow the
-/// trusted one.
-pub fn advance<J: Judge>(
-    alloc: Global,
-    trusted: &Trusted,
-    repo: &Repo,
-    now: Moment,
-    judge: &mut J,
-) -> Result<(Trusted, End), NoMemory>
-    ensures workflow { IfOk result (λ r. advanced_of r
-        ≡ spec.advanced (file_in repo.now.metadata) now trusted.now) }
-    ensures ready { IfOk result (λ r. r.1 ≡ End.Ready → is_ready r.0 ≡ true) }
-    ensures parts { IfOk result (λ r. AreRead r.0) }
-    ensures roots { IfOk result (λ r. IsLongestChain (file_in repo.now.metadata) now most_roots trusted.now.root r.0.root) }
-{
-    let round = Round {
-        alloc,
-        files: &repo.metadata,
-        moment: now,
-    };
-    let answer = follow(&round, trusted.copy(alloc)?, judge);
-    note_answer_read(&answer);
-    answer
-}
-
-/// Notes for the proof that each file of the state is what its bytes are read as; nothing is done.
-fn note_answer_read(answer: &Result<(Trusted, End), NoMemory>)
-    ensures { IfOk answer.now (λ r. AreRead r.0) }
-{
-    if let Ok((state, _)) = answer {
-        state.note_read();
-    }
-}
-
-/// The chain of roots, and what follows it.
-fn follow<J: Judge>(
+/// The roots that follow, the last of which must not be expired (TUF 1.0 section 5.3).
+pub(crate) fn root_step<J: Judge>(
     round: &Round,
-    mut state: Trusted,
+    state: &mut Draft,
     judge: &mut J,
-) -> Result<(Trusted, End), NoMemory>
-    ensures { IfOk result (λ r. advanced_of r
-        ≡ spec.followed (file_in round.now.files.now) round.now.moment 256 state) }
+) -> Result<(), Halt>
+    ensures { Leaves (spec.root_step (file_in round.now.files.now) round.now.moment state.old)
+        result state.new }
+{
+    follow(round, state, judge)?;
+    if is_expired(state.root().reading().header(), round.moment) {
+        return Err(Halt::Stopped(Step::Root, Fault::Expired));
+    }
+    Ok(())
+}
+
+/// The chain of roots.
+fn follow<J: Judge>(round: &Round, state: &mut Draft, judge: &mut J) -> Result<(), Halt>
+    ensures { Leaves (spec.followed (file_in round.now.files.now) round.now.moment 256 state.old)
+        result state.new }
 {
     for _done in 0..MOST_ROOTS {
-        match successor(round, state.root().reading(), judge) {
-            Ok(Some(next)) => state.trust_root(next),
-            Ok(None) => return rooted(round, state, judge),
-            Err(stop) => return stopped(state, Step::Root, stop),
+        match or_halt(Step::Root, successor(round, state.root().reading(), judge))? {
+            Some(next) => state.trust_root(next),
+            None => return Ok(()),
         }
     }
-    rooted(round, state, judge)
+    Ok(())
 }
 
 /// The root that follows, if there is one.
@@ -89,7 +58,8 @@ fn successor<J: Judge>(
     root: &Root,
     judge: &mut J,
 ) -> Result<Option<Part<Root>>, Stop>
-    ensures { Follows (spec.successor (file_in round.now.files.now) round.now.moment root.now) result }
+    ensures { Answers (spec.successor (file_in round.now.files.now) round.now.moment root.now)
+        result (λ p. p) }
 {
     if root.header().version() >= LAST_VERSION {
         return Ok(None);
@@ -110,7 +80,8 @@ fn listed_root<J: Judge>(
 ) -> Result<Part<Root>, Stop>
     requires last { root.now.header.version < 2 ^ 63 - 1 }
     requires name { name.now ≡ file_name (root.now.header.version + 1) }
-    ensures { Answers (root_part (next_root root.now) (root.now.header.version + 1) (file_in round.now.files.now)) result (λ p. p) }
+    ensures { Answers (root_part (next_root root.now) (root.now.header.version + 1)
+        (file_in round.now.files.now)) result (λ p. p) }
 {
     examine_root(
         round.alloc,

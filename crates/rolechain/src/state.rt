@@ -1,9 +1,7 @@
 ghost use Rattle.std.specs.Prelude.{◌≡◌, IfOk, IfSome, option_map};
 ghost use Rattle.rolechain.specs.State as spec;
 ghost use Rattle.rolechain.specs.Parts.{AreRead, IsRead};
-ghost use Rattle.rolechain.specs.Advance.{with_root, with_timestamp, with_snapshot, with_targets, reading_in};
 
-use crate::rotation::is_rotated;
 use cjson::NoMemory;
 use meta::{Part, Reading, Root, Snapshot, Targets, Timestamp};
 use std::alloc::Global;
@@ -127,50 +125,6 @@ impl Trusted {
         ensures value { result ≡ self.now.root.reading.header.version }
     {
         self.root.reading().header().version()
-    }
-
-    /// What the trusted snapshot says.
-    pub(crate) fn old_snapshot(&self) -> Option<&Snapshot>
-        ensures { option_map (λ s. s.now) result ≡ reading_in self.now.snapshot }
-    {
-        match &self.snapshot {
-            Some(part) => Some(part.reading()),
-            None => None,
-        }
-    }
-
-    /// Trusts the next root; where keys were rotated, the timestamp and the snapshot are dropped.
-    pub(crate) fn trust_root(&mut self, next: Part<Root>)
-        ensures { self.new ≡ with_root self.old next }
-    {
-        note_read(&next);
-        let rotates = is_rotated(self.root.reading(), next.reading());
-        self.root = next;
-        if rotates {
-            self.timestamp = None;
-            self.snapshot = None;
-        }
-    }
-
-    pub(crate) fn trust_timestamp(&mut self, next: Part<Timestamp>)
-        ensures { self.new ≡ with_timestamp self.old next }
-    {
-        note_read(&next);
-        self.timestamp = Some(next);
-    }
-
-    pub(crate) fn trust_snapshot(&mut self, next: Part<Snapshot>)
-        ensures { self.new ≡ with_snapshot self.old next }
-    {
-        note_read(&next);
-        self.snapshot = Some(next);
-    }
-
-    pub(crate) fn trust_targets(&mut self, next: Part<Targets>)
-        ensures { self.new ≡ with_targets self.old next }
-    {
-        note_read(&next);
-        self.targets = Some(next);
     }
 }
 

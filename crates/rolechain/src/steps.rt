@@ -1,20 +1,19 @@
-ghost use Rattle.std.specs.Prelude.{◌≡◌, IfOk, Ok, None};
+ghost use Rattle.std.specs.Prelude.{◌≡◌, IfOk, Ok, None, option_map};
 ghost use Rattle.meta.specs.Answers.{Answers};
 ghost use Rattle.examine.specs.Checks as checks;
 ghost use Rattle.examine.specs.Expecting.{file_in};
 ghost use Rattle.rolechain.specs.Advance as spec;
 ghost use Rattle.rolechain.specs.Expected as due;
-ghost use Rattle.rolechain.specs.Answers.{advanced_of, StopsBy};
+ghost use Rattle.rolechain.specs.Answers.{Leaves};
 
-use crate::end::{End, Step};
+use crate::draft::Draft;
+use crate::end::{Halt, Step, or_halt};
 use crate::expected::{due_snapshot, due_targets, due_timestamp, place_of, snapshot_name};
-use crate::state::Trusted;
-use cjson::NoMemory;
 use examine::{
     examine_first_timestamp, examine_next_timestamp, examine_snapshot, examine_targets, is_expired,
 };
 use keys::Judge;
-use meta::{Fault, Header, Listing, Moment, Part, Snapshot, Stop, Targets, Timestamp};
+use meta::{Fault, Moment, Part, Root, Snapshot, Stop, Targets, Timestamp};
 use std::alloc::Global;
 use std::collections::BTreeMap;
 
@@ -26,174 +25,169 @@ pub(crate) struct Round<'a> {
     pub moment: Moment,
 }
 
-/// The cycle from its last root on, which must not be expired (TUF 1.0 section 5.3).
-pub(crate) fn rooted<J: Judge>(
+/// The timestamp (TUF 1.0 section 5.4).
+pub(crate) fn timestamp_step<J: Judge>(
     round: &Round,
-    state: Trusted,
+    state: &mut Draft,
     judge: &mut J,
-) -> Result<(Trusted, End), NoMemory>
-    ensures { IfOk result (λ r. advanced_of r
-        ≡ spec.rooted (file_in round.now.files.now) round.now.moment state) }
+) -> Result<(), Halt>
+    ensures { Leaves (spec.timestamp_step (file_in round.now.files.now) round.now.moment state.old)
+        result state.new }
 {
-    if is_expired(state.root().reading().header(), round.moment) {
-        return Ok((state, End::Stopped(Step::Root, Fault::Expired)));
+    let newer = or_halt(Step::Timestamp, newer_timestamp(round, state, judge))?;
+    if let Some(part) = newer {
+        state.trust_timestamp(part);
     }
-    timestamp_step(round, state, judge)
+    Ok(())
 }
 
-/// The timestamp, and what follows it (TUF 1.0 section 5.4).
-fn timestamp_step<J: Judge>(
+/// The snapshot (TUF 1.0 section 5.5).
+pub(crate) fn snapshot_step<J: Judge>(
     round: &Round,
-    state: Trusted,
+    state: &mut Draft,
     judge: &mut J,
-) -> Result<(Trusted, End), NoMemory>
-    ensures { IfOk result (λ r. advanced_of r
-        ≡ spec.timestamp_step (file_in round.now.files.now) round.now.moment state state.timestamp) }
+) -> Result<(), Halt>
+    ensures { Leaves (spec.snapshot_step (file_in round.now.files.now) round.now.moment state.old)
+        result state.new }
 {
+    let part = or_halt(Step::Snapshot, listed_snapshot(round, state, judge))?;
+    state.trust_snapshot(part);
+    Ok(())
+}
+
+/// The top-level targets file (TUF 1.0 section 5.6).
+pub(crate) fn targets_step<J: Judge>(
+    round: &Round,
+    state: &mut Draft,
+    judge: &mut J,
+) -> Result<(), Halt>
+    ensures { Leaves (spec.targets_step (file_in round.now.files.now) round.now.moment state.old)
+        result state.new }
+{
+    let part = or_halt(Step::Targets, listed_targets(round, state, judge))?;
+    state.trust_targets(part);
+    Ok(())
+}
+
+/// The timestamp that is trusted next, or none where the trusted one stays.
+fn newer_timestamp<J: Judge>(
+    round: &Round,
+    state: &Draft,
+    judge: &mut J,
+) -> Result<Option<Part<Timestamp>>, Stop>
+    ensures { Answers (spec.newer_timestamp (file_in round.now.files.now) round.now.moment
+        state.now.root.reading state.now.timestamp) result (λ p. p) }
+{
+    let root = state.root().reading();
     match state.timestamp() {
-        Some(old) => {
-            let old = old.reading();
-            let (header, listing) = (*old.header(), *old.snapshot());
-            match next_timestamp(round, &state, old, judge) {
-                Ok(Some(part)) => timestamped(round, state, part, judge),
-                Ok(None) => timestamped_again(round, state, &header, &listing, judge),
-                Err(stop) => stopped(state, Step::Timestamp, stop),
-            }
-        }
-        None => match first_timestamp(round, &state, judge) {
-            Ok(part) => timestamped(round, state, part, judge),
-            Err(stop) => stopped(state, Step::Timestamp, stop),
-        },
+        Some(old) => renewed(round, root, old.reading(), judge),
+        None => Ok(Some(first_timestamp(round, root, judge)?)),
     }
 }
 
-/// A new timestamp is trusted, and the snapshot that it lists is next.
-fn timestamped<J: Judge>(
+/// The timestamp beside the trusted one, which stays where its version came again, and must then
+/// not be expired.
+fn renewed<J: Judge>(
     round: &Round,
-    mut state: Trusted,
-    part: Part<Timestamp>,
+    root: &Root,
+    old: &Timestamp,
     judge: &mut J,
-) -> Result<(Trusted, End), NoMemory>
-    ensures { IfOk result (λ r. advanced_of r
-        ≡ spec.snapshot_step (file_in round.now.files.now) round.now.moment (spec.with_timestamp state part) part.reading.snapshot) }
+) -> Result<Option<Part<Timestamp>>, Stop>
+    ensures { Answers (spec.renewed (file_in round.now.files.now) round.now.moment
+        root.now old.now) result (λ p. p) }
 {
-    let listing = *part.reading().snapshot();
-    state.trust_timestamp(part);
-    snapshot_step(round, state, &listing, judge)
-}
-
-/// The trusted timestamp's version came again: that one stays, and must not be expired.
-fn timestamped_again<J: Judge>(
-    round: &Round,
-    state: Trusted,
-    header: &Header,
-    listing: &Listing,
-    judge: &mut J,
-) -> Result<(Trusted, End), NoMemory>
-    ensures { IfOk result (λ r. advanced_of r
-        ≡ spec.timestamped_again (file_in round.now.files.now) round.now.moment state (record { header = header.now; snapshot = listing.now }) (Ok None)) }
-{
-    if is_expired(header, round.moment) {
-        return Ok((state, End::Stopped(Step::Timestamp, Fault::Expired)));
+    let newer = next_timestamp(round, root, old, judge)?;
+    if newer.is_none() && is_expired(old.header(), round.moment) {
+        return Err(Stop::Refused(Fault::Expired));
     }
-    snapshot_step(round, state, listing, judge)
-}
-
-/// The snapshot that the timestamp lists, and what follows it (TUF 1.0 section 5.5).
-fn snapshot_step<J: Judge>(
-    round: &Round,
-    state: Trusted,
-    listing: &Listing,
-    judge: &mut J,
-) -> Result<(Trusted, End), NoMemory>
-    ensures { IfOk result (λ r. advanced_of r
-        ≡ spec.snapshot_step (file_in round.now.files.now) round.now.moment state listing.now) }
-{
-    match listed_snapshot(round, &state, listing, judge) {
-        Ok(part) => targets_step(round, state, part, judge),
-        Err(stop) => stopped(state, Step::Snapshot, stop),
-    }
-}
-
-/// The snapshot is trusted, and the top-level targets file that it lists is next (TUF 1.0 section 5.6).
-fn targets_step<J: Judge>(
-    round: &Round,
-    mut state: Trusted,
-    snapshot: Part<Snapshot>,
-    judge: &mut J,
-) -> Result<(Trusted, End), NoMemory>
-    ensures { IfOk result (λ r. advanced_of r
-        ≡ spec.targets_step (file_in round.now.files.now) round.now.moment (spec.with_snapshot state snapshot) snapshot.reading) }
-{
-    let examined = top_targets(round, &state, snapshot.reading(), judge);
-    state.trust_snapshot(snapshot);
-    match examined {
-        Ok(part) => {
-            state.trust_targets(part);
-            Ok((state, End::Ready))
-        }
-        Err(stop) => stopped(state, Step::Targets, stop),
-    }
+    Ok(newer)
 }
 
 fn first_timestamp<J: Judge>(
     round: &Round,
-    state: &Trusted,
+    root: &Root,
     judge: &mut J,
 ) -> Result<Part<Timestamp>, Stop>
-    ensures { Answers (checks.first_timestamp (due.due_timestamp state.now.root.reading) (file_in round.now.files.now) round.now.moment) result (λ p. p) }
+    ensures { Answers (checks.first_timestamp (due.due_timestamp root.now)
+        (file_in round.now.files.now) round.now.moment) result (λ p. p) }
 {
-    let expect = due_timestamp(state.root().reading());
+    let expect = due_timestamp(root);
     examine_first_timestamp(round.alloc, &expect, round.files, round.moment, judge)
 }
 
 fn next_timestamp<J: Judge>(
     round: &Round,
-    state: &Trusted,
+    root: &Root,
     old: &Timestamp,
     judge: &mut J,
 ) -> Result<Option<Part<Timestamp>>, Stop>
-    ensures { Answers (checks.next_timestamp (due.due_timestamp state.now.root.reading) old.now (file_in round.now.files.now) round.now.moment) result (λ p. p) }
+    ensures { Answers (checks.next_timestamp (due.due_timestamp root.now) old.now
+        (file_in round.now.files.now) round.now.moment) result (λ p. p) }
 {
-    let expect = due_timestamp(state.root().reading());
+    let expect = due_timestamp(root);
     examine_next_timestamp(round.alloc, &expect, old, round.files, round.moment, judge)
 }
 
+/// The snapshot that the trusted timestamp lists.
 fn listed_snapshot<J: Judge>(
     round: &Round,
-    state: &Trusted,
-    listing: &Listing,
+    state: &Draft,
     judge: &mut J,
 ) -> Result<Part<Snapshot>, Stop>
-    ensures { Answers (checks.snapshot_part (due.next_snapshot state.now.root.reading listing.now) (spec.reading_in state.now.snapshot) (file_in round.now.files.now) round.now.moment) result (λ p. p) }
+    ensures { Answers (spec.listed_snapshot (file_in round.now.files.now) round.now.moment
+        state.now) result (λ p. p) }
+{
+    match state.timestamp() {
+        Some(part) => next_snapshot(round, state, part.reading(), judge),
+        None => Err(Stop::Refused(Fault::NotListed)),
+    }
+}
+
+fn next_snapshot<J: Judge>(
+    round: &Round,
+    state: &Draft,
+    timestamp: &Timestamp,
+    judge: &mut J,
+) -> Result<Part<Snapshot>, Stop>
+    ensures { Answers (checks.snapshot_part
+        (due.next_snapshot state.now.root.reading timestamp.now.snapshot)
+        (spec.reading_in state.now.snapshot) (file_in round.now.files.now) round.now.moment)
+        result (λ p. p) }
 {
     let root = state.root().reading();
+    let listing = timestamp.snapshot();
     let name = snapshot_name(round.alloc, root, listing)?;
     let expect = due_snapshot(root, listing, name.as_str());
     let old = state.old_snapshot();
     examine_snapshot(round.alloc, &expect, old, round.files, round.moment, judge)
 }
 
+/// The targets file that the trusted snapshot lists.
+fn listed_targets<J: Judge>(
+    round: &Round,
+    state: &Draft,
+    judge: &mut J,
+) -> Result<Part<Targets>, Stop>
+    ensures { Answers (spec.listed_targets (file_in round.now.files.now) round.now.moment
+        state.now) result (λ p. p) }
+{
+    let root = state.root().reading();
+    match state.snapshot() {
+        Some(part) => top_targets(round, root, part.reading(), judge),
+        None => Err(Stop::Refused(Fault::NotListed)),
+    }
+}
+
 fn top_targets<J: Judge>(
     round: &Round,
-    state: &Trusted,
+    root: &Root,
     snapshot: &Snapshot,
     judge: &mut J,
 ) -> Result<Part<Targets>, Stop>
-    ensures { Answers (checks.targets_part (due.top_targets state.now.root.reading snapshot.now) (file_in round.now.files.now) round.now.moment) result (λ p. p) }
+    ensures { Answers (checks.targets_part (due.top_targets root.now snapshot.now)
+        (file_in round.now.files.now) round.now.moment) result (λ p. p) }
 {
-    let root = state.root().reading();
     let (listed, name) = place_of(round.alloc, root, snapshot, "targets")?;
     let expect = due_targets(root, listed, name.as_str());
     examine_targets(round.alloc, &expect, round.files, round.moment, judge)
-}
-
-/// The cycle stops in that step, or memory was refused.
-pub(crate) fn stopped(state: Trusted, step: Step, stop: Stop) -> Result<(Trusted, End), NoMemory>
-    ensures { StopsBy state step stop result }
-{
-    match stop {
-        Stop::Refused(fault) => Ok((state, End::Stopped(step, fault))),
-        Stop::NoMemory => Err(NoMemory),
-    }
 }

@@ -311,7 +311,8 @@ fn push_later(
     name: &str,
     bytes: Option<&[u8]>,
 ) -> Result<(), AllocError>
-    ensures { OnOk result (out.new.items ≡ out.old.items ++ spec.later_text name.now (option_map (λ b. b.now) bytes.entry)) }
+    ensures { OnOk result (out.new.items ≡ out.old.items
+        ++ spec.later_text name.now (option_map (λ b. b.now) bytes.entry)) }
 {
     match bytes {
         Some(bytes) => {

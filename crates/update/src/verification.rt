@@ -116,7 +116,6 @@ fn keep_outcome<S: System>(
 }
 
 /// The workflow's outcome, by the number of workers that the start names.
-#[tactic(auto, unfolding(crate::specs::Told::outcome_of))]
 fn outcome<R: Threads + Wait + Sync>(
     rt: &R,
     alloc: Global,

@@ -7,5 +7,5 @@ use Rattle.rolechain.proofs.steps.first_timestamp.Goals as goal
 
 pub returns : goal.returns
 returns g c =
-    let same : expectation c.due_timestamp-expect.result ≡ due_timestamp c.args.state.now.root.reading = cc in
+    let same : expectation c.due_timestamp-expect.result ≡ due_timestamp c.args.root.now = cc in
     along (λ e. checks.first_timestamp e (file_in c.args.round.now.files.now) c.args.round.now.moment) _ _ _ same c.examine_first_timestamp.ensures.answer

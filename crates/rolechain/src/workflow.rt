@@ -1,0 +1,73 @@
+ghost use Rattle.std.specs.Prelude.{◌≡◌, IfOk, true};
+ghost use Rattle.examine.specs.Expecting.{file_in};
+ghost use Rattle.rolechain.specs.Advance as spec;
+ghost use Rattle.rolechain.specs.Advance.{most_roots};
+ghost use Rattle.rolechain.specs.Roots.{IsLongestChain, IsDropped, is_early};
+ghost use Rattle.rolechain.specs.Parts.{AreRead};
+ghost use Rattle.rolechain.specs.State.{is_ready};
+ghost use Rattle.rolechain.specs.Answers.{advanced_of, Ends, Leaves};
+
+use crate::draft::Draft;
+use crate::end::{End, Halt};
+use crate::roots::root_step;
+use crate::state::Trusted;
+use crate::steps::{Round, snapshot_step, targets_step, timestamp_step};
+use cjson::NoMemory;
+use keys::Judge;
+use meta::{Moment, Repo};
+use std::alloc::Global;
+
+/// One cycle of the client workflow, from the trusted state up to the top-level targets file (TUF
+/// 1.0 sections 5.3 to 5.6): the new trusted state, and how the cycle ended. A stop leaves what was
+/// trusted before it. The new root ends the longest chain of at most 256 roots that follow the
+/// trusted one. A stop at a root or at the timestamp leaves the trusted timestamp and snapshot, or
+/// neither where two neighbours of the chain list other keys for one of them.
+pub fn advance<J: Judge>(
+    alloc: Global,
+    trusted: &Trusted,
+    repo: &Repo,
+    now: Moment,
+    judge: &mut J,
+) -> Result<(Trusted, End), NoMemory>
+    ensures workflow { IfOk result (λ r. advanced_of r
+        ≡ spec.advanced (file_in repo.now.metadata) now trusted.now) }
+    ensures ready { IfOk result (λ r. r.1 ≡ End.Ready → is_ready r.0 ≡ true) }
+    ensures parts { IfOk result (λ r. AreRead r.0) }
+    ensures roots { IfOk result (λ r. IsLongestChain (file_in repo.now.metadata) now most_roots
+        trusted.now.root r.0.root) }
+    ensures drop { IfOk result (λ r. is_early r.1 ≡ true
+        → IsDropped (file_in repo.now.metadata) now trusted.now r.0) }
+{
+    let round = Round {
+        alloc,
+        files: &repo.metadata,
+        moment: now,
+    };
+    let mut draft = Draft::of(trusted);
+    let end = end_of(steps(&round, &mut draft, judge))?;
+    let state = draft.into_trusted(alloc)?;
+    state.note_read();
+    Ok((state, end))
+}
+
+/// How a cycle ended whose steps answered so.
+fn end_of(answer: Result<(), Halt>) -> Result<End, NoMemory>
+    ensures { Ends answer result }
+{
+    match answer {
+        Ok(()) => Ok(End::Ready),
+        Err(Halt::Stopped(step, fault)) => Ok(End::Stopped(step, fault)),
+        Err(Halt::NoMemory) => Err(NoMemory),
+    }
+}
+
+/// The steps of a cycle, in order.
+fn steps<J: Judge>(round: &Round, state: &mut Draft, judge: &mut J) -> Result<(), Halt>
+    ensures { Leaves (spec.steps (file_in round.now.files.now) round.now.moment state.old)
+        result state.new }
+{
+    root_step(round, state, judge)?;
+    timestamp_step(round, state, judge)?;
+    snapshot_step(round, state, judge)?;
+    targets_step(round, state, judge)
+}
