@@ -13,8 +13,7 @@
 #
 # `rt run` proves and builds the program, once. A small library, made with `cc`, stands before the C library's `malloc`
 # and `realloc` and refuses the Nth call. (`rt try --fail-alloc N` gives the same answers, and builds the program for
-# each N, which takes a minute or two.) The ten sweeps are 9,948 runs. Beside the merge gate the run without a word,
-# which makes and signs a repository each time, took eight minutes, and the others together some six.
+# each N, which takes a minute or two.) The ten sweeps are 9,775 runs, which took eight minutes beside the merge gate.
 set -u
 first=${1:-1} last=${2:-100000} step=${3:-1}
 top=$(cd "$(dirname "$0")/.." && pwd) || exit 2

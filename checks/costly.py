@@ -195,7 +195,7 @@ def measure(name, size):
 
 def snapshots(size):
     """A snapshot with as many names as fit, after one with the same names."""
-    names = ["targets", *("%06d" % n for n in range((size - ROOM) // 28))]
+    names = ["targets", *("%06d" % n for n in range((size - ROOM) // 31))]
     write({"metadata/targets.json": targets()})
     for version in (1, 2):
         write({"metadata/snapshot.json": tuf.snapshot(KEY, names, version)})
