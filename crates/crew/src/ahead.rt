@@ -28,7 +28,6 @@ pub(crate) struct Read<A: Reading> {
 
 /// A role's targets file, and where it leads for the wanted paths: which of the delegations that it
 /// lists are followed, and the names of the bins.
-#[derive(Drop)]
 pub(crate) struct RoleFile {
     pub document: usize,
     pub targets: Targets,
@@ -36,22 +35,48 @@ pub(crate) struct RoleFile {
     pub bins: BTreeSet<String>,
 }
 
+impl Drop for RoleFile {
+    fn drop(self) {
+        let RoleFile {
+            document,
+            targets,
+            followed,
+            bins,
+        } = self;
+    }
+}
+
 /// The targets files, and by the roles' names where each stands among them. None stands for a file
 /// that isn't there or can't be read.
-#[derive(Drop)]
 pub(crate) struct Roles {
     pub files: Vec<RoleFile>,
     pub places: BTreeMap<String, Option<usize>>,
 }
 
+impl Drop for Roles {
+    fn drop(self) {
+        let Roles { files, places } = self;
+    }
+}
+
 /// What was read ahead, each file once. A file stands here only where the one that leads to it could
 /// be read.
-#[derive(Drop)]
 pub(crate) struct Ahead {
     pub roots: Vec<Read<Root>>,
     pub timestamp: Option<Read<Timestamp>>,
     pub snapshot: Option<Read<Snapshot>>,
     pub roles: Roles,
+}
+
+impl Drop for Ahead {
+    fn drop(self) {
+        let Ahead {
+            roots,
+            timestamp,
+            snapshot,
+            roles,
+        } = self;
+    }
 }
 
 /// Where is read, and for which paths: at most so many targets files, and at most so many questions.

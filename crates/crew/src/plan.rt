@@ -40,11 +40,20 @@ pub(crate) enum Planned<'a> {
 
 /// Questions that a run is likely to ask, at most 4,096, each once. Contracts see the list of questions. An index
 /// finds a question by a digest of its names, and so at the price of one digest.
-#[derive(Drop)]
 pub struct Plan<'a> {
     documents: Vec<Document>,
     questions: Vec<Planned<'a>>,
     index: BTreeMap<[u8; 32], usize>,
+}
+
+impl<'a> Drop for Plan<'a> {
+    fn drop(self) {
+        let Plan {
+            documents,
+            questions,
+            index,
+        } = self;
+    }
 }
 
 impl<'a> Model for Plan<'a> {

@@ -22,11 +22,20 @@ use std::thread::Threads;
 
 /// Runs cycle after cycle, each from the trusted state of the one before, and remembers verdicts on
 /// signatures. What it remembers bears on no outcome: contracts see the trusted state alone.
-#[derive(Drop)]
 pub struct Keeper {
     alloc: Global,
     trusted: Trusted,
     cache: Cache,
+}
+
+impl Drop for Keeper {
+    fn drop(self) {
+        let Keeper {
+            alloc,
+            trusted,
+            cache,
+        } = self;
+    }
 }
 
 impl Model for Keeper {

@@ -7,10 +7,15 @@ use std::alloc::Global;
 use std::marker::Model;
 
 /// A delegated role that a search accepted.
-#[derive(Drop)]
 pub struct Accepted {
     role: Text,
     version: u64,
+}
+
+impl Drop for Accepted {
+    fn drop(self) {
+        let Accepted { role, version } = self;
+    }
 }
 
 impl Model for Accepted {
@@ -56,10 +61,15 @@ impl Accepted {
 
 /// What a search gives: what was found of the path, and the delegated roles that were accepted, in
 /// the order of their visits.
-#[derive(Drop)]
 pub struct Searched {
     found: Found,
     accepted: Vec<Accepted>,
+}
+
+impl Drop for Searched {
+    fn drop(self) {
+        let Searched { found, accepted } = self;
+    }
 }
 
 impl Model for Searched {

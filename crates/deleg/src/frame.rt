@@ -31,11 +31,16 @@ fn targets_in<'a>(file: &'a Held<'_>) -> &'a Targets
 
 /// A targets file, the name of the bin of the path that is searched for, and how many of the file's
 /// delegations were tried; seen as those that are left.
-#[derive(Drop)]
 pub(crate) struct Frame<'a> {
     file: Held<'a>,
     bin: Text,
     tried: usize,
+}
+
+impl<'a> Drop for Frame<'a> {
+    fn drop(self) {
+        let Frame { file, bin, tried } = self;
+    }
 }
 
 impl<'a> Model for Frame<'a> {

@@ -121,12 +121,22 @@ pub enum Paths {
 }
 
 /// A delegation to a role.
-#[derive(Drop)]
 pub struct Delegation {
     name: Text,
     keys: RoleKeys,
     terminating: bool,
     paths: Paths,
+}
+
+impl Drop for Delegation {
+    fn drop(self) {
+        let Delegation {
+            name,
+            keys,
+            terminating,
+            paths,
+        } = self;
+    }
 }
 
 impl Model for Delegation {

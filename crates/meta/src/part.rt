@@ -90,10 +90,15 @@ impl Reading for Targets {
 }
 
 /// A metadata file: its bytes, which are within its kind's limit, and what is read from them.
-#[derive(Drop)]
 pub struct Part<A: Reading> {
     bytes: Vec<u8>,
     reading: A,
+}
+
+impl<A: Reading + Drop> Drop for Part<A> {
+    fn drop(self) {
+        let Part { bytes, reading } = self;
+    }
 }
 
 impl<A: Reading> Model for Part<A> {

@@ -18,10 +18,15 @@ use std::alloc::Global;
 use std::marker::Model;
 
 /// A file's name with its listing (TUF 1.0 section 4.4).
-#[derive(Drop)]
 pub struct Named {
     name: Text,
     listing: Listing,
+}
+
+impl Drop for Named {
+    fn drop(self) {
+        let Named { name, listing } = self;
+    }
 }
 
 impl Model for Named {
@@ -59,10 +64,15 @@ impl FromMember for Named {
 }
 
 /// What a snapshot file says (TUF 1.0 section 4.4).
-#[derive(Drop)]
 pub struct Snapshot {
     header: Header,
     files: Items<Named>,
+}
+
+impl Drop for Snapshot {
+    fn drop(self) {
+        let Snapshot { header, files } = self;
+    }
 }
 
 impl Model for Snapshot {

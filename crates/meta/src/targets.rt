@@ -24,11 +24,20 @@ use std::alloc::Global;
 use std::marker::Model;
 
 /// A listed target (TUF 1.0 section 4.5).
-#[derive(Drop)]
 pub struct Target {
     path: Text,
     length: Length,
     hashes: Hashes,
+}
+
+impl Drop for Target {
+    fn drop(self) {
+        let Target {
+            path,
+            length,
+            hashes,
+        } = self;
+    }
 }
 
 impl Model for Target {
@@ -108,11 +117,20 @@ impl FromMember for Target {
 }
 
 /// What a targets file says (TUF 1.0 section 4.5).
-#[derive(Drop)]
 pub struct Targets {
     header: Header,
     targets: Items<Target>,
     delegations: Option<Delegations>,
+}
+
+impl Drop for Targets {
+    fn drop(self) {
+        let Targets {
+            header,
+            targets,
+            delegations,
+        } = self;
+    }
 }
 
 impl Model for Targets {

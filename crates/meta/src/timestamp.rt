@@ -15,10 +15,15 @@ use std::alloc::Global;
 use std::marker::Model;
 
 /// What a timestamp file says (TUF 1.0 section 4.6).
-#[derive(Drop)]
 pub struct Timestamp {
     header: Header,
     snapshot: Listing,
+}
+
+impl Drop for Timestamp {
+    fn drop(self) {
+        let Timestamp { header, snapshot } = self;
+    }
 }
 
 impl Model for Timestamp {

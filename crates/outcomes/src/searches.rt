@@ -32,11 +32,16 @@ const SNAPSHOT: &str =
 const DIGEST: &str = "ba7816bf8f01cfea414140de5dae2223b00361a396177a9cb410ff61f20015ad";
 
 /// A key with its id and its secret.
-#[derive(Drop)]
 struct Signer {
     id: String,
     key: String,
     secret: Secret,
+}
+
+impl Drop for Signer {
+    fn drop(self) {
+        let Signer { id, key, secret } = self;
+    }
 }
 
 impl Signer {
@@ -66,12 +71,22 @@ impl Signer {
 }
 
 /// Two keys, the delegations of the top-level role, and the delegated files.
-#[derive(Drop)]
 struct Parts {
     one: Signer,
     two: Signer,
     roles: String,
     repo: Repo,
+}
+
+impl Drop for Parts {
+    fn drop(self) {
+        let Parts {
+            one,
+            two,
+            roles,
+            repo,
+        } = self;
+    }
 }
 
 impl Parts {

@@ -10,12 +10,22 @@ use std::marker::Model;
 /// What is trusted: a root file and, each where trusted, a timestamp, a snapshot and a top-level
 /// targets file (TUF 1.0 section 5). Each is the reading of its bytes, which are within the limit
 /// of its kind.
-#[derive(Drop)]
 pub struct Trusted {
     root: Part<Root>,
     timestamp: Option<Part<Timestamp>>,
     snapshot: Option<Part<Snapshot>>,
     targets: Option<Part<Targets>>,
+}
+
+impl Drop for Trusted {
+    fn drop(self) {
+        let Trusted {
+            root,
+            timestamp,
+            snapshot,
+            targets,
+        } = self;
+    }
 }
 
 impl Model for Trusted {

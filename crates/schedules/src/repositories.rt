@@ -10,10 +10,15 @@ use std::fs;
 use std::rt::Files;
 
 /// A repository, and the trusted state that begins with its first root.
-#[derive(Drop)]
 pub struct Made {
     pub repo: Repo,
     pub trusted: Trusted,
+}
+
+impl Drop for Made {
+    fn drop(self) {
+        let Made { repo, trusted } = self;
+    }
 }
 
 /// Makes what the script `cases/NAME.script` says in the folder of that name.

@@ -5,7 +5,6 @@ use anyhow::{Context, Result};
 use std::alloc::Global;
 
 /// A command, what is handed to it, and what it should give.
-#[derive(Drop)]
 pub struct Step {
     /// The number of the command's line in its file.
     pub(crate) line: usize,
@@ -16,6 +15,18 @@ pub struct Step {
     /// The lines that are handed to it.
     pub script: Vec<String>,
     pub(crate) expected: Vec<String>,
+}
+
+impl Drop for Step {
+    fn drop(self) {
+        let Step {
+            line,
+            command,
+            words,
+            script,
+            expected,
+        } = self;
+    }
 }
 
 impl Step {

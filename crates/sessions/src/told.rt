@@ -2,11 +2,16 @@ use anyhow::Result;
 use std::alloc::Global;
 
 /// What a command gave.
-#[derive(Drop)]
 pub struct Told {
     pub status: u8,
     pub out: Vec<u8>,
     pub err: Vec<u8>,
+}
+
+impl Drop for Told {
+    fn drop(self) {
+        let Told { status, out, err } = self;
+    }
 }
 
 impl Told {

@@ -29,10 +29,15 @@ pub struct Cycles<'a> {
 }
 
 /// The outcomes of all cycles, and the keeper that has the state after the last one.
-#[derive(Drop)]
 struct Replayed {
     outcomes: Vec<Outcome>,
     keeper: Keeper,
+}
+
+impl Drop for Replayed {
+    fn drop(self) {
+        let Replayed { outcomes, keeper } = self;
+    }
 }
 
 /// Replays what the words name: the moment is read first, then the state file, and then the folders, as
