@@ -15,10 +15,15 @@ use std::marker::Model;
 
 /// An entry of `signatures`: the id of a key and a signature, as the file spells them (TUF 1.0
 /// section 4.2). Both are texts of any length, and are compared with nothing here.
-#[derive(Drop)]
 pub struct Entry {
     keyid: Text,
     sig: Text,
+}
+
+impl Drop for Entry {
+    fn drop(self) {
+        let Entry { keyid, sig } = self;
+    }
 }
 
 impl Model for Entry {
@@ -59,12 +64,21 @@ impl FromJson for Entry {
 
 /// A metadata file as a document: what is signed, its canonical text, and the entries of its
 /// signatures (TUF 1.0 section 4.2). Whoever has one knows that the text is the tree's.
-#[derive(Drop)]
 pub struct Doc {
     tree: Value,
     canonical: Vec<u8>,
     listed: Items<Entry>,
     ghost covered: { canon (view tree) ≡ Some canonical.items },
+}
+
+impl Drop for Doc {
+    fn drop(self) {
+        let Doc {
+            tree,
+            canonical,
+            listed,
+        } = self;
+    }
 }
 
 impl Doc {

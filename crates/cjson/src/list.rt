@@ -12,9 +12,14 @@ use std::alloc::Global;
 use std::marker::Model;
 
 /// The items of a list, in order; read from a JSON list, `Malformed` where some item hasn't the form.
-#[derive(Drop)]
 pub struct Items<T> {
     items: Vec<T>,
+}
+
+impl<T: Drop> Drop for Items<T> {
+    fn drop(self) {
+        let Items { items } = self;
+    }
 }
 
 impl<T> Model for Items<T> {
@@ -37,7 +42,8 @@ impl<T> Items<T> {
     pub fn into_vec(self) -> Vec<T>
         ensures value { result.items ≡ self }
     {
-        self.items
+        let Items { items } = self;
+        items
     }
 
     /// The items, lent.

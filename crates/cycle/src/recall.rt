@@ -32,10 +32,15 @@ impl Recall for Nothing {
 }
 
 /// Remembers what the cache has, and counts what the cache answered.
-#[derive(Drop)]
 pub(crate) struct Recalling<'a> {
     cache: &'a mut Cache,
     taken_over: u64,
+}
+
+impl<'a> Drop for Recalling<'a> {
+    fn drop(self) {
+        let Recalling { cache, taken_over } = self;
+    }
 }
 
 impl<'a> Recalling<'a> {

@@ -14,10 +14,15 @@ use std::marker::Model;
 
 /// A usable key: of type `lms` and scheme `lms-sha256`, with a public value of a supported kind,
 /// under its own id (TUF 1.0 section 4.2).
-#[derive(Drop)]
 pub struct Key {
     id: Text,
     public: Public,
+}
+
+impl Drop for Key {
+    fn drop(self) {
+        let Key { id, public } = self;
+    }
 }
 
 impl Model for Key {

@@ -15,9 +15,14 @@ use std::marker::Model;
 /// The usable keys of an object of keys (TUF 1.0 section 4.3), in the order of their ids: those of type
 /// `lms` and scheme `lms-sha256` whose `keyval.public` is the hexadecimal, in either case, of 56 bytes of
 /// a supported kind, each under its own id. Any other key stays in the file and counts for no threshold.
-#[derive(Drop)]
 pub struct KeyRing {
     keys: Vec<Key>,
+}
+
+impl Drop for KeyRing {
+    fn drop(self) {
+        let KeyRing { keys } = self;
+    }
 }
 
 impl Model for KeyRing {

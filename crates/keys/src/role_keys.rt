@@ -15,10 +15,15 @@ use std::collections::BTreeSet;
 use std::marker::Model;
 
 /// Which keys a role lists, by their ids, and how many of them must sign (TUF 1.0 section 4.3).
-#[derive(Drop)]
 pub struct RoleKeys {
     ids: Items<Text>,
     threshold: Positive,
+}
+
+impl Drop for RoleKeys {
+    fn drop(self) {
+        let RoleKeys { ids, threshold } = self;
+    }
 }
 
 impl Model for RoleKeys {

@@ -7,9 +7,14 @@ use std::alloc::{AllocError, Global};
 use std::marker::Model;
 
 /// A set of public values.
-#[derive(Drop)]
 pub struct Signers {
     publics: Vec<Public>,
+}
+
+impl Drop for Signers {
+    fn drop(self) {
+        let Signers { publics } = self;
+    }
 }
 
 impl Model for Signers {
@@ -25,7 +30,8 @@ impl Model for Signers {
 
     ghost view = { λ a. set.from_list a.publics.items };
 
-    ghost invariant = { λ a. set.len (set.from_list {R = slice_cmp nat_cmp} a.publics.items) ≡ vec_len a.publics };
+    ghost invariant = { λ a.
+        set.len (set.from_list {R = slice_cmp nat_cmp} a.publics.items) ≡ vec_len a.publics };
 }
 
 impl Signers {

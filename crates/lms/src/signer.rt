@@ -41,7 +41,6 @@ impl From<AllocError> for SignFault {
 }
 
 /// A secret key: a tree of one-time keys, of which each signs one message (RFC 8554 section 5).
-#[derive(Drop)]
 pub struct Secret {
     alloc: Global,
     kind: Kind,
@@ -49,6 +48,19 @@ pub struct Secret {
     seed: [u8; 32],
     used: u32,
     nodes: Vec<Node>,
+}
+
+impl Drop for Secret {
+    fn drop(self) {
+        let Secret {
+            alloc,
+            kind,
+            id,
+            seed,
+            used,
+            nodes,
+        } = self;
+    }
 }
 
 impl Model for Secret {
@@ -60,7 +72,8 @@ impl Model for Secret {
 
     ghost view = { λ s. record { kind = s.kind; id = s.id; seed = s.seed; used = s.used } };
 
-    ghost invariant = { λ s. (s.used ≤ 2 ^ levels s.kind.height) × IsTree s.kind s.id s.seed s.nodes.items };
+    ghost invariant = { λ s.
+        (s.used ≤ 2 ^ levels s.kind.height) × IsTree s.kind s.id s.seed s.nodes.items };
 }
 
 // Writes the leaves' values into their places.
@@ -133,7 +146,8 @@ fn push_path(sig: &mut Vec<u8>, nodes: &[Node], height: Height, q: u32) -> Resul
     requires size { length nodes.now ≡ 2 * 2 ^ levels height }
     requires leaf { q < 2 ^ levels height }
     ensures { (k : Kind) (id seed : List ℕ) → k.height ≡ height → IsTree k id seed nodes.now
-        → OnOk result (sig.new.items ≡ sig.old.items ++ path_of k id seed (2 ^ levels height + q) (levels height)) }
+        → OnOk result (sig.new.items
+        ≡ sig.old.items ++ path_of k id seed (2 ^ levels height + q) (levels height)) }
 {
     let mut r = height.leaf_count() + q;
     'levels: for n in 0..height.levels() {
@@ -225,9 +239,11 @@ impl Secret {
     #[tactic(auto, using(crate::proofs::Valid::signature_is_valid))]
     pub fn sign(&mut self, msg: &[u8]) -> Result<Vec<u8>, SignFault>
         ensures ok { IfOk result (λ sig. sig.items ≡ signature_by self.old self.old.used msg.now) }
-        ensures valid { IfOk result (λ sig. IsTrue (is_valid (public_of self.old) msg.now sig.items)) }
+        ensures valid { IfOk result
+            (λ sig. IsTrue (is_valid (public_of self.old) msg.now sig.items)) }
         ensures next { OnOk result (self.new ≡ record self.old { used = self.old.used + 1 }) }
-        ensures used { (result ≡ Err SignFault.Used) ↔ (self.old.used ≡ 2 ^ levels self.old.kind.height) }
+        ensures used { (result ≡ Err SignFault.Used)
+            ↔ (self.old.used ≡ 2 ^ levels self.old.kind.height) }
         ensures err { OnErr result (self.new ≡ self.old) }
         ensures public { public_of self.new ≡ public_of self.old }
     {

@@ -13,22 +13,36 @@ use std::collections::BTreeMap;
 use std::num::NonZeroUsize;
 
 /// A verdict on a signature: a key's public value, the signature's text, and whether it is valid.
-#[derive(Drop)]
 struct Verdict {
     public: Public,
     sig: String,
     valid: bool,
 }
 
+impl Drop for Verdict {
+    fn drop(self) {
+        let Verdict { public, sig, valid } = self;
+    }
+}
+
 /// A file's name and signed bytes, and verdicts by the signature's place and the key's public value. Each is
 /// the truth of what is kept with it. The name is for finding the file, and bears on no truth.
-#[derive(Drop)]
 struct Remembered {
     name: String,
     message: Vec<u8>,
     verdicts: BTreeMap<(usize, [u8; 56]), Verdict>,
     ghost truth: { All (λ v. v.valid ≡ is_signed_by v.public message.items (string_bytes v.sig))
         (values verdicts) },
+}
+
+impl Drop for Remembered {
+    fn drop(self) {
+        let Remembered {
+            name,
+            message,
+            verdicts,
+        } = self;
+    }
 }
 
 impl Remembered {
@@ -91,10 +105,15 @@ fn verdict_on(alloc: Global, public: &Public, sig: &str, valid: bool) -> Result<
 
 /// Verdicts on the signatures of the files that were used last, found by a digest of a file's name and signed bytes.
 /// Each is the truth, and none is used unless the signed bytes themselves are equal.
-#[derive(Drop)]
 pub struct Cache {
     alloc: Global,
     files: LruCache<[u8; 32], Remembered>,
+}
+
+impl Drop for Cache {
+    fn drop(self) {
+        let Cache { alloc, files } = self;
+    }
 }
 
 impl Cache {

@@ -9,11 +9,20 @@ use keys::{Ask, Judge};
 /// the other judge.
 ///
 /// A verdict that finds no memory isn't kept, and that's no refusal: only the other judge refuses.
-#[derive(Drop)]
 pub struct Kept<'a, J: Judge> {
     cache: &'a mut Cache,
     inner: &'a mut J,
     taken_over: u64,
+}
+
+impl<'a, J: Judge> Drop for Kept<'a, J> {
+    fn drop(self) {
+        let Kept {
+            cache,
+            inner,
+            taken_over,
+        } = self;
+    }
 }
 
 impl<'a, J: Judge> Kept<'a, J> {

@@ -15,9 +15,14 @@ use std::alloc::Global;
 use std::marker::Model;
 
 /// A pattern of paths.
-#[derive(Drop)]
 pub struct PathPattern {
     text: Text,
+}
+
+impl Drop for PathPattern {
+    fn drop(self) {
+        let PathPattern { text } = self;
+    }
 }
 
 impl Model for PathPattern {
@@ -56,9 +61,14 @@ fn is_pattern(text: &str) -> bool
 }
 
 /// The beginning of a path's digest.
-#[derive(Drop)]
 pub struct HashPrefix {
     text: Text,
+}
+
+impl Drop for HashPrefix {
+    fn drop(self) {
+        let HashPrefix { text } = self;
+    }
 }
 
 impl Model for HashPrefix {
@@ -145,7 +155,12 @@ impl Model for Delegation {
 
     ghost Value = { spec.Delegation };
 
-    ghost view = { λ a. record { name = a.name; keys = a.keys; terminating = a.terminating; matcher = matcher_of a.paths } };
+    ghost view = { λ a. record {
+      name = a.name;
+      keys = a.keys;
+      terminating = a.terminating;
+      matcher = matcher_of a.paths;
+    } };
 }
 
 impl Delegation {

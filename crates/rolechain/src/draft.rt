@@ -17,12 +17,22 @@ enum Held<'a, A: Reading> {
 }
 
 /// The trusted state while a cycle goes on. What stays is lent by the state before.
-#[derive(Drop)]
 pub(crate) struct Draft<'a> {
     root: Held<'a, Root>,
     timestamp: Option<Held<'a, Timestamp>>,
     snapshot: Option<Held<'a, Snapshot>>,
     targets: Option<Held<'a, Targets>>,
+}
+
+impl<'a> Drop for Draft<'a> {
+    fn drop(self) {
+        let Draft {
+            root,
+            timestamp,
+            snapshot,
+            targets,
+        } = self;
+    }
 }
 
 impl<'a> Model for Draft<'a> {
@@ -57,11 +67,17 @@ impl<'a> Draft<'a> {
     pub(crate) fn into_trusted(self, alloc: Global) -> Result<Trusted, NoMemory>
         ensures { IfOk result (λ t. t ≡ self.entry) }
     {
+        let Draft {
+            root,
+            timestamp,
+            snapshot,
+            targets,
+        } = self;
         Ok(Trusted::of(
-            owned(alloc, self.root)?,
-            owned_of(alloc, self.timestamp)?,
-            owned_of(alloc, self.snapshot)?,
-            owned_of(alloc, self.targets)?,
+            owned(alloc, root)?,
+            owned_of(alloc, timestamp)?,
+            owned_of(alloc, snapshot)?,
+            owned_of(alloc, targets)?,
         ))
     }
 
