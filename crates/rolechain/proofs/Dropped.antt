@@ -99,6 +99,7 @@ module _ (files : Files) (now : Moment) where
   rest-early s (Err a) d = λ e. d
 
   steps-early : (s : State) → DropsEarly s (steps files now s)
+  unfolding steps
   steps-early s = rest-early s (root_step files now s) (root_step-drops s (followed files now most_roots s) (followed-drops most_roots s))
 
   ended-early : (s : State) (o : Result State Advanced) → DropsEarly s o → is_early (ended o).end ≡ true → IsDropped files now s (ended o).state

@@ -107,6 +107,7 @@ module _ (files : Files) (now : Moment) where
       (λ t. keeps-next t.root (snapshot_step files now t) (targets_step files now) (snapshot_step-keeps t) targets_step-keeps)
 
   steps-longest : (s : State) → Longest most_roots s.root (steps files now s)
+  unfolding steps
   steps-longest s = longest-next most_roots s.root (root_step files now s) _
       (longest-next most_roots s.root (followed files now most_roots s) (unexpired files now) (followed-longest most_roots s) unexpired-keeps)
       later-keeps

@@ -85,6 +85,7 @@ module _ (files : Files) (now : Moment) where
   targets_step-gives s there = gives-checked is_ready s step.Targets (listed_targets files now s) _ (λ p. all_three (is_some s.timestamp) (is_some s.snapshot) there)
 
   steps-give : (s : State) → Gives is_ready (steps files now s)
+  unfolding steps
   steps-give s =
       gives-next any is_ready (root_step files now s) _ (root_step-gives s) (λ r e.
       gives-next has_timestamp is_ready (timestamp_step files now r) _ (timestamp_step-gives r) (λ t there.

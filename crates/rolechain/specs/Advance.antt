@@ -164,7 +164,7 @@ module _ (files : Files) (now : Moment) where
 
   -- ---- the whole
 
-  abbrev pub steps : State → Result State Advanced
+  unfoldable pub steps : State → Result State Advanced
   steps s = do
     s ← root_step s
     s ← timestamp_step s

@@ -62,6 +62,7 @@ fn end_of(answer: Result<(), Halt>) -> Result<End, NoMemory>
 }
 
 /// The steps of a cycle, in order.
+#[tactic(auto, unfolding(crate::specs::Advance::steps))]
 fn steps<J: Judge>(round: &Round, state: &mut Draft, judge: &mut J) -> Result<(), Halt>
     ensures { Leaves (spec.steps (file_in round.now.files.now) round.now.moment state.old)
         result state.new }
