@@ -24,7 +24,8 @@ pub fn canonical(alloc: Global, v: &Value) -> Result<Vec<u8>, Canon>
     ensures utf8 { IfOk result (λ bytes. IsUtf8 bytes.items) }
 
     // No other tree has this text.
-    ensures unique { IfOk result (λ bytes. (d : Data) → canon d ≡ Some bytes.items → d ≡ view v.now) }
+    ensures unique { IfOk result (λ bytes. (d : Data)
+        → canon d ≡ Some bytes.items → d ≡ view v.now) }
 {
     let mut out = Vec::new(alloc);
     write(v, &mut out)?;
@@ -73,7 +74,8 @@ fn write_items(items: &Vec<Value>, out: &mut Vec<u8>) -> Result<(), Canon>
 #[cycle(write)]
 fn write_members(members: &Map<String, Value>, out: &mut Vec<u8>) -> Result<(), Canon>
     ensures text { OnOk result
-        (out.new.items ≡ out.old.items ++ 123 ∷ members_text false (members_view members.now.entries)) }
+        (out.new.items
+        ≡ out.old.items ++ 123 ∷ members_text false (members_view members.now.entries)) }
     ensures utf8 { OnOk result (IsUtf8 out.old.items → IsUtf8 out.new.items) }
     ensures whole { OnOk result (members_are_whole (members_view members.now.entries) ≡ true) }
     ensures ordered { OnOk result (members_are_ordered (members_view members.now.entries) ≡ true) }
@@ -93,7 +95,8 @@ fn write_members(members: &Map<String, Value>, out: &mut Vec<u8>) -> Result<(), 
 
 /// What stands before a member's value.
 fn write_key(later: bool, key: &str, out: &mut Vec<u8>) -> Result<(), AllocError>
-    ensures { OnOk result (out.new.items ≡ out.old.items ++ (comma_if later ++ (quoted key.now ++ 58 ∷ []))) }
+    ensures { OnOk result
+        (out.new.items ≡ out.old.items ++ (comma_if later ++ (quoted key.now ++ 58 ∷ []))) }
 {
     write_comma(later, out)?;
     write_text(key, out)?;

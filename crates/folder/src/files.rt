@@ -47,8 +47,10 @@ pub trait Folder {
 
     /// The names of all files. A refusal as `Folder` is one of a call that failed.
     fn names(&mut self, alloc: Global) -> Result<Vec<String>, LoadFault>
-        ensures given { IfOk result (λ names. lists self.old (map string_bytes names.items) ≡ true) }
-        ensures failed { IfErr result (λ e. e ≡ fault.Folder → HasFailed (failures self.old) (failures self.new)) }
+        ensures given { IfOk result
+            (λ names. lists self.old (map string_bytes names.items) ≡ true) }
+        ensures failed { IfErr result
+            (λ e. e ≡ fault.Folder → HasFailed (failures self.old) (failures self.new)) }
         ensures counts { failures self.old ≤ failures self.new }
         ensures same_lists { lists self.new ≡ lists self.old }
         ensures same_bytes { holds self.new ≡ holds self.old };
@@ -56,7 +58,8 @@ pub trait Folder {
     /// The bytes of the file of that name. A refusal as `Folder` is one of a call that failed.
     fn read(&mut self, alloc: Global, name: &str) -> Result<Vec<u8>, LoadFault>
         ensures given { IfOk result (λ bytes. holds self.old name.now bytes.items ≡ true) }
-        ensures failed { IfErr result (λ e. e ≡ fault.Folder → HasFailed (failures self.old) (failures self.new)) }
+        ensures failed { IfErr result
+            (λ e. e ≡ fault.Folder → HasFailed (failures self.old) (failures self.new)) }
         ensures counts { failures self.old ≤ failures self.new }
         ensures same_lists { lists self.new ≡ lists self.old }
         ensures same_bytes { holds self.new ≡ holds self.old };
@@ -95,7 +98,8 @@ fn add_file<F: Folder>(
     name: String,
     files: &mut BTreeMap<String, Vec<u8>>,
 ) -> Result<(), LoadFault>
-    ensures added { OnOk result (AddsFile (F.holds folder.old) (string_bytes name) files.old files.new) }
+    ensures added { OnOk result
+        (AddsFile (F.holds folder.old) (string_bytes name) files.old files.new) }
     ensures failed { IfErr result (λ e. e ≡ fault.Folder
         → HasFailed (F.failures folder.old) (F.failures folder.new)) }
     ensures counts { F.failures folder.old ≤ F.failures folder.new }

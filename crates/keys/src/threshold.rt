@@ -70,7 +70,8 @@ fn has_entry<J: Judge>(
     judge: &mut J,
 ) -> Result<bool, NoMemory>
     requires { IsById entries.now.by_id (doc_of doc.now).entries }
-    ensures { IfOk result (λ b. b ≡ spec.has_entry (doc_of doc.now).text (doc_of doc.now).entries key.now) }
+    ensures { IfOk result
+        (λ b. b ≡ spec.has_entry (doc_of doc.now).text (doc_of doc.now).entries key.now) }
 {
     let Some(under) = entries.under(key.id()) else {
         return Ok(false);

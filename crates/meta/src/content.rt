@@ -25,7 +25,8 @@ impl Content {
     /// Whether the bytes of a file of that name are within the limit, and have the length and the
     /// digests that are listed: the first of these checks that fails (TUF 1.0 sections 5.3 to 5.7).
     pub fn check<J: Judge>(&self, file: &str, bytes: &[u8], judge: &mut J) -> Result<(), Stop>
-        ensures answer { Answers (spec.content self.now.limit self.now.length self.now.hashes bytes.now) result (λ x. x) }
+        ensures answer { Answers
+            (spec.content self.now.limit self.now.length self.now.hashes bytes.now) result (λ x. x) }
     {
         refuse_if(is_too_long(self.limit, bytes), Fault::TooLong)?;
         refuse_if(is_length_wrong(self.length, bytes), Fault::LengthWrong)?;

@@ -66,7 +66,8 @@ impl Listing {
         limit: Option<u64>,
         judge: &mut J,
     ) -> Result<(), Stop>
-        ensures answer { Answers (content limit self.now.length self.now.hashes bytes.now) result (λ x. x) }
+        ensures answer { Answers
+            (content limit self.now.length self.now.hashes bytes.now) result (λ x. x) }
     {
         let listed = Content {
             limit,

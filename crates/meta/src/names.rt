@@ -39,7 +39,8 @@ pub fn versioned(
 /// is what follows the last `/` of the path and `HASH` the digest in lower-case hexadecimal.
 #[tactic(auto, using(crate::proofs::Hashed::in_folder, crate::proofs::Hashed::no_folder))]
 pub fn hashed(alloc: Global, digest: &[u8], path: &str) -> Result<String, AllocError>
-    ensures name { IfOk result (λ s. string_bytes s ≡ spec.hashed (encode_lower digest.now) path.now) }
+    ensures name { IfOk result (λ s. string_bytes s
+        ≡ spec.hashed (encode_lower digest.now) path.now) }
 {
     let hash = hex::encode(alloc, digest)?;
     match path.rsplit_once('/') {

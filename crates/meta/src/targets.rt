@@ -90,7 +90,8 @@ impl Target {
         limit: Option<u64>,
         judge: &mut J,
     ) -> Result<(), Stop>
-        ensures answer { Answers (content limit (Some self.now.length) (Some self.now.hashes) bytes.now) result (λ x. x) }
+        ensures answer { Answers
+            (content limit (Some self.now.length) (Some self.now.hashes) bytes.now) result (λ x. x) }
     {
         let listed = Content {
             limit,
@@ -138,7 +139,11 @@ impl Model for Targets {
 
     ghost Value = { spec.Targets };
 
-    ghost view = { λ a. record { header = a.header; targets = a.targets; delegations = a.delegations } };
+    ghost view = { λ a. record {
+      header = a.header;
+      targets = a.targets;
+      delegations = a.delegations;
+    } };
 }
 
 impl Targets {

@@ -64,7 +64,8 @@ impl Memory {
 impl Folder for Memory {
     ghost lists = { λ s names. pointwise bytes_eq (map string_bytes s.names.items) names };
 
-    ghost holds = { λ s name bytes. option_map_or (λ v. bytes_eq v.items bytes) (get_by_text s.files name) false };
+    ghost holds = { λ s name bytes.
+        option_map_or (λ v. bytes_eq v.items bytes) (get_by_text s.files name) false };
 
     ghost failures = { λ s. s.faults };
 

@@ -25,7 +25,8 @@ use std::alloc::Global;
 pub fn signed_bytes(alloc: Global, file: &[u8]) -> Result<Doc, DocFault>
     ensures ok { IfOk result (λ doc. spec.document file.now ≡ Ok (doc_of doc)) }
     ensures err { IfErr result (λ e. e ≢ DocFault.NoMemory → spec.document file.now ≡ Err e) }
-    ensures float { result ≡ Err DocFault.Float → option_map has_whole_numbers (spec.signed_in file.now) ≡ Some false }
+    ensures float { result ≡ Err DocFault.Float
+        → option_map has_whole_numbers (spec.signed_in file.now) ≡ Some false }
 
     // The keys of a tree that is read ascend, whatever the file.
     ensures ordered { (tree : Data) → spec.tree_of file.now ≡ Some tree → is_ordered tree ≡ true }
