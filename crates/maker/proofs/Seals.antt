@@ -1,7 +1,7 @@
 -- Signed files: their text, and their entries one by one.
-use Rattle.std.proofs.Common.{◌≡◌, ℕ, zero, suc, ◌+◌, ◌<◌, ◌≤◌, ◌&&◌, ◌++◌, List, [], ◌∷◌, length, get_or, set, take, drop, map, fold, Bool, true, false, Some, None, slice_get, is_some, option_map, IsSome, Any, refl, sym, ap, ap₂, ◌∙◌, arith, true≢false, if◌then◌else◌}
+use Rattle.std.proofs.Common.{◌≡◌, ℕ, zero, suc, ◌+◌, ◌<◌, ◌≤◌, ◌&&◌, ◌++◌, List, [], ◌∷◌, length, get_or, set, take, drop, map, fold, Bool, true, false, ◌⊎◌, inl, inr, Result, Ok, Err, OnErr, Some, None, slice_get, is_some, option_map, IsSome, Any, refl, sym, ap, ap₂, ◌∙◌, arith, true≢false, if◌then◌else◌}
 use Rattle.std.specs.List.{AllZip}
-use Rattle.std.proofs.Math.Seq.{map-set_same}
+use Rattle.std.proofs.Math.Seq.{map-set_same, take-length}
 use Rattle.std.proofs.lemmas.List.{take_more, take-append-drop, length-map, map-set, get_or-map, get_or-set_same, get_or_default}
 use Rattle.std.proofs.lemmas.List.Sums.{fold-append}
 use Rattle.std.proofs.lemmas.Option.{slice_get-get_or, slice_get-map}
@@ -12,7 +12,7 @@ use Rattle.cjson.specs.Canon.{canon, has_whole_numbers, items_are_whole, is_orde
 use Rattle.cjson.specs.Entry.{Entry}
 use Rattle.cjson.proofs.OnLiterals.{cjson_on_literals}
 use Rattle.maker.specs.declared.signer.Signer.{Signer}
-use Rattle.maker.specs.Sealed.{Holder, IsSignedAt, IsSignedBy, IsOverspent, entry_object, entry_objects, holder, sealed, spend, used_of}
+use Rattle.maker.specs.Sealed.{Holder, HasSpent, IsSignedAt, IsSignedBy, IsOverspent, entry_object, entry_objects, holder, sealed, spend, used_of}
 
 -- ---- the file has a text
 
@@ -150,3 +150,27 @@ overspent_at first ss by i d within there spent kept leaves =
     let room : p < length (map used_of ss) = omega (arith, length-map ss used_of) in
     let less = asked_again by (map used_of first) i _ within (rw leaves at room) (rw leaves at count) in
     (i, p, within, get_or_default by i p 0 within, (holder (get_or ss p d), holder_at first ss p d there kept, less))
+
+-- ---- after a refusal
+
+on_err : {A E : Type 0} (r : Result A E) (P : Type 0) → P → OnErr r P
+on_err (Ok x) P p = tt
+on_err (Err e) P p = p
+
+-- some first places took their leaves
+pub spent_first : {A E : Type 0} (r : Result A E) (by old new : List ℕ) (n : ℕ) → new ≡ fold spend old (take n by) → OnErr r (HasSpent by old new)
+spent_first r by old new n is = on_err r (HasSpent by old new) (n, is)
+
+-- all places did
+pub spent_all : {A E : Type 0} (r : Result A E) (by old new : List ℕ) → new ≡ fold spend old by → OnErr r (HasSpent by old new)
+spent_all r by old new is = spent_first r by old new (length by) (is ∙ ap (fold spend old) (sym (take-length by)))
+
+-- the place at which it was refused took its leaf, or didn't
+pub spent_or_not : {A E : Type 0} (r : Result A E) (first ss : List Signer) (by : List ℕ) (i : ℕ) (d t : Signer) → i < length by → get_or by i 0 < length ss
+    → (used_of t ≡ used_of (get_or ss (get_or by i 0) d)) ⊎ (used_of t ≡ used_of (get_or ss (get_or by i 0) d) + 1)
+    → map used_of ss ≡ fold spend (map used_of first) (take i by)
+    → OnErr r (HasSpent by (map used_of first) (map used_of (set ss (get_or by i 0) t)))
+spent_or_not r first ss by i d t within there (inl none) so_far =
+    spent_first r by _ _ i (map-set_same used_of ss (get_or by i 0) t d none ∙ so_far)
+spent_or_not r first ss by i d t within there (inr one) so_far =
+    spent_first r by _ _ (i + 1) (leaves_more first ss by i d t within there one so_far)

@@ -1,5 +1,5 @@
 -- A signed metadata file (TUF 1.0 section 4.2).
-use Rattle.std.specs.Prelude.{◌≡◌, ℕ, ◌+◌, ◌^◌, ◌<◌, List, [], ◌∷◌, codes, fold, map, Some, string_bytes, IsTrue, slice_get, slice_index, slice_set}
+use Rattle.std.specs.Prelude.{◌≡◌, ℕ, ◌+◌, ◌^◌, ◌<◌, List, [], ◌∷◌, codes, fold, map, take, Some, string_bytes, IsTrue, slice_get, slice_index, slice_set}
 use Rattle.std.specs.List.{AllZip}
 use Rattle.serde_json.specs.Data.{Data, string, array, object, Items, no_items, item, no_members, member}
 use Rattle.hex.specs.Hex.{encode_lower}
@@ -42,6 +42,10 @@ used_of s = s.secret.used
 -- of these counts, after one more signature at place p
 abbrev pub spend : List ℕ → ℕ → List ℕ
 spend counts p = slice_set counts p (slice_index counts p + 1)
+
+-- the first places have taken a leaf each, up to some place
+abbrev pub HasSpent : List ℕ → List ℕ → List ℕ → Type 0
+HasSpent by old new = (n : ℕ) × (new ≡ fold spend old (take n by))
 
 -- the places together ask the signer at place p for more leaves than it has
 abbrev pub IsOverspent : List Signer → List ℕ → ℕ → Type 0

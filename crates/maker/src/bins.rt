@@ -2,12 +2,17 @@
 
 use std::alloc::{AllocError, Global};
 
-/// Bins that a `succinct` line has made: so many bits of a digest tell one, and their names begin with
-/// the prefix.
-#[derive(Drop)]
+/// Bins that a `succinct` line has made: so many bits of a digest tell one, and their names begin
+/// with the prefix.
 pub struct Bins {
     bits: u32,
     prefix: String,
+}
+
+impl Drop for Bins {
+    fn drop(self) {
+        let Bins { bits, prefix } = self;
+    }
 }
 
 impl Bins {

@@ -1,3 +1,5 @@
+//! Why a script or a seal is refused.
+
 ghost use Rattle.std.specs.Prelude.{◌≡◌};
 ghost use Rattle.maker.specs.Faults.{fault_of};
 ghost use Rattle.maker.specs.declared.fault.MakeFault.TheVariants as fault;

@@ -1,3 +1,5 @@
+//! Why a line of a script is refused.
+
 ghost use Rattle.std.specs.Prelude.{◌≢◌};
 
 use crate::fault::MakeFault;

@@ -8,7 +8,7 @@ use crate::objects::{
 };
 use crate::refusal::Refusal;
 use crate::ring::{ids_of, new_signer, place_of, places_of, put_keys};
-use crate::sealing::seal;
+use crate::sealing::seal_text;
 use crate::signer::Signer;
 use cjson::canonical;
 use lms::{Height, Width};
@@ -368,9 +368,8 @@ impl Repository {
     fn sealed(&mut self, members: Map<String, Value>, keys: &[u8]) -> Result<Vec<u8>, Refusal> {
         let by = places_of(self.alloc, &self.signers, keys)?;
         let signed = Value::from(members);
-        // `seal` asks for a value that has a canonical text.
-        let _text = canonical(self.alloc, &signed)?;
-        Ok(seal(self.alloc, &signed, &mut self.signers, &by)?)
+        let text = canonical(self.alloc, &signed)?;
+        Ok(seal_text(self.alloc, &signed, &text, &mut self.signers, &by)?)
     }
 
     fn put_metadata(&mut self, name: &str, bytes: Vec<u8>) -> Result<(), Refusal> {

@@ -1,10 +1,12 @@
-ghost use Rattle.std.specs.Prelude.{◌≡◌, ◌≢◌, ◌+◌, ◌<◌, ℕ, List, Some, IsSome, IfOk, OnOk, OnErr, All, Any, fold, length, map, string_bytes};
+//! Signed metadata files.
+
+ghost use Rattle.std.specs.Prelude.{◌≡◌, ◌≢◌, ◌+◌, ◌<◌, ◌⊎◌, ℕ, List, Some, IsSome, IfOk, OnOk, OnErr, All, Any, fold, length, map, string_bytes};
 ghost use Rattle.std.specs.List.{AllZip};
 ghost use Rattle.serde_json.specs.Find.{as_object};
 ghost use Rattle.serde_json.specs.View.{view, items_view};
 ghost use Rattle.cjson.specs.Canon.{canon};
 ghost use Rattle.cjson.specs.Entry.{Entry};
-ghost use Rattle.maker.specs.Sealed.{IsOverspent, IsSealed, IsSignedAt, IsSignedBy, entry_object, entry_objects, holder, sealed, spend, used_of};
+ghost use Rattle.maker.specs.Sealed.{HasSpent, IsOverspent, IsSealed, IsSignedAt, IsSignedBy, entry_object, entry_objects, holder, sealed, spend, used_of};
 
 use crate::fault::MakeFault;
 use crate::signer::Signer;
@@ -17,7 +19,8 @@ use std::alloc::{AllocError, Global};
 /// canonical text itself.
 ///
 /// Each place takes one leaf. `Used` is answered where a signer has fewer leaves left than there
-/// are places that name it. After a refusal leaves may be gone, and nothing else has changed.
+/// are places that name it. After a refusal each of some first places has taken its leaf, and
+/// nothing else has changed.
 pub fn seal(
     alloc: Global,
     value: &Value,
@@ -32,6 +35,8 @@ pub fn seal(
     ensures kept { map holder signers.new ≡ map holder signers.old }
     ensures leaves { OnOk result (map used_of signers.new
         ≡ fold spend (map used_of signers.old) by.now) }
+    ensures spent { OnErr result (HasSpent by.now (map used_of signers.old)
+        (map used_of signers.new)) }
 
     // Some signer has fewer leaves left than it was asked for.
     ensures used { result ≡ Err MakeFault.Used
@@ -39,7 +44,32 @@ pub fn seal(
     ensures no_script { (line : ℕ) → result ≢ Err (MakeFault.Script line) }
 {
     let text = text_of(alloc, value)?;
-    let entries = entries(alloc, signers, by, &text)?;
+    seal_text(alloc, value, &text, signers, by)
+}
+
+/// The same, of a value whose canonical text is known.
+pub(crate) fn seal_text(
+    alloc: Global,
+    value: &Value,
+    text: &[u8],
+    signers: &mut [Signer],
+    by: &[usize],
+) -> Result<Vec<u8>, MakeFault>
+    requires places { All (λ p. p < length signers.old) by.now }
+    requires object { IsSome (as_object (view value.now)) }
+    requires text { canon (view value.now) ≡ Some text.now }
+    ensures file { IfOk result (λ file. IsSealed (view value.now) (map holder signers.old) by.now
+        file.items) }
+    ensures kept { map holder signers.new ≡ map holder signers.old }
+    ensures leaves { OnOk result (map used_of signers.new
+        ≡ fold spend (map used_of signers.old) by.now) }
+    ensures spent { OnErr result (HasSpent by.now (map used_of signers.old)
+        (map used_of signers.new)) }
+    ensures used { result ≡ Err MakeFault.Used
+        → Any (IsOverspent signers.old by.now) by.now }
+    ensures no_script { (line : ℕ) → result ≢ Err (MakeFault.Script line) }
+{
+    let entries = entries(alloc, signers, by, text)?;
     let file = file_of(alloc, value, entries)?;
     text_of(alloc, &file)
 }
@@ -63,6 +93,8 @@ fn entry(alloc: Global, signer: &mut Signer, text: &[u8]) -> Result<Value, MakeF
         × IsSignedBy (holder signer.old) text.now e) }
     ensures kept { holder signer.new ≡ holder signer.old }
     ensures leaf { OnOk result (used_of signer.new ≡ used_of signer.old + 1) }
+    ensures spent { OnErr result ((used_of signer.new ≡ used_of signer.old)
+        ⊎ (used_of signer.new ≡ used_of signer.old + 1)) }
     ensures used { result ≡ Err MakeFault.Used
         → used_of signer.old ≡ (holder signer.old).leaves }
     ensures no_script { (line : ℕ) → result ≢ Err (MakeFault.Script line) }
@@ -73,7 +105,8 @@ fn entry(alloc: Global, signer: &mut Signer, text: &[u8]) -> Result<Value, MakeF
 }
 
 fn entry_of(alloc: Global, id: &str, sig: String) -> Result<Value, AllocError>
-    ensures { IfOk result (λ v. view v ≡ entry_object (record { keyid = id.now; sig = string_bytes sig })) }
+    ensures { IfOk result
+        (λ v. view v ≡ entry_object (record { keyid = id.now; sig = string_bytes sig })) }
 {
     json!(in alloc; { "keyid": id, "sig": sig })
 }
@@ -94,11 +127,14 @@ fn entries(
     text: &[u8],
 ) -> Result<Vec<Value>, MakeFault>
     requires { All (λ p. p < length signers.old) by.now }
-    ensures entries { IfOk result (λ vs. (es : List Entry) × (items_view vs.items ≡ entry_objects es)
+    ensures entries { IfOk result (λ vs. (es : List Entry)
+        × (items_view vs.items ≡ entry_objects es)
         × AllZip (IsSignedAt (map holder signers.old) text.now) by.now es) }
     ensures kept { map holder signers.new ≡ map holder signers.old }
     ensures leaves { OnOk result (map used_of signers.new
         ≡ fold spend (map used_of signers.old) by.now) }
+    ensures spent { OnErr result (HasSpent by.now (map used_of signers.old)
+        (map used_of signers.new)) }
     ensures used { result ≡ Err MakeFault.Used
         → Any (IsOverspent signers.old by.now) by.now }
     ensures no_script { (line : ℕ) → result ≢ Err (MakeFault.Script line) }

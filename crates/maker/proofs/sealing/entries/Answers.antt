@@ -1,6 +1,6 @@
-use Rattle.std.proofs.Common.{◌<◌, length, map, slice_index_or, Err, sym, ap, arith}
+use Rattle.std.proofs.Common.{◌<◌, length, map, slice_index_or, Err, inr, sym, ap, arith}
 use Rattle.maker.specs.Sealed.{holder}
-use Rattle.maker.proofs.Seals.{holders_kept, overspent_at, holder_at, entries_more, leaves_more}
+use Rattle.maker.proofs.Seals.{holders_kept, overspent_at, holder_at, entries_more, leaves_more, spent_or_not}
 use Rattle.maker.proofs.sealing.entries.Goals as goal
 
 pub returns-in_err-entry-clause-kept : goal.returns-in_err-entry-clause-kept
@@ -21,6 +21,20 @@ returns-in_err-entry-clause-used c = λ is.
     overspent_at c.args.signers.now c.loop-place.signers c.args.by.now c.loop-place.place-index c.index-signers-place.result
     c.loop-place-test.true there (c.in_err-entry.ensures.used (ap Err (sym same))) c.loop-place.invariant.kept
     c.loop-place.invariant.leaves
+
+pub returns-in_err-entry-clause-spent : goal.returns-in_err-entry-clause-spent
+returns-in_err-entry-clause-spent c =
+    let within = c.requires c.loop-place.place-index 0 c.loop-place-test.true in
+    let there : slice_index_or c.args.by.now c.loop-place.place-index 0 < length c.loop-place.signers = omega arith in
+    spent_or_not _ c.args.signers.now c.loop-place.signers c.args.by.now c.loop-place.place-index c.index-signers-place.result
+    c.entry.new.signer c.loop-place-test.true there c.in_err-entry.ensures.spent c.loop-place.invariant.leaves
+
+pub returns-in_err-push-clause-spent : goal.returns-in_err-push-clause-spent
+returns-in_err-push-clause-spent c =
+    let within = c.requires c.loop-place.place-index 0 c.loop-place-test.true in
+    let there : slice_index_or c.args.by.now c.loop-place.place-index 0 < length c.loop-place.signers = omega arith in
+    spent_or_not _ c.args.signers.now c.loop-place.signers c.args.by.now c.loop-place.place-index c.index-signers-place.result
+    c.entry.new.signer c.loop-place-test.true there (inr c.in_ok-entry.ensures.leaf) c.loop-place.invariant.leaves
 
 pub loop-place-preserved : goal.loop-place-preserved
 loop-place-preserved c =
