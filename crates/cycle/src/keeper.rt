@@ -1,3 +1,5 @@
+//! Cycle after cycle, with verdicts that are kept between them.
+
 ghost use Rattle.std.specs.Prelude.{◌≡◌, ◌≤◌, ℕ, IfOk, OnOk, OnErr, length, map, string_bytes, take};
 ghost use Rattle.examine.specs.Expecting.{file_in};
 ghost use Rattle.cycle.specs.Workflow as spec;
@@ -47,8 +49,8 @@ impl Model for Keeper {
 }
 
 impl Keeper {
-    /// A keeper of this state that remembers nothing yet, and later the verdicts on the signatures of
-    /// so many files, 1 to 4,096. It refuses for want of memory alone.
+    /// A keeper of this state that remembers nothing yet, and later the verdicts on the signatures
+    /// of so many files, 1 to 4,096. It refuses for want of memory alone.
     pub fn new(alloc: Global, trusted: Trusted, capacity: usize) -> Result<Keeper, NoMemory>
         requires least { 1 ≤ capacity }
         requires most { capacity ≤ 4096 }
@@ -136,7 +138,8 @@ impl Keeper {
     }
 }
 
-/// Takes the outcome's state over, and gives the outcome back. After a refusal the state is as before.
+/// Takes the outcome's state over, and gives the outcome back. After a refusal the state is as
+/// before.
 fn follow(alloc: Global, trusted: &mut Trusted, outcome: Outcome) -> Result<Outcome, NoMemory>
     ensures outcome { IfOk result (λ o. o ≡ outcome) }
     ensures state { OnOk result (trusted.new ≡ outcome.trusted) }

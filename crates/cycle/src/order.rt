@@ -1,3 +1,5 @@
+//! The workflow, done in order by whatever judge.
+
 ghost use Rattle.std.specs.Prelude.{◌≡◌, IfOk, map, string_bytes, true};
 ghost use Rattle.examine.specs.Expecting.{file_in};
 ghost use Rattle.rolechain.specs.State.{is_ready};

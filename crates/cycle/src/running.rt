@@ -1,6 +1,9 @@
+//! One cycle, on one thread or beside workers.
+
 ghost use Rattle.std.specs.Prelude.{◌≡◌, ◌≤◌, IfOk, map, string_bytes};
 ghost use Rattle.examine.specs.Expecting.{file_in};
 ghost use Rattle.cycle.specs.Workflow as spec;
+ghost use Rattle.cycle.specs.Gathered.{AreGathered, all_accepted};
 
 use crate::limits::Limits;
 use crate::order::Cycle;
@@ -28,6 +31,8 @@ pub fn run_alone(
 ) -> Result<Outcome, NoMemory>
     ensures workflow { IfOk result (λ o. o ≡ spec.workflow (file_in repo.now.metadata)
         (file_in repo.now.targets) now trusted.now (map string_bytes wanted.now) limits.now.roles) }
+    ensures roles { IfOk result (λ o. AreGathered (all_accepted (file_in repo.now.metadata) now
+        trusted.now (map string_bytes wanted.now) limits.now.roles) o.accepted) }
 {
     let cycle = Cycle {
         alloc,
@@ -40,13 +45,14 @@ pub fn run_alone(
     alone(&cycle, &mut Nothing)
 }
 
-/// The same cycle, where up to 64 workers decide ahead, in threads of their own, what is likely to be
-/// asked. Whatever they do, the outcome is that of [`run_alone`]; only the counts of
+/// The same cycle, where up to 64 workers decide ahead, in threads of their own, what is likely to
+/// be asked. Whatever they do, the outcome is that of [`run_alone`]; only the counts of
 /// [`Outcome::stats`] depend on them. The gate is told how the run gets on.
 ///
-/// A worker that can't be started is done without, and so are all where there is no memory for a plan
-/// or a board. It refuses for want of memory alone, and then only where the work in order found none.
-/// It waits for its workers before it answers, and they stop once the work in order is done.
+/// A worker that can't be started is done without, and so are all where there is no memory for a
+/// plan or a board. It refuses for want of memory alone, and then only where the work in order
+/// found none. It waits for its workers before it answers, and they stop once the work in order is
+/// done.
 pub fn run<R: Threads + Wait + Sync, G: Gate + Sync>(
     rt: &R,
     alloc: Global,
@@ -61,6 +67,8 @@ pub fn run<R: Threads + Wait + Sync, G: Gate + Sync>(
     requires workers { workers ≤ 64 }
     ensures workflow { IfOk result (λ o. o ≡ spec.workflow (file_in repo.now.metadata)
         (file_in repo.now.targets) now trusted.now (map string_bytes wanted.now) limits.now.roles) }
+    ensures roles { IfOk result (λ o. AreGathered (all_accepted (file_in repo.now.metadata) now
+        trusted.now (map string_bytes wanted.now) limits.now.roles) o.accepted) }
 {
     let cycle = Cycle {
         alloc,

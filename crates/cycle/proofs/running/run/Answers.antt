@@ -1,0 +1,9 @@
+use Rattle.std.proofs.Common.{map, string_bytes}
+use Rattle.examine.specs.Expecting.{file_in}
+use Rattle.cycle.proofs.Gathered.{roles_of}
+use Rattle.cycle.proofs.running.run.Goals as goal
+
+pub returns-clause-roles : goal.returns-clause-roles
+returns-clause-roles g c =
+    roles_of (file_in c.args.repo.now.metadata) (file_in c.args.repo.now.targets) c.args.now c.args.trusted.now (map string_bytes c.args.wanted.now) c.args.limits.now.roles _
+    c.beside_workers.ensures
