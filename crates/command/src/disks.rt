@@ -2,8 +2,8 @@
 ghost use Rattle.std.specs.Prelude.{◌≤◌, IfOk};
 
 use crate::words::{Replay, Verify};
+use failure::Failure;
 use folder::{Depth, Disk, joined};
-use report::Failure;
 use std::alloc::{AllocError, Global};
 use std::io::Write;
 use std::rt::{Clock, Files};

@@ -1,6 +1,6 @@
 //! What given words ask for.
 ghost use Rattle.std.specs.Prelude.{◌≡◌, ◌≤◌, ◌⊎◌, ◌↔◌, true, IfErr, IfOk};
-ghost use Rattle.report.specs.Failures.{is_callers};
+ghost use Rattle.failure.specs.Failures.{is_callers};
 
 use crate::disks::{replay_on_disk, verify_on_disk};
 use crate::making::make;
@@ -8,7 +8,8 @@ use crate::sample;
 use crate::words::{self, Task};
 use clap::ArgMatches;
 use clap::error::ErrorKind;
-use report::{Failure, put, tell_failure};
+use failure::{Failure, tell_failure};
+use report::put;
 use std::alloc::Global;
 use std::io::Write;
 use std::rt::{Clock, Files};
@@ -18,10 +19,10 @@ use system::Machine;
 use update::{init, read_file};
 
 /// Does what the words after the program's name ask for, or without a word verifies the sample
-/// repository, and answers the exit status: 0 where all wanted targets are good,
-/// 1 where one is refused, 2 where the update stopped or the root was refused, 3 for a mistake of the caller and 4 for
-/// a refusal of the system. The lines go to `out`, and what is said of a mistake or a refusal goes to `err`. Files and
-/// clock are those of `rt`, and what checks ahead is started by `threads`.
+/// repository, and answers the exit status: 0 where all wanted targets are good, 1 where one is
+/// refused, 2 where the update stopped or the root was refused, 3 for a mistake of the caller and 4
+/// for a refusal of the system. The lines go to `out`, and what is said of a mistake or a refusal
+/// goes to `err`. Files and clock are those of `rt`, and what checks ahead is started by `threads`.
 pub fn perform<
     R: Files + Clock + AllocGlobal + Clone + Drop,
     T: Threads + Wait + Sync,
@@ -94,7 +95,8 @@ pub(crate) fn status_of<E: Write>(done: Result<u8, Failure>, err: &mut E) -> u8
     }
 }
 
-/// Prints what `clap` says of the words: help to `out` with status 0, a mistake to `err` with status 3.
+/// Prints what `clap` says of the words: help to `out` with status 0, a mistake to `err` with
+/// status 3.
 fn refuse_words<W: Write, E: Write>(
     alloc: Global,
     error: &clap::Error,

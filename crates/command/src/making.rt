@@ -1,8 +1,8 @@
 //! Repositories that a script makes.
 ghost use Rattle.std.specs.Prelude.{◌≡◌, IfOk};
 
+use failure::{Failure, of_io};
 use folder::joined;
-use report::{Failure, of_io};
 use std::alloc::Global;
 use std::fs;
 use std::rt::Files;

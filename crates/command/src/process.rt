@@ -2,7 +2,7 @@
 ghost use Rattle.std.specs.Prelude.{◌≤◌};
 
 use crate::dispatch::{perform, status_of};
-use report::{Failure, of_io};
+use failure::{Failure, of_io};
 use std::alloc::Global;
 use std::env;
 use std::io::Write;
@@ -10,7 +10,8 @@ use std::rt::{Clock, Env, Files};
 use std::sync::Wait;
 use std::thread::Threads;
 
-/// Does what the words after the program's name ask for, and answers the exit status, as [`perform`] does.
+/// Does what the words after the program's name ask for, and answers the exit status, as
+/// [`perform`] does.
 pub fn run<
     R: Env + Files + Clock + Threads + Wait + AllocGlobal + Sync + Clone + Drop,
     W: Write,

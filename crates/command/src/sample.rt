@@ -3,7 +3,7 @@ ghost use Rattle.std.specs.Prelude.{◌≤◌, ℕ, List, IfOk, map, string_byte
 ghost use Rattle.command.specs.Sampled.{IsSampled};
 
 use cycle::{Limits, Moment, Repo, Trusted, run_alone};
-use report::Failure;
+use failure::Failure;
 use std::alloc::Global;
 use std::collections::BTreeMap;
 use std::io::Write;

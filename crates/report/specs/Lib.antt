@@ -1,4 +1,3 @@
-pub mod Failures
 pub mod Lines
 pub mod Quote
 pub mod Status

@@ -11,13 +11,8 @@ use Rattle.deleg.specs.Accepted.{Accepted}
 use Rattle.cycle.specs.Workflow.{Outcome}
 use Rattle.cycle.specs.declared.verdict.Verdict.{Verdict}
 use Rattle.cycle.specs.declared.verdict.Verdict.TheVariants.{Good, NotFound, LimitReached, RoleRefused, FileRefused, NotSearched}
+use Rattle.failure.specs.Line.{line}
 use Rattle.report.specs.Quote.{quoted_text}
-
--- the words with a space between them, and a line feed at the end
-abbrev pub line : List (List ℕ) → List ℕ
-line [] = 10 ∷ []
-line (word ∷ []) = word ++ 10 ∷ []
-line (word ∷ next ∷ more) = word ++ 32 ∷ line (next ∷ more)
 
 -- ---- words
 

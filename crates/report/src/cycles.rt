@@ -4,14 +4,14 @@ ghost use Rattle.std.specs.Io.KnownBytes.{Appends};
 ghost use Rattle.report.specs.Lines.{cycle_text, cycles_text};
 ghost use Rattle.report.specs.Status as spec;
 
-use crate::failure::Failure;
 use crate::lines::{push_outcome, put, status_of};
 use cycle::Outcome;
+use failure::Failure;
 use std::alloc::{AllocError, Global};
 use std::io::Write;
 
-/// Prints for each outcome, in order, the line `cycle K`, counted from 1, and then its lines, as [`tell`](crate::tell)
-/// does. It answers the status of the last one, and 0 where there is none.
+/// Prints for each outcome, in order, the line `cycle K`, counted from 1, and then its lines, as
+/// [`tell`](crate::tell) does. It answers the status of the last one, and 0 where there is none.
 pub fn tell_cycles<W: Write>(
     alloc: Global,
     outcomes: &[Outcome],

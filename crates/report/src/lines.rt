@@ -1,20 +1,21 @@
 //! The lines that a run prints, and its exit status.
 ghost use Rattle.std.specs.Prelude.{◌≡◌, ◌≤◌, ◌⊎◌, ◌↔◌, [], ◌∷◌, ◌++◌, true, All, IfErr, IfOk, OnOk, codes, decimal, flat_map, map, string_bytes};
 ghost use Rattle.std.specs.Io.KnownBytes.{Appends};
+ghost use Rattle.failure.specs.Line as words;
 ghost use Rattle.report.specs.Lines as spec;
 ghost use Rattle.report.specs.Quote.{quoted_text};
 ghost use Rattle.std.specs.List.{list_all};
 ghost use Rattle.report.specs.Status.{is_good, outcome_status, status_of};
 
-use crate::failure::{Failure, of_io};
 use crate::quote::quoted;
 use cycle::{Accepted, End, Fault, Outcome, Step, Verdict};
+use failure::{Failure, of_io};
 use std::alloc::{AllocError, Global};
 use std::io::Write;
 
-/// Prints all lines of an outcome and answers the exit status: 2 where the update stopped, else 1 where some target
-/// isn't good, else 0. A writer whose bytes are known was then given the lines and nothing else; what a stream of the
-/// system was given, no contract knows.
+/// Prints all lines of an outcome and answers the exit status: 2 where the update stopped, else 1
+/// where some target isn't good, else 0. A writer whose bytes are known was then given the lines
+/// and nothing else; what a stream of the system was given, no contract knows.
 pub fn tell<W: Write>(
     alloc: Global,
     outcome: &Outcome,
@@ -60,7 +61,8 @@ fn accepts(verdict: &Verdict) -> bool
     matches!(verdict, Verdict::Good { .. })
 }
 
-/// Adds all lines of an outcome: the root, the end, the accepted roles, and each wanted path in order.
+/// Adds all lines of an outcome: the root, the end, the accepted roles, and each wanted path in
+/// order.
 pub(crate) fn push_outcome(
     alloc: Global,
     text: &mut String,
@@ -96,7 +98,7 @@ pub fn push_end(text: &mut String, end: End) -> Result<(), AllocError>
 
 fn push_stop(text: &mut String, step: &str, fault: &str) -> Result<(), AllocError>
     ensures line { OnOk result (string_bytes text.new
-        ≡ string_bytes text.old ++ spec.line (codes "end" ∷ step.now ∷ fault.now ∷ [])) }
+        ≡ string_bytes text.old ++ words.line (codes "end" ∷ step.now ∷ fault.now ∷ [])) }
 {
     writeln!(text, "end {step} {fault}")
 }
@@ -166,7 +168,7 @@ fn push_good(
     role: &str,
 ) -> Result<(), AllocError>
     ensures line { OnOk result (string_bytes text.new ≡ string_bytes text.old
-        ++ spec.line (codes "ok" ∷ quoted_text path.now ∷ decimal length
+        ++ words.line (codes "ok" ∷ quoted_text path.now ∷ decimal length
         ∷ quoted_text role.now ∷ [])) }
 {
     let path = quoted(alloc, path)?;
@@ -177,7 +179,7 @@ fn push_good(
 /// Adds the line `no PATH WHY`.
 fn push_no(alloc: Global, text: &mut String, path: &str, why: &str) -> Result<(), AllocError>
     ensures line { OnOk result (string_bytes text.new ≡ string_bytes text.old
-        ++ spec.line (codes "no" ∷ quoted_text path.now ∷ why.now ∷ [])) }
+        ++ words.line (codes "no" ∷ quoted_text path.now ∷ why.now ∷ [])) }
 {
     let path = quoted(alloc, path)?;
     writeln!(text, "no {path} {why}")
@@ -192,7 +194,7 @@ fn push_refused(
     role: &str,
 ) -> Result<(), AllocError>
     ensures line { OnOk result (string_bytes text.new ≡ string_bytes text.old
-        ++ spec.line (codes "no" ∷ quoted_text path.now ∷ spec.fault_word fault
+        ++ words.line (codes "no" ∷ quoted_text path.now ∷ spec.fault_word fault
         ∷ quoted_text role.now ∷ [])) }
 {
     let path = quoted(alloc, path)?;
@@ -230,7 +232,8 @@ fn fault_name(fault: Fault) -> &'static str
     }
 }
 
-/// Writes the text, to its end. A writer whose bytes are known was then given the text and nothing else.
+/// Writes the text, to its end. A writer whose bytes are known was then given the text and nothing
+/// else.
 pub fn put<W: Write>(out: &mut W, text: &str) -> Result<(), Failure>
     ensures written { OnOk result (Appends (W.contents out.old) (W.contents out.new) text.now) }
     ensures refused { IfErr result (λ f. (f ≡ Failure.Memory) ⊎ (f ≡ Failure.Output)) }

@@ -5,7 +5,8 @@ ghost use Rattle.report.specs.Quote.{quoted_byte, quoted_text};
 
 use std::alloc::{AllocError, Global};
 
-/// The name in double quotes: each byte outside 0x20 to 0x7e, each `"` and each `\` stands as `\x` and two lower-case hexadecimal digits.
+/// The name in double quotes: each byte outside 0x20 to 0x7e, each `"` and each `\` stands as `\x`
+/// and two lower-case hexadecimal digits.
 pub(crate) fn quoted(alloc: Global, name: &str) -> Result<String, AllocError>
     ensures text { IfOk result (λ text. string_bytes text ≡ quoted_text name.now) }
 {

@@ -15,7 +15,8 @@ pub struct Asked {
 }
 
 impl Asked {
-    /// What the words behind the repository's name ask: the workers, the most questions and the gate.
+    /// What the words behind the repository's name ask: the workers, the most questions and the
+    /// gate.
     pub fn of_step(step: &Step) -> Result<Asked> {
         let workers = step.word(1)?.parse::<usize>()?;
         ensure!(workers <= 64, "too many workers");

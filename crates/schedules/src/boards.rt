@@ -30,8 +30,8 @@ pub fn given<R: Threads + Wait + Sync>(
     Ok(Some(text))
 }
 
-/// What the second of two seats finds at one true check: before the first one's verdict, after it, and
-/// after its stop.
+/// What the second of two seats finds at one true check: before the first one's verdict, after it,
+/// and after its stop.
 fn two_seats(alloc: Global) -> Result<String> {
     let mut truths = Vec::new(alloc);
     truths.push(String::from_str(alloc, "valid")?)?;
@@ -225,7 +225,8 @@ fn both_work<R: Threads>(
     board.join(one, other)
 }
 
-/// How many verdicts the seat gave, what stands at each check, and how many checks can still be won.
+/// How many verdicts the seat gave, what stands at each check, and how many checks can still be
+/// won.
 fn told(alloc: Global, board: &Board, checks: &Given, mut seat: Seat) -> Result<String>
     requires free { IsFree board.now seat }
     requires truths { board.now.truths ≡ checks.now.truths.items }

@@ -18,8 +18,8 @@ pub enum Rule {
     Open,
     /// The work in order begins once so many checks have left.
     AllLeft(u64),
-    /// A check that has entered is decided once the work in order is done, which begins once so many
-    /// have entered.
+    /// A check that has entered is decided once the work in order is done, which begins once so
+    /// many have entered.
     HeldToEnd(u64),
     /// The work in order begins, and a check that has entered is decided, once two have entered.
     TwoEntered,

@@ -56,8 +56,8 @@ pub fn all_read<R: Files + AllocGlobal + Clone + Drop>(
     Ok(made)
 }
 
-/// A keeper whose state begins with the first root of the first repository. The word says of how many
-/// files it remembers verdicts.
+/// A keeper whose state begins with the first root of the first repository. The word says of how
+/// many files it remembers verdicts.
 pub fn keeper_of(alloc: Global, made: &[Made], word: &str) -> Result<Keeper> {
     let capacity = capacity_of(word).context("no such capacity")?;
     let first = made.first().context("no repository")?;

@@ -1,6 +1,6 @@
-//! Runs worked schedules of threads: boards that threads share, cycles with workers, which gates hold
-//! up at chosen places, and keepers. It prints a line for each file of them, with the commands that gave
-//! something else than is written.
+//! Runs worked schedules of threads: boards that threads share, cycles with workers, which gates
+//! hold up at chosen places, and keepers. It prints a line for each file of them, with the commands
+//! that gave something else than is written.
 //!
 //! It takes no word. It is run in a folder that holds the folder `cases` and nothing else. The
 //! status is 0 where all was as written, else 1, and 2 where the cases couldn't be run.

@@ -88,8 +88,8 @@ fn stats_of<F: Files + AllocGlobal + Clone + Drop, T: Threads + Wait + Sync>(
     Ok(outcome.stats())
 }
 
-/// Whether a run with workers tells what a cycle on one thread tells, and how many waits of its gate
-/// met their limit.
+/// Whether a run with workers tells what a cycle on one thread tells, and how many waits of its
+/// gate met their limit.
 pub fn agrees<F: Files + AllocGlobal + Clone + Drop, T: Threads + Wait + Sync>(
     files: &F,
     rt: &T,

@@ -5,8 +5,8 @@ ghost use Rattle.folder.specs.Folders.{HasFailed};
 use crate::shell::{NOW, Shell};
 use anyhow::{Context, Result};
 use cycle::{Moment, Trusted};
+use failure::{Failure, tell_failure};
 use folder::{Folder, LoadFault};
-use report::{Failure, tell_failure};
 use sessions::Told;
 use std::alloc::Global;
 use std::rt::{Clock, Files};
@@ -57,8 +57,9 @@ impl<'a, R: Files + AllocGlobal> System for Stopped<'a, R> {
     }
 }
 
-/// Tells the day and the second of the moment that a verification has by the text, or without a text by a clock that
-/// shows so many seconds and nanoseconds; `none` is a clock that can't be read.
+/// Tells the day and the second of the moment that a verification has by the text, or without a
+/// text by a clock that shows so many seconds and nanoseconds; `none` is a clock that can't be
+/// read.
 pub fn clock<R: Files + AllocGlobal, T>(shell: &Shell<'_, R, T>, words: &[String]) -> Result<Told> {
     let seconds = words.first().context("no seconds")?.as_str();
     let time = if seconds == "none" {
@@ -91,7 +92,8 @@ fn failed(alloc: Global, failure: Failure) -> Result<Told> {
     Ok(told)
 }
 
-/// A folder of two files, `a` and `b`, with two bytes each. Some calls succeed, and all later ones fail.
+/// A folder of two files, `a` and `b`, with two bytes each. Some calls succeed, and all later ones
+/// fail.
 #[derive(Drop)]
 struct FailingFolder {
     calls: u64,
@@ -143,8 +145,8 @@ impl Folder for FailingFolder {
     }
 }
 
-/// Verifies two folders whose first calls succeed, so many of each, from the root of version 1, and stores the state
-/// under that name.
+/// Verifies two folders whose first calls succeed, so many of each, from the root of version 1, and
+/// stores the state under that name.
 pub fn failing<R: Files + AllocGlobal, T: Threads + Wait + Sync>(
     shell: &Shell<'_, R, T>,
     metadata: &str,

@@ -18,9 +18,9 @@ struct Answer {
     lengths: u32,
 }
 
-/// Cuts a file off at each multiple of a step below its length, and verifies each time by several numbers
-/// of workers. It gives each different answer once, behind the number of lengths that gave it. Then the
-/// file is as before.
+/// Cuts a file off at each multiple of a step below its length, and verifies each time by several
+/// numbers of workers. It gives each different answer once, behind the number of lengths that gave
+/// it. Then the file is as before.
 pub fn cuts<R: Files + Clock + AllocGlobal + Clone + Drop, T: Threads + Wait + Sync>(
     shell: &Shell<'_, R, T>,
     step: &Step,

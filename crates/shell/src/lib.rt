@@ -1,7 +1,7 @@
 //! Runs sessions of the command line, which `README.md` says how to write.
 //!
-//! [`run_sessions`] runs those of the folder `cases` and prints a line for each, with the steps that
-//! gave something else than is written.
+//! [`run_sessions`] runs those of the folder `cases` and prints a line for each, with the steps
+//! that gave something else than is written.
 #![tactic(auto)]
 
 mod change;

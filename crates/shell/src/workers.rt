@@ -21,8 +21,8 @@ impl Ran {
     }
 }
 
-/// Verifies by each of the numbers of workers, which commas part, and gives what the first run told.
-/// It is an error where another one tells or stores something else.
+/// Verifies by each of the numbers of workers, which commas part, and gives what the first run
+/// told. It is an error where another one tells or stores something else.
 pub fn by<R: Files + Clock + AllocGlobal + Clone + Drop, T: Threads + Wait + Sync>(
     shell: &Shell<'_, R, T>,
     numbers: &str,

@@ -3,7 +3,8 @@
 use cjson::NoMemory;
 use keys::{Ask, Direct, Judge};
 
-/// Answers as the plain judge does, and is refused memory at one of its asks, from 1. It counts them.
+/// Answers as the plain judge does, and is refused memory at one of its asks, from 1. It counts
+/// them.
 #[derive(Drop)]
 pub struct Counting {
     pub asks: u32,

@@ -35,8 +35,8 @@ write snapshot 2 1
 write timestamp 2 1
 ";
 
-/// What a cycle gave: the text of its state, none where memory was refused, and how many questions were answered from
-/// the cache and put to the other judge.
+/// What a cycle gave: the text of its state, none where memory was refused, and how many questions
+/// were answered from the cache and put to the other judge.
 #[derive(Drop)]
 struct Cycle {
     text: Option<Vec<u8>>,
@@ -103,7 +103,8 @@ fn text_after<J: Judge>(
     }
 }
 
-/// A cycle over a cache, where the other judge is refused memory at one of its asks, if it comes to that.
+/// A cycle over a cache, where the other judge is refused memory at one of its asks, if it comes to
+/// that.
 fn remembering(
     alloc: Global,
     cache: &mut Cache,
@@ -126,8 +127,8 @@ fn remembering(
     })
 }
 
-/// Two cycles that share a cache: the first is over the older repository, and the second over the newer one, where the
-/// other judge is refused memory at one of its asks.
+/// Two cycles that share a cache: the first is over the older repository, and the second over the
+/// newer one, where the other judge is refused memory at one of its asks.
 fn refused(
     alloc: Global,
     cache: &mut Cache,
@@ -160,7 +161,8 @@ fn plain_text(alloc: Global, state: &Trusted, repo: &Repo) -> Result<Vec<u8>, Fa
     Ok(plain(alloc, state, repo)?.to_text(alloc)?)
 }
 
-/// Whether the third cycle leads to the wanted state, and puts so many questions to the cache and to the other judge.
+/// Whether the third cycle leads to the wanted state, and puts so many questions to the cache and
+/// to the other judge.
 fn is_third(
     alloc: Global,
     state: &Trusted,
@@ -178,8 +180,9 @@ fn is_third(
     )
 }
 
-/// A cycle asks for the signature of the timestamp, the digest and the signature of the snapshot, and those of the
-/// targets file, in this order. Of what was answered before the refusal, the verdicts on signatures are remembered.
+/// A cycle asks for the signature of the timestamp, the digest and the signature of the snapshot,
+/// and those of the targets file, in this order. Of what was answered before the refusal, the
+/// verdicts on signatures are remembered.
 fn all_thirds(alloc: Global, state: &Trusted, repos: (&Repo, &Repo)) -> Result<bool, Fail> {
     let wanted = plain_text(alloc, state, repos.1)?;
     let rows = [(1, 0, 5), (2, 1, 4), (3, 1, 4), (4, 2, 3), (5, 2, 3)];

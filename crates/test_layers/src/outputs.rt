@@ -1,6 +1,7 @@
 //! Texts that are written, and failures that are told.
 
-use report::{Failure, put, root_line, tell_failure};
+use failure::{Failure, tell_failure};
+use report::{put, root_line};
 use std::io::{self, ErrorKind, Write};
 use std::test::Fail;
 

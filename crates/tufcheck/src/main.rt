@@ -1,4 +1,5 @@
-//! Verifies an update repository of TUF 1.0 that lies in two folders, one of metadata files and one of target files.
+//! Verifies an update repository of TUF 1.0 that lies in two folders, one of metadata files and one
+//! of target files.
 #![tactic(auto)]
 
 use std::process::ExitCode;

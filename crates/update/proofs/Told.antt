@@ -7,8 +7,8 @@ use Rattle.meta.specs.declared.repo.Repo.{Repo}
 use Rattle.cycle.specs.Workflow.{Outcome}
 use Rattle.report.specs.Lines.{cycles_text, outcome_text}
 use Rattle.report.specs.Status.{last_status, outcome_status}
-use Rattle.report.specs.declared.failure.Failure.{Failure}
-use Rattle.report.specs.declared.failure.Failure.TheVariants as failure
+use Rattle.failure.specs.declared.failure.Failure.{Failure}
+use Rattle.failure.specs.declared.failure.Failure.TheVariants as failure
 use Rattle.moment.specs.Moment.{Moment}
 use Rattle.rolechain.specs.State.{State}
 use Rattle.update.specs.Moments.{IsMomentOf}

@@ -3,7 +3,8 @@ ghost use Rattle.std.specs.Prelude.{◌≡◌, ◌≢◌, ◌≤◌, IfErr, IfOk
 ghost use Rattle.update.specs.Told.{IsTold};
 
 use cycle::Outcome;
-use report::{Failure, tell};
+use failure::Failure;
+use report::tell;
 use std::alloc::Global;
 use std::io::Write;
 

@@ -4,11 +4,12 @@ ghost use Rattle.moment.specs.Moment.{moment_of};
 ghost use Rattle.update.specs.Moments.{IsMomentOf, IsNoMoment};
 
 use cycle::Moment;
-use report::Failure;
+use failure::Failure;
 use system::System;
 
-/// The moment that the text spells, or without a text the clock's, without its fraction of a second. A text that spells
-/// none is the failure `Now`, and a clock that can't be read or is past the year 9999 the failure `Clock`.
+/// The moment that the text spells, or without a text the clock's, without its fraction of a
+/// second. A text that spells none is the failure `Now`, and a clock that can't be read or is past
+/// the year 9999 the failure `Clock`.
 pub fn moment<S: System>(system: &S, text: Option<&str>) -> Result<Moment, Failure>
     ensures moment { IfOk result (
         IsMomentOf (S.shows system.now) (option_map (λ t. t.now) text.entry)) }

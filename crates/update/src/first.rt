@@ -9,13 +9,15 @@ ghost use Rattle.update.specs.Told.{IsRefused, IsTrusted, state_text};
 
 use crate::state::{keep_state, read_file};
 use cycle::{End, Fault, StateFault, Step, Trusted};
-use report::{Failure, push_end, put, root_line};
+use failure::Failure;
+use report::{push_end, put, root_line};
 use std::alloc::Global;
 use std::io::Write;
 use system::System;
 
-/// Trusts a root file because it was handed in: stores a state with it alone, prints its version and answers 0. Where
-/// the root is refused, its fault is printed, nothing is stored, and the answer is 2.
+/// Trusts a root file because it was handed in: stores a state with it alone, prints its version
+/// and answers 0. Where the root is refused, its fault is printed, nothing is stored, and the
+/// answer is 2.
 pub fn init<S: System, W: Write>(
     alloc: Global,
     system: &mut S,

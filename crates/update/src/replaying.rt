@@ -9,8 +9,9 @@ ghost use Rattle.update.specs.Starting.{AreRounds, start_from, start_of};
 use crate::start::{Folders, Start, Terms, begin, limits_of, loaded};
 use crate::state::keep_state;
 use cycle::{Keeper, Limits, Moment, Open, Outcome, Repo, Round};
+use failure::Failure;
 use folder::Folder;
-use report::{Failure, tell_cycles};
+use report::tell_cycles;
 use std::alloc::{AllocError, Global};
 use std::io::Write;
 use std::sync::Wait;
@@ -20,8 +21,8 @@ use system::System;
 /// Of how many files a keeper remembers verdicts at most.
 const KEPT: usize = 4096;
 
-/// What a replay begins with: what its first cycle begins with, and of how many files verdicts are remembered from
-/// cycle to cycle (1 to 4,096).
+/// What a replay begins with: what its first cycle begins with, and of how many files verdicts are
+/// remembered from cycle to cycle (1 to 4,096).
 #[derive(Drop)]
 pub struct Cycles<'a> {
     pub start: Start<'a>,
@@ -40,8 +41,8 @@ impl Drop for Replayed {
     }
 }
 
-/// Replays what the words name: the moment is read first, then the state file, and then the folders, as
-/// [`replay_from`] does.
+/// Replays what the words name: the moment is read first, then the state file, and then the
+/// folders, as [`replay_from`] does.
 pub fn replay<R: Threads + Wait + Sync, S: System, M: Folder + Drop, T: Folder + Drop, W: Write>(
     rt: &R,
     alloc: Global,
@@ -64,14 +65,16 @@ pub fn replay<R: Threads + Wait + Sync, S: System, M: Folder + Drop, T: Folder +
     replay_from(rt, alloc, system, &Cycles { start, keep }, folders, out)
 }
 
-/// Verifies what each pair of folders holds, in order, each time from the state of the cycle before; stores the last
-/// state, prints for each cycle the line `cycle K`, counted from 1, and its lines, and answers the status of the last
-/// one, or 0 where there is none. All is that of the workflow on the files that the folders gave; what is remembered from
-/// cycle to cycle bears on none of it.
+/// Verifies what each pair of folders holds, in order, each time from the state of the cycle
+/// before; stores the last state, prints for each cycle the line `cycle K`, counted from 1, and its
+/// lines, and answers the status of the last one, or 0 where there is none. All is that of the
+/// workflow on the files that the folders gave; what is remembered from cycle to cycle bears on
+/// none of it.
 ///
-/// All folders are read before the first cycle. Where one fails, nothing is stored and nothing printed; and no line is
-/// printed before the state is stored. After any failure either nothing is printed and what was stored before is as it
-/// was, or the last state is stored whole. It waits for the threads that check ahead.
+/// All folders are read before the first cycle. Where one fails, nothing is stored and nothing
+/// printed; and no line is printed before the state is stored. After any failure either nothing is
+/// printed and what was stored before is as it was, or the last state is stored whole. It waits for
+/// the threads that check ahead.
 pub fn replay_from<
     R: Threads + Wait + Sync,
     S: System,
@@ -213,8 +216,8 @@ fn run_cycles<R: Threads + Wait + Sync>(
     Ok(Replayed { outcomes, keeper })
 }
 
-/// A keeper of the state that the cycles begin with. A number of remembered files that is none is a mistake of the
-/// caller.
+/// A keeper of the state that the cycles begin with. A number of remembered files that is none is a
+/// mistake of the caller.
 fn keeper_of(alloc: Global, cycles: &Cycles<'_>) -> Result<Keeper, Failure>
     ensures state { IfOk result (λ k. k ≡ cycles.now.start.trusted) }
     ensures refused { IfErr result (λ f. (f ≡ Failure.Words) ⊎ (f ≡ Failure.Memory)) }
@@ -226,7 +229,8 @@ fn keeper_of(alloc: Global, cycles: &Cycles<'_>) -> Result<Keeper, Failure>
     Ok(Keeper::new(alloc, trusted, cycles.keep)?)
 }
 
-/// The outcomes of all cycles of a keeper of the start's state, by the number of workers that the start names.
+/// The outcomes of all cycles of a keeper of the start's state, by the number of workers that the
+/// start names.
 fn outcomes<R: Threads + Wait + Sync>(
     rt: &R,
     alloc: Global,

@@ -8,8 +8,8 @@ ghost use Rattle.update.specs.Starting.{start_from, start_of};
 use crate::clock::moment;
 use crate::state::read_state;
 use cycle::{Limits, Moment, Repo, Trusted};
+use failure::Failure;
 use folder::{Folder, load};
-use report::Failure;
 use std::alloc::Global;
 use system::System;
 
@@ -26,9 +26,9 @@ pub struct Folders<M, T> {
     pub targets: T,
 }
 
-/// What the words name: the path of the file with the trusted state, the text of the moment, how many roles a search
-/// visits at most (1 to 256), how many threads check ahead (0 to 64), the path of the file for the new state, and the
-/// wanted paths, in order.
+/// What the words name: the path of the file with the trusted state, the text of the moment, how
+/// many roles a search visits at most (1 to 256), how many threads check ahead (0 to 64), the path
+/// of the file for the new state, and the wanted paths, in order.
 #[derive(Drop)]
 pub struct Terms<'a> {
     pub state: &'a str,
@@ -39,8 +39,9 @@ pub struct Terms<'a> {
     pub wanted: Vec<String>,
 }
 
-/// What a verification begins with: the trusted state, the moment, the wanted paths, how many roles a search visits at
-/// most (1 to 256), how many threads check ahead (0 to 64), and the path of the file for the new state.
+/// What a verification begins with: the trusted state, the moment, the wanted paths, how many roles
+/// a search visits at most (1 to 256), how many threads check ahead (0 to 64), and the path of the
+/// file for the new state.
 #[derive(Drop)]
 pub struct Start<'a> {
     pub trusted: Trusted,
@@ -89,7 +90,8 @@ pub(crate) fn loaded<M: Folder, T: Folder>(
     Ok(Repo { metadata, targets })
 }
 
-/// The limits of a run. More than 64 workers are a mistake of the caller, and so is a limit that is none.
+/// The limits of a run. More than 64 workers are a mistake of the caller, and so is a limit that is
+/// none.
 pub(crate) fn limits_of(start: &Start<'_>) -> Result<Limits, Failure>
     ensures roles { IfOk result (λ l. l.roles ≡ start.now.limit) }
     ensures workers { IfOk result (λ _. start.now.workers ≤ 64) }

@@ -3,7 +3,7 @@ ghost use Rattle.std.specs.Prelude.{◌≡◌, ◌⊎◌, true, IfErr, IfOk, OnE
 ghost use Rattle.update.specs.Told.{IsRead, state_text};
 
 use cycle::Trusted;
-use report::{Failure, of_io};
+use failure::{Failure, of_io};
 use std::alloc::Global;
 use system::System;
 

@@ -9,16 +9,16 @@ use crate::answer::tell_outcome;
 use crate::start::{Folders, Start, Terms, begin, limits_of, loaded};
 use crate::state::keep_state;
 use cycle::{Open, Outcome, Repo, run};
+use failure::Failure;
 use folder::Folder;
-use report::Failure;
 use std::alloc::Global;
 use std::io::Write;
 use std::sync::Wait;
 use std::thread::Threads;
 use system::System;
 
-/// Verifies what the words name: the moment is read first, then the state file, and then the folders, as
-/// [`verify_from`] does.
+/// Verifies what the words name: the moment is read first, then the state file, and then the
+/// folders, as [`verify_from`] does.
 pub fn verify<R: Threads + Wait + Sync, S: System, M: Folder, T: Folder, W: Write>(
     rt: &R,
     alloc: Global,
@@ -40,11 +40,12 @@ pub fn verify<R: Threads + Wait + Sync, S: System, M: Folder, T: Folder, W: Writ
     verify_from(rt, alloc, system, &start, folders, out)
 }
 
-/// Verifies what the folders hold, stores the new state, prints the lines and answers the status: 2 where the update
-/// stopped, else 1 where some target isn't good, else 0. It is the status of the workflow on the files that the folders
-/// gave; a writer whose bytes are known was given its lines and nothing else, and the stored state is its new one.
-/// Where a folder fails, nothing is stored and nothing printed; and no line is printed before the state is stored. After
-/// any failure either nothing is printed and what was stored before is as it was, or the new state is stored whole. It
+/// Verifies what the folders hold, stores the new state, prints the lines and answers the status: 2
+/// where the update stopped, else 1 where some target isn't good, else 0. It is the status of the
+/// workflow on the files that the folders gave; a writer whose bytes are known was given its lines
+/// and nothing else, and the stored state is its new one. Where a folder fails, nothing is stored
+/// and nothing printed; and no line is printed before the state is stored. After any failure either
+/// nothing is printed and what was stored before is as it was, or the new state is stored whole. It
 /// waits for the threads that check ahead, and then stores the state.
 pub fn verify_from<R: Threads + Wait + Sync, S: System, M: Folder, T: Folder, W: Write>(
     rt: &R,

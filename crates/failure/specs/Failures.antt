@@ -2,9 +2,9 @@
 use Rattle.std.specs.Prelude.{ℕ, Bool, true, false, List, [], ◌∷◌, codes, decimal}
 use Rattle.maker.specs.declared.fault.MakeFault.{MakeFault}
 use Rattle.maker.specs.declared.fault.MakeFault.TheVariants as made
-use Rattle.report.specs.declared.failure.Failure.{Failure}
-use Rattle.report.specs.declared.failure.Failure.TheVariants.{Words, Now, State, Script, Input, Folder, Clock, Output, Memory}
-use Rattle.report.specs.Lines.{line}
+use Rattle.failure.specs.declared.failure.Failure.{Failure}
+use Rattle.failure.specs.declared.failure.Failure.TheVariants.{Words, Now, State, Script, Input, Folder, Clock, Output, Memory}
+use Rattle.failure.specs.Line.{line}
 
 -- whether the caller's words or files are at fault, and not the system
 abbrev pub is_callers : Failure → Bool

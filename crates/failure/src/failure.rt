@@ -1,15 +1,16 @@
 //! What ends a run early.
 ghost use Rattle.std.specs.Prelude.{◌≡◌, ◌≢◌, ◌↔◌, ◌⊎◌, true, OnOk};
 ghost use Rattle.std.specs.Io.KnownBytes.{Appends};
-ghost use Rattle.report.specs.Failures.{is_callers, failure_of, failure_text, failure_word};
+ghost use Rattle.failure.specs.Failures.{is_callers, failure_of, failure_text, failure_word};
 ghost use Rattle.std.specs.IoError.{error_kind};
-ghost use Rattle.report.specs.declared.failure.Failure.TheVariants as failure;
+ghost use Rattle.failure.specs.declared.failure.Failure.TheVariants as failure;
 ghost use Rattle.folder.specs.declared.files.LoadFault.TheVariants as fault;
 ghost use Rattle.rolechain.specs.declared.fault.StateFault.TheVariants as state;
 
-use cycle::{NoMemory, StateFault};
+use cjson::NoMemory;
 use folder::LoadFault;
 use maker::MakeFault;
+use rolechain::StateFault;
 use std::alloc::{AllocError, AllocFailed};
 use std::io::{self, ErrorKind, Write};
 use thiserror::Error;
@@ -132,8 +133,8 @@ pub fn of_io(error: &io::Error, other: Failure) -> Failure
     }
 }
 
-/// Writes the failure's line, `tufcheck: ` and its text, and takes no memory. A writer whose bytes are known was then
-/// given that line and nothing else.
+/// Writes the failure's line, `tufcheck: ` and its text, and takes no memory. A writer whose bytes
+/// are known was then given that line and nothing else.
 pub fn tell_failure<E: Write>(failure: Failure, err: &mut E) -> io::Result<()>
     ensures line { OnOk result (Appends (E.contents err.old) (E.contents err.new)
         (failure_text failure)) }
