@@ -10,6 +10,9 @@
 # by the median of the rounds how many times as fast it was as the run by no worker beside it. It asks that each run prints
 # the same lines and stores the same state. `rt run` in crates/tufcheck proves and builds the program, once; this takes some
 # minutes. Idle cores are what it measures: nothing else should run meanwhile.
+#
+# The first lines are of `bench ahead`, which times the cycles alone, `run` beside `run_alone` on such a repository of 1,024
+# signatures in memory, in eleven rounds: `rt run` in crates/bench builds it.
 set -u
 runs=${1:-11}
 top=$(cd "$(dirname "$0")/.." && pwd) || exit 2
@@ -113,6 +116,18 @@ told() {
     done
 }
 
+# cycles FILE: how many times as fast `run` is as `run_alone`, by the median of the rounds, which go into the file
+cycles() {
+    "$top/crates/bench/out/bench" ahead > "$1" || exit 2
+    local column workers=(1 2 4) times
+    mapfile -t times < <(awk '{ print $2 }' "$1" | sort -n)
+    echo "run_alone of 1,024 signatures: ${times[$((${#times[@]} / 2))]} us, at least ${times[0]} us"
+    for column in 9 10 11; do
+        mapfile -t times < <(awk -v c=$column '{ printf "%.4f\n", $2 / $c }' "$1" | sort -n)
+        printf 'run by %d workers: %.2f times as fast\n' "${workers[$((column - 9))]}" "${times[$((${#times[@]} / 2))]}"
+    done
+}
+
 # replayed FOLDER TIMES PATH: the microseconds of each replay of the repository so many times over, sorted
 replayed() {
     local from to
@@ -160,6 +175,7 @@ mkdir "$work/first"
 cp "$top/examples/first.script" "$work/first/script"
 made "$work/many" && made "$work/roles" && made "$work/large" && made "$work/first" || exit 2
 find "$work/large/targets" -type f ! -name p10001 -delete
+[ -x "$top/crates/bench/out/bench" ] && cycles "$work/rounds"
 {
     told "1,024 signatures" "$work/many" nowhere
     told "100 roles" "$work/roles" nowhere

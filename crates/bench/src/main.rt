@@ -1,8 +1,10 @@
 //! Times the slow parts of a verification.
 //!
-//! Without a word it does nothing. With the word `all` it prints a line for each part.
+//! Without a word it does nothing. With the word `all` it prints a line for each part, and with the
+//! word `ahead` one for each round of cycles by several numbers of workers.
 #![tactic(auto)]
 
+mod ahead;
 mod parts;
 mod trouble;
 
@@ -11,11 +13,13 @@ use std::env;
 use std::io::Write;
 use std::process::ExitCode;
 use std::rt::{Clock, Env};
+use std::sync::Wait;
+use std::thread::Threads;
 use trouble::Trouble;
 
 fn main(rt: HostRuntime) -> ExitCode {
     let mut out = rt.stdout();
-    match measured(&rt, rt.alloc(), &mut out) {
+    match measured(&rt, &rt, rt.alloc(), &mut out) {
         Ok(()) => ExitCode::SUCCESS,
         Err(trouble) => {
             let _ = writeln!(rt.stderr(), "bench: {trouble}");
@@ -24,14 +28,22 @@ fn main(rt: HostRuntime) -> ExitCode {
     }
 }
 
-fn measured<R: Env + Clock + AllocGlobal, W: Write>(
+fn measured<R: Env + Clock + AllocGlobal, T: Threads + Wait + Sync, W: Write>(
     rt: &R,
+    threads: &T,
     alloc: Global,
     out: &mut W,
 ) -> Result<(), Trouble> {
-    if !is_asked(rt)? {
-        return Ok(());
+    if is_asked(rt, "ahead")? {
+        return ahead::rounds(rt, threads, alloc, out);
     }
+    if is_asked(rt, "all")? {
+        return all(rt, alloc, out);
+    }
+    Ok(())
+}
+
+fn all<R: Clock, W: Write>(rt: &R, alloc: Global, out: &mut W) -> Result<(), Trouble> {
     let rate = parts::verifications(rt, alloc)?;
     writeln!(out, "verify W8 H5: {rate} per second")?;
     let step = parts::chain_step(rt, alloc)?;
@@ -43,9 +55,9 @@ fn measured<R: Env + Clock + AllocGlobal, W: Write>(
     Ok(())
 }
 
-/// Whether the only word is `all`.
-fn is_asked<R: Env + AllocGlobal>(rt: &R) -> Result<bool, Trouble> {
+/// Whether the first word is this one.
+fn is_asked<R: Env + AllocGlobal>(rt: &R, asked: &str) -> Result<bool, Trouble> {
     let mut words = env::args(rt)?.skip(1);
     let word = words.next();
-    Ok(word.as_ref().map(String::as_str) == Some("all"))
+    Ok(word.as_ref().map(String::as_str) == Some(asked))
 }

@@ -109,7 +109,7 @@ fn large_object(alloc: Global) -> Result<String, Trouble> {
     Ok(json)
 }
 
-fn nanoseconds<R: Clock>(rt: &R, start: Instant) -> Result<u64, Trouble> {
+pub(crate) fn nanoseconds<R: Clock>(rt: &R, start: Instant) -> Result<u64, Trouble> {
     let took = start.elapsed(rt)?;
     Ok(u64::try_from(took.as_nanos()).unwrap_or(u64::MAX))
 }

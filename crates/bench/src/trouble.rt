@@ -1,7 +1,9 @@
 //! What ends a measurement early.
 
 use cjson::{Canon, Misread, NoMemory};
+use cycle::StateFault;
 use lms::SignFault;
+use maker::MakeFault;
 use std::alloc::{AllocError, AllocFailed};
 use std::io;
 use thiserror::Error;
@@ -46,6 +48,18 @@ impl From<SignFault> for Trouble {
 
 impl From<Misread> for Trouble {
     fn from(_error: Misread) -> Trouble {
+        Trouble::Part
+    }
+}
+
+impl From<StateFault> for Trouble {
+    fn from(_error: StateFault) -> Trouble {
+        Trouble::Part
+    }
+}
+
+impl From<MakeFault> for Trouble {
+    fn from(_error: MakeFault) -> Trouble {
         Trouble::Part
     }
 }
