@@ -2,7 +2,7 @@
 
 use crate::shell::Shell;
 use anyhow::{Context, Result, bail};
-use cjson::{canonical, read_tree, signed_bytes};
+use cjson::{Doc, canonical, read_tree, signed_bytes};
 use lms::Height;
 use maker::{Signer, seal, secret};
 use serde_json::Value;
@@ -30,18 +30,28 @@ pub fn change<R: Files + Clock + AllocGlobal + Clone + Drop, T>(
     let file = fs::read(shell.rt, name)?;
     let bytes = match key {
         None => changed(alloc, file.as_slice(), old.as_str(), new)?,
-        Some(key) => {
-            let doc = signed_bytes(alloc, file.as_slice())?;
-            let signer = Signer {
-                id: String::from_str(alloc, doc.entries().first().context("no entry")?.keyid())?,
-                secret: secret(alloc, key.as_str().parse::<u8>()?, Height::H5)?,
-            };
-            let text = changed(alloc, doc.bytes(), old.as_str(), new)?;
-            sealed(alloc, text.as_slice(), signer)?
-        }
+        Some(key) => signed_anew(alloc, file.as_slice(), key.as_str(), old.as_str(), new)?,
     };
     fs::write(shell.rt, name, bytes.as_slice())?;
     Ok(Told::nothing(alloc))
+}
+
+/// The file with the new part in place of the old in what it signs, signed by the key.
+fn signed_anew(alloc: Global, file: &[u8], key: &str, old: &str, new: &str) -> Result<Vec<u8>> {
+    let doc = signed_bytes(alloc, file)?;
+    let signer = signer_of(alloc, &doc, key)?;
+    let text = changed(alloc, doc.bytes(), old, new)?;
+    sealed(alloc, text.as_slice(), signer)
+}
+
+/// The key of that byte, under the id of the document's first entry.
+fn signer_of(alloc: Global, doc: &Doc, key: &str) -> Result<Signer> {
+    let first = doc.entries().first().context("no entry")?;
+    let secret = secret(alloc, key.parse::<u8>()?, Height::H5)?;
+    Ok(Signer {
+        id: String::from_str(alloc, first.keyid())?,
+        secret,
+    })
 }
 
 /// The text with the new part in place of the old.

@@ -70,13 +70,15 @@ pub fn clock<R: Files + AllocGlobal, T>(shell: &Shell<'_, R, T>, words: &[String
     };
     let system = Stopped { rt: shell.rt, time };
     match moment(&system, words.get(2).map(|text| text.as_str())) {
-        Ok(moment) => {
-            let (day, second) = (moment.day(), moment.second());
-            let text = format!(in shell.alloc; "day {day}, second {second}\n")?;
-            Ok(Told::printed(shell.alloc, text))
-        }
+        Ok(moment) => day_and_second(shell.alloc, moment),
         Err(failure) => failed(shell.alloc, failure),
     }
+}
+
+fn day_and_second(alloc: Global, moment: Moment) -> Result<Told> {
+    let (day, second) = (moment.day(), moment.second());
+    let text = format!(in alloc; "day {day}, second {second}\n")?;
+    Ok(Told::printed(alloc, text))
 }
 
 /// So many seconds and nanoseconds.
@@ -163,10 +165,19 @@ pub fn failing<R: Files + AllocGlobal, T: Threads + Wait + Sync>(
         workers: 2,
         state,
     };
-    let mut folders = Folders {
+    let folders = Folders {
         metadata: FailingFolder::after(metadata.parse::<u64>()?),
         targets: FailingFolder::after(targets.parse::<u64>()?),
     };
+    verified(shell, &start, folders)
+}
+
+/// The lines and the status of a verification of these folders, or what is told of its failure.
+fn verified<R: Files + AllocGlobal, T: Threads + Wait + Sync>(
+    shell: &Shell<'_, R, T>,
+    start: &Start<'_>,
+    mut folders: Folders<FailingFolder, FailingFolder>,
+) -> Result<Told> {
     let mut system = Stopped {
         rt: shell.rt,
         time: None,
@@ -176,7 +187,7 @@ pub fn failing<R: Files + AllocGlobal, T: Threads + Wait + Sync>(
         shell.threads,
         shell.alloc,
         &mut system,
-        &start,
+        start,
         &mut folders,
         &mut told.out,
     ) {

@@ -34,12 +34,20 @@ pub fn cuts<R: Files + Clock + AllocGlobal + Clone + Drop, T: Threads + Wait + S
     let mut answers: Vec<Answer> = Vec::new(shell.alloc);
     for part in whole.as_slice().chunks(size) {
         fs::write(shell.rt, name, cut.as_slice())?;
-        let (numbers, old, new) = (step.word(2)?, step.word(3)?, step.word(4)?);
-        count(&mut answers, by(shell, numbers, old, new, more)?)?;
+        count(&mut answers, verified(shell, step, more)?)?;
         cut.extend_from_slice(part)?;
     }
     fs::write(shell.rt, name, whole.as_slice())?;
     all_told(shell.alloc, answers.as_slice())
+}
+
+/// What a verification of the step's states tells, by each of its numbers of workers.
+fn verified<R: Files + Clock + AllocGlobal + Clone + Drop, T: Threads + Wait + Sync>(
+    shell: &Shell<'_, R, T>,
+    step: &Step,
+    more: &[String],
+) -> Result<Told> {
+    by(shell, step.word(2)?, step.word(3)?, step.word(4)?, more)
 }
 
 /// Counts one length more that gave this.

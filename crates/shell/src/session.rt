@@ -31,18 +31,34 @@ impl<'a, R: Files + Clock + AllocGlobal + Clone + Drop, T: Threads + Wait + Sync
                 rest(words, 3),
             ),
             "cuts" => cuts(self, step, rest(words, 5)),
+            _ => self.perform_on_files(step),
+        }
+    }
+
+    /// Does a step that changes or tells what lies in the folder.
+    fn perform_on_files(&self, step: &Step) -> Result<Told> {
+        let words = step.words();
+        match step.name()? {
             "change" => change(self, step.word(0)?, words.get(1), step.script.as_slice()),
             "state" => state(self, step.word(0)?, rest(words, 1)),
             "keeps" => keeps(self, step.word(0)?),
             "digests" => digests(self),
-            "narrow" => with_narrow_output(self, step.word(0)?, rest(words, 1)),
-            "deaf" => with_narrow_error(self, step.word(0)?, rest(words, 1)),
-            "clock" => clock(self, words),
-            "failing" => failing(self, step.word(0)?, step.word(1)?, step.word(2)?),
             "link" => link(self, step.word(0)?, step.word(1)?),
             "lock" => allow(self, step.word(0)?, 0),
             "freeze" => allow(self, step.word(0)?, 0o500),
             "unlock" => allow(self, step.word(0)?, 0o700),
+            _ => self.perform_amiss(step),
+        }
+    }
+
+    /// Does a step in which a stream, a folder or a clock is another than usual.
+    fn perform_amiss(&self, step: &Step) -> Result<Told> {
+        let words = step.words();
+        match step.name()? {
+            "narrow" => with_narrow_output(self, step.word(0)?, rest(words, 1)),
+            "deaf" => with_narrow_error(self, step.word(0)?, rest(words, 1)),
+            "clock" => clock(self, words),
+            "failing" => failing(self, step.word(0)?, step.word(1)?, step.word(2)?),
             _ => bail!("no such command"),
         }
     }
