@@ -7,7 +7,8 @@ use Rattle.serde_json.specs.Find.{get, as_object}
 use Rattle.cjson.specs.Checks.{◌>>=◌, or_refuse}
 use Rattle.cjson.specs.Canon.{canon}
 use Rattle.cjson.specs.Form.{needed, list}
-use Rattle.cjson.specs.Entry.{Entry, entry}
+use Rattle.cjson.specs.Entry.{entry}
+use Rattle.cjson.specs.declared.doc.Entry.{Entry}
 use Rattle.cjson.specs.declared.fault.DocFault.{DocFault}
 use Rattle.cjson.specs.declared.fault.DocFault.TheVariants.{NotJson, NotObject, Float, BadSignatures}
 

@@ -1,3 +1,5 @@
+//! Metadata files as documents: what is signed, and by which entries.
+
 ghost use Rattle.std.specs.Prelude.{◌≡◌, Some};
 ghost use Rattle.serde_json.specs.View.{view};
 ghost use Rattle.cjson.specs.Canon.{canon};
@@ -11,42 +13,19 @@ use crate::text::Text;
 pub use read::signed_bytes;
 use serde_json::Value;
 use std::alloc::Global;
-use std::marker::Model;
 
 /// An entry of `signatures`: the id of a key and a signature, as the file spells them (TUF 1.0
 /// section 4.2). Both are texts of any length, and are compared with nothing here.
 pub struct Entry {
-    keyid: Text,
-    sig: Text,
+    /// The id of the key that is said to have signed.
+    pub keyid: Text,
+    /// The signature, which should be hexadecimal text.
+    pub sig: Text,
 }
 
 impl Drop for Entry {
     fn drop(self) {
         let Entry { keyid, sig } = self;
-    }
-}
-
-impl Model for Entry {
-    ghost use Rattle.cjson.specs.Entry as spec;
-
-    ghost Value = { spec.Entry };
-
-    ghost view = { λ e. record { keyid = e.keyid; sig = e.sig } };
-}
-
-impl Entry {
-    /// The id of the key that is said to have signed.
-    pub fn keyid(&self) -> &str
-        ensures value { result.now ≡ self.now.keyid }
-    {
-        self.keyid.as_str()
-    }
-
-    /// The signature, which should be hexadecimal text.
-    pub fn sig(&self) -> &str
-        ensures value { result.now ≡ self.now.sig }
-    {
-        self.sig.as_str()
     }
 }
 

@@ -1,3 +1,5 @@
+//! Want of memory, and the faults of readers and documents.
+
 ghost use Rattle.std.specs.Prelude.{◌≡◌};
 ghost use Rattle.cjson.specs.declared.fault.Canon.TheVariants as canon;
 ghost use Rattle.cjson.specs.declared.fault.Misread.TheVariants as misread;

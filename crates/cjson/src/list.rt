@@ -11,7 +11,8 @@ use serde_json::Value;
 use std::alloc::Global;
 use std::marker::Model;
 
-/// The items of a list, in order; read from a JSON list, `Malformed` where some item hasn't the form.
+/// The items of a list, in order; read from a JSON list, `Malformed` where some item hasn't the
+/// form.
 pub struct Items<T> {
     items: Vec<T>,
 }

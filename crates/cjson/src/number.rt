@@ -1,6 +1,6 @@
 //! Whole numbers, bytes in hexadecimal, and true or false.
 
-ghost use Rattle.std.specs.Prelude.{◌≡◌, Option, Some, None};
+ghost use Rattle.std.specs.Prelude.{◌≡◌, ◌≤◌, IfSome, Option, Some, None};
 ghost use Rattle.serde_json.specs.View.{view};
 ghost use Rattle.cjson.specs.Form as form_of;
 
@@ -13,7 +13,8 @@ use std::marker::Model;
 
 /// A whole number from `least` to 9223372036854775807.
 fn whole(value: &Value, least: u64) -> Option<u64>
-    ensures { result ≡ form_of.whole least (view value.now) }
+    ensures value { result ≡ form_of.whole least (view value.now) }
+    ensures range { IfSome result (λ n. (least ≤ n) × (n ≤ 9223372036854775807)) }
 {
     value
         .as_u64()
@@ -33,19 +34,23 @@ pub type Positive = AtLeast<1>;
 pub type Length = AtLeast<0>;
 
 impl<const LEAST: u64> Model for AtLeast<LEAST> {
-    ghost use Rattle.std.specs.Prelude.{ℕ};
+    ghost use Rattle.std.specs.Prelude.{ℕ, ◌≤◌};
 
     ghost Value = { ℕ };
 
     ghost view = { λ p. p.number };
 
+    ghost invariant = { λ p. (LEAST ≤ p.number) × (p.number ≤ 9223372036854775807) };
+
     ghost inverse = { λ n. record { number = n } };
 }
 
 impl<const LEAST: u64> AtLeast<LEAST> {
-    /// The number.
+    /// The number, from `LEAST` to 9223372036854775807.
     pub fn get(&self) -> u64
         ensures value { result ≡ self.now }
+        ensures least { LEAST ≤ result }
+        ensures most { result ≤ 9223372036854775807 }
     {
         self.number
     }

@@ -43,6 +43,14 @@ impl Text {
     {
         self.text.as_str()
     }
+
+    /// The text, given away without taking memory.
+    pub fn into_string(self) -> String
+        ensures value { string_bytes result ≡ self }
+    {
+        let Text { text: given } = self;
+        given
+    }
 }
 
 impl FromJson for Text {

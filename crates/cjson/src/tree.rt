@@ -1,3 +1,5 @@
+//! Bytes as a tree of JSON.
+
 ghost use Rattle.cjson.specs.Document.{tree_of};
 ghost use Rattle.cjson.specs.Trees.{ReadsTree};
 

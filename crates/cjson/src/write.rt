@@ -1,3 +1,5 @@
+//! The canonical text of a tree.
+
 ghost use Rattle.std.specs.Prelude.{◌≡◌, ◌≢◌, [], ◌∷◌, ◌++◌, Some, None, true, false, decimal, OnOk, IfOk, IsUtf8};
 ghost use Rattle.std.specs.Fmt.{signed_decimal};
 ghost use Rattle.serde_json.specs.Data.{Data, boolean};

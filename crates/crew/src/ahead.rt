@@ -147,7 +147,7 @@ fn read_snapshot(
         return Ok(None);
     };
     let root = last_root(scope.trusted, ahead.roots.as_slice());
-    let version = timestamp.reading.snapshot().version();
+    let version = timestamp.reading.snapshot().version.get();
     let name = versioned(scope.alloc, root.consistent(), version, "snapshot.json")?;
     read_file(scope, name.as_str(), documents)
 }

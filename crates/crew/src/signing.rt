@@ -194,7 +194,7 @@ fn sign<'a, 'b>(
     requires { IsDraft draft.old }
     ensures { Grows draft.old draft.new }
 {
-    for id in signers.role.ids() {
+    for id in signers.role.ids.as_slice() {
         sign_under(draft, signers, id.as_str(), planned)?;
     }
     Ok(())
@@ -214,7 +214,7 @@ fn sign_under<'a, 'b>(
     let Some(key) = key_of(signers.ring, id) else {
         return Ok(());
     };
-    if !planned.insert((signers.document, key.id()))? {
+    if !planned.insert((signers.document, key.id.as_str()))? {
         return Ok(());
     }
     sign_by(draft, signers.document, key)
@@ -223,7 +223,7 @@ fn sign_under<'a, 'b>(
 /// The ring's key of that id. The keys stand in the order of their ids.
 fn key_of<'b>(ring: &'b KeyRing, id: &str) -> Option<&'b Key> {
     let keys = ring.keys();
-    let place = keys.binary_search_by(|key| key.id().cmp(id)).ok()?;
+    let place = keys.binary_search_by(|key| key.id.as_str().cmp(id)).ok()?;
     keys.get(place)
 }
 
@@ -238,7 +238,7 @@ fn sign_by<'a>(draft: &mut Draft<'a>, document: usize, key: &Key) -> Result<(), 
             break;
         }
         if let Some(place) = place_by(draft, document, key, nth) {
-            let public = *key.public();
+            let public = key.public;
             put(
                 draft,
                 Planned::Signature {
@@ -255,7 +255,7 @@ fn sign_by<'a>(draft: &mut Draft<'a>, document: usize, key: &Key) -> Result<(), 
 /// How many entries the document has under the key's id.
 fn count_by(draft: &Draft, document: usize, key: &Key) -> usize {
     match draft.documents.get(document) {
-        Some(document) => document.places_of(key.id()).len(),
+        Some(document) => document.places_of(key.id.as_str()).len(),
         None => 0,
     }
 }
@@ -266,7 +266,7 @@ fn place_by(draft: &Draft, document: usize, key: &Key, nth: usize) -> Option<usi
         HasEntry place (slice_get draft.now.documents.items document)) }
 {
     let document = draft.documents.get(document)?;
-    let place = *document.places_of(key.id()).get(nth)?;
+    let place = *document.places_of(key.id.as_str()).get(nth)?;
     if place < document.sigs.len() {
         Some(place)
     } else {

@@ -4,10 +4,10 @@ use crate::ahead::{Ahead, Scope, last_root};
 use crate::plan::Planned;
 use cjson::NoMemory;
 use cjson::text::Text;
-use deleg::{bin_name, matches, prefix_matches};
+use deleg::{bin_name, is_matched, target_of};
+use examine::target_file;
 use keys::Algorithm;
-use meta::names::hashed;
-use meta::{Delegation, Delegations, Paths, Repo, Roles, Target, Targets};
+use meta::{Delegation, Delegations, Repo, Roles, Target, Targets};
 use std::alloc::Global;
 use std::collections::BTreeSet;
 
@@ -53,7 +53,7 @@ pub(crate) fn bins(
 /// Marks the delegations that match the path, in order, up to the first that is terminating.
 fn follow(roles: &[Delegation], path: &str, marks: &mut Vec<bool>) {
     for (mark, delegation) in marks.iter_mut().zip(roles) {
-        if is_for(delegation.paths(), path) {
+        if is_matched(delegation.paths(), path) {
             *mark = true;
             if delegation.is_terminating() {
                 break;
@@ -68,26 +68,6 @@ pub(crate) fn is_followed(marks: &[bool], place: usize) -> bool {
         Some(mark) => *mark,
         None => false,
     }
-}
-
-fn is_for(paths: &Paths, path: &str) -> bool {
-    match paths {
-        Paths::Patterns(patterns) => patterns
-            .as_slice()
-            .iter()
-            .any(|pattern| matches(pattern.as_str(), path)),
-        Paths::Prefixes(prefixes) => prefixes
-            .as_slice()
-            .iter()
-            .any(|prefix| prefix_matches(prefix.digits(), path)),
-    }
-}
-
-fn target_of<'b>(targets: &'b Targets, path: &str) -> Option<&'b Target> {
-    targets
-        .targets()
-        .iter()
-        .find(|target| target.path() == path)
 }
 
 /// The questions about the digests of the wanted targets, as each file that was read lists them.
@@ -118,18 +98,18 @@ fn add_digests<'a>(
     target: &Target,
     found: &mut Vec<Planned<'a>>,
 ) -> Result<(), NoMemory> {
-    let Some(bytes) = first_there(alloc, repo, consistent, target)? else {
+    let Some(bytes) = target_file(alloc, &repo.targets, consistent, target)? else {
         return Ok(());
     };
-    if target.length() != bytes.len() as u64 {
+    if target.length.get() != bytes.len() as u64 {
         return Ok(());
     }
-    if let Some(digest) = target.hashes().sha256() {
-        let digest = Vec::from_slice(alloc, &digest)?;
+    if let Some(digest) = &target.hashes.sha256 {
+        let digest = Vec::from_slice(alloc, digest)?;
         found.push(digest_of(alloc, target, Algorithm::Sha256, bytes, digest)?)?;
     }
-    if let Some(digest) = target.hashes().sha512() {
-        let digest = Vec::from_slice(alloc, &digest)?;
+    if let Some(digest) = &target.hashes.sha512 {
+        let digest = Vec::from_slice(alloc, digest)?;
         found.push(digest_of(alloc, target, Algorithm::Sha512, bytes, digest)?)?;
     }
     Ok(())
@@ -143,39 +123,9 @@ fn digest_of<'a>(
     digest: Vec<u8>,
 ) -> Result<Planned<'a>, NoMemory> {
     Ok(Planned::Digest {
-        file: Text::new(String::from_str(alloc, target.path())?),
+        file: Text::new(String::from_str(alloc, target.path.as_str())?),
         algorithm,
         bytes,
         digest,
     })
-}
-
-/// The file under the first of the target's names that is there.
-fn first_there<'a>(
-    alloc: Global,
-    repo: &'a Repo,
-    consistent: bool,
-    target: &Target,
-) -> Result<Option<&'a [u8]>, NoMemory> {
-    if !consistent {
-        return Ok(file_of(repo, target.path()));
-    }
-    if let Some(digest) = target.hashes().sha256() {
-        let name = hashed(alloc, &digest, target.path())?;
-        if let Some(found) = file_of(repo, name.as_str()) {
-            return Ok(Some(found));
-        }
-    }
-    let Some(digest) = target.hashes().sha512() else {
-        return Ok(None);
-    };
-    let name = hashed(alloc, &digest, target.path())?;
-    Ok(file_of(repo, name.as_str()))
-}
-
-fn file_of<'a>(repo: &'a Repo, name: &str) -> Option<&'a [u8]> {
-    match repo.targets.get(name) {
-        Some(bytes) => Some(bytes.as_slice()),
-        None => None,
-    }
 }

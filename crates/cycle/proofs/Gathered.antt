@@ -13,8 +13,9 @@ use Rattle.examine.specs.Checks.{Files}
 use Rattle.moment.specs.Moment.{Moment}
 use Rattle.rolechain.specs.State.{State}
 use Rattle.cjson.specs.declared.fault.NoMemory.{NoMemory}
-use Rattle.deleg.specs.Accepted.{Accepted}
-use Rattle.cycle.specs.Workflow.{Outcome, workflow, is_below, has_role, with_role, with_roles}
+use Rattle.deleg.specs.Accepted.{has_role}
+use Rattle.deleg.specs.declared.accepted.Accepted.{Accepted}
+use Rattle.cycle.specs.Workflow.{Outcome, workflow, is_below, with_role, with_roles}
 use Rattle.cycle.specs.Gathered.{is_ascending, has, AreGathered, all_accepted}
 
 all-insert : (p : Accepted → Bool) (xs : List Accepted) (n : ℕ) (a : Accepted) → p a ≡ true → list_all p xs ≡ true → list_all p (insert xs n a) ≡ true

@@ -5,8 +5,9 @@ use Rattle.moment.specs.Moment.{Moment}
 use Rattle.examine.specs.Checks.{Files}
 use Rattle.rolechain.specs.State.{State}
 use Rattle.rolechain.specs.Advance.{advanced}
-use Rattle.deleg.specs.Accepted.{Accepted}
-use Rattle.cycle.specs.Workflow.{has_role, is_below, roles_in, searched}
+use Rattle.deleg.specs.Accepted.{has_role}
+use Rattle.deleg.specs.declared.accepted.Accepted.{Accepted}
+use Rattle.cycle.specs.Workflow.{is_below, roles_in, searched}
 
 -- each name is below all behind it in byte order, so none stands twice
 abbrev pub is_ascending : List Accepted → Bool

@@ -8,7 +8,7 @@ ghost use Rattle.cycle.specs.Workflow as spec;
 use crate::limits::Limits;
 use crate::outcome::Outcome;
 use crate::roles::gathered;
-use crate::target::verdicts_of;
+use crate::target::{Store, verdicts_of};
 use cjson::NoMemory;
 use deleg::{Searched, search};
 use keys::Judge;
@@ -71,14 +71,12 @@ fn close<J: Judge>(
     ensures { IfOk result (λ o.
         o ≡ spec.closed (file_in cycle.now.repo.now.targets) trusted end searches.now) }
 {
-    let consistent = is_consistent(&trusted);
-    let verdicts = verdicts_of(
-        cycle.alloc,
-        &cycle.repo.targets,
-        consistent,
-        searches,
-        judge,
-    )?;
+    let store = Store {
+        alloc: cycle.alloc,
+        files: &cycle.repo.targets,
+        consistent: is_consistent(&trusted),
+    };
+    let verdicts = verdicts_of(&store, searches, judge)?;
     let accepted = gathered(cycle.alloc, searches)?;
     Ok(Outcome::new(trusted, end, verdicts, accepted))
 }

@@ -28,6 +28,15 @@ impl Promise<Seat> for SeatOf {
 
 type Worker = PromisedHandle<Seat, SeatOf>;
 
+/// What all threads of a run share.
+#[derive(Clone, Copy)]
+struct Shared<'s, C, G> {
+    alloc: Global,
+    board: &'s Board,
+    checks: &'s C,
+    gate: &'s G,
+}
+
 /// The work in order, where each question is decided when it is asked.
 pub(crate) fn alone<T: Ordered, M: Recall>(task: &T, memory: &mut M) -> Result<Outcome, NoMemory>
     ensures { IfOk result (λ o. o ≡ T.outcome task.now) }
@@ -89,9 +98,13 @@ pub(crate) fn with_plan<
                 × All (λ h. h.count ≡ length shared.now.truths) hands.items }
             ensures { IfOk result (λ o. o ≡ T.outcome task.entry.now) }
         {
-            with_workers(
-                rt, scope, alloc, task, shared, seat, plan, hands, gate, memory,
-            )
+            let shared = Shared {
+                alloc,
+                board: shared,
+                checks: plan,
+                gate,
+            };
+            with_workers(rt, scope, task, &shared, seat, hands, memory)
         },
     )
 }
@@ -112,25 +125,23 @@ fn hands_for(alloc: Global, count: usize, workers: usize) -> Result<Vec<Hand>, N
 fn with_workers<'s, E, R: Threads, T: Ordered, P: Questions + Sync, G: Gate + Sync, M: Recall>(
     rt: &R,
     scope: &Scope<'s, E>,
-    alloc: Global,
     task: &T,
-    board: &'s Board,
+    shared: &Shared<'s, P, G>,
     seat: Seat,
-    plan: &'s P,
     hands: Vec<Hand>,
-    gate: &'s G,
     memory: &mut M,
 ) -> Result<Outcome, NoMemory>
-    requires seat { IsFree board.now seat }
-    requires truths { board.now.truths ≡ P.truths plan.now }
-    requires hands { All (λ h. h.count ≡ length board.now.truths) hands.items }
+    requires seat { IsFree shared.now.board.now seat }
+    requires truths { shared.now.board.now.truths ≡ P.truths shared.now.checks.now }
+    requires hands { All (λ h. h.count ≡ length shared.now.board.now.truths) hands.items }
     ensures { IfOk result (λ o. o ≡ T.outcome task.now) }
 {
-    let (seat, workers) = start_all(scope, alloc, board, seat, plan, hands, gate);
-    gate.begin();
+    let (seat, workers) = start_all(scope, shared, seat, hands);
+    shared.gate.begin();
+    let (board, plan) = (shared.board, shared.checks);
     let (mut seat, outcome) = judged::<T, P, Brand, M>(task, board, seat, plan, memory);
     board.stop(&mut seat);
-    gate.end();
+    shared.gate.end();
     retire(take_in(rt, board, seat, workers));
     outcome
 }
@@ -174,17 +185,16 @@ fn counted(outcome: Result<Outcome, NoMemory>, stats: Stats) -> Result<Outcome, 
 /// Starts a worker, if it can be started.
 fn start<'s, E, C: Checks + Sync, G: Gate + Sync>(
     scope: &Scope<'s, E>,
-    board: &'s Board,
+    shared: &Shared<'s, C, G>,
     seat: Seat,
-    checks: &'s C,
     hand: Hand,
-    gate: &'s G,
 ) -> Option<Worker>
-    requires seat { IsFree board.now seat }
-    requires truths { board.now.truths ≡ C.truths checks.now }
-    requires hand { hand.count ≡ length board.now.truths }
-    ensures { IfSome result (λ h. h.promise.0.value ≡ board.now) }
+    requires seat { IsFree shared.now.board.now seat }
+    requires truths { shared.now.board.now.truths ≡ C.truths shared.now.checks.now }
+    requires hand { hand.count ≡ length shared.now.board.now.truths }
+    ensures { IfSome result (λ h. h.promise.0.value ≡ shared.now.board.now) }
 {
+    let (board, checks, gate) = (shared.board, shared.checks, shared.gate);
     scope
         .spawn_with(SeatOf(Snapshot::of(board)), move || {
             work(board, seat, checks, hand, gate)
@@ -195,28 +205,25 @@ fn start<'s, E, C: Checks + Sync, G: Gate + Sync>(
 /// Starts as many workers as can be started. Where there is no memory for their handles, none is.
 fn start_all<'s, E, C: Checks + Sync, G: Gate + Sync>(
     scope: &Scope<'s, E>,
-    alloc: Global,
-    board: &'s Board,
+    shared: &Shared<'s, C, G>,
     seat: Seat,
-    checks: &'s C,
     hands: Vec<Hand>,
-    gate: &'s G,
 ) -> (Seat, Vec<Worker>)
-    requires seat { IsFree board.now seat }
-    requires truths { board.now.truths ≡ C.truths checks.now }
-    requires hands { All (λ h. h.count ≡ length board.now.truths) hands.items }
-    ensures free { IsFree board.now result.0 }
-    ensures workers { All (λ w. w.promise.0.value ≡ board.now) result.1.items }
+    requires seat { IsFree shared.now.board.now seat }
+    requires truths { shared.now.board.now.truths ≡ C.truths shared.now.checks.now }
+    requires hands { All (λ h. h.count ≡ length shared.now.board.now.truths) hands.items }
+    ensures free { IsFree shared.now.board.now result.0 }
+    ensures workers { All (λ w. w.promise.0.value ≡ shared.now.board.now) result.1.items }
 {
     let mut mine = seat;
-    let mut workers = Vec::new(alloc);
+    let mut workers = Vec::new(shared.alloc);
     if workers.reserve(hands.len()).is_err() {
         return (mine, workers);
     }
     for hand in hands {
-        let (kept, theirs) = board.split(mine);
+        let (kept, theirs) = shared.board.split(mine);
         mine = kept;
-        if let Some(worker) = start(scope, board, theirs, checks, hand, gate) {
+        if let Some(worker) = start(scope, shared, theirs, hand) {
             workers.push_reserved(worker);
         }
     }

@@ -1,6 +1,5 @@
 pub mod Bins
 pub mod Patterns
-pub mod Prefixes
 pub mod Walking
 pub mod Stack
 pub mod Starting

@@ -1,10 +1,13 @@
 -- Worked values.
 use Rattle.std.proofs.Common.{◌≡◌, ℕ, true, false, Bool, List, [], ◌∷◌, codes, Some, refl}
 use Rattle.std.specs.Str.{chars}
-use Rattle.keys.specs.Keys.{RoleKeys}
+use Rattle.keys.specs.declared.role_keys.RoleKeys.{RoleKeys}
 use Rattle.moment.specs.Moment.{Moment}
 use Rattle.meta.specs.Metadata as metadata
-use Rattle.meta.specs.Metadata.{Hashes, Target, Delegation, Header, Root, Snapshot, Targets, patterns}
+use Rattle.meta.specs.Metadata.{Delegation, Root, Snapshot, Targets, patterns}
+use Rattle.meta.specs.declared.hashes.Hashes.{Hashes}
+use Rattle.meta.specs.declared.targets.Target.{Target}
+use Rattle.meta.specs.declared.header.Header.{Header}
 use Rattle.meta.specs.declared.fault.Fault.TheVariants.{NotListed}
 use Rattle.examine.specs.Checks.{Files}
 use Rattle.deleg.specs.Bin.{first_bits, name_of}

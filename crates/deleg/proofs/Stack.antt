@@ -1,10 +1,11 @@
 -- The delegations of the files on a stack.
 use Rattle.std.proofs.Common.{◌≡◌, ℕ, ◌+◌, ◌≤◌, ◌<◌, Bool, true, false, cond, not, inl, inr, ◌&&◌, ◌||◌, List, [], ◌∷◌, ◌++◌, length, drop, filter, slice_get, Option, Some, None, option_map, Ok, Err, refl, sym, ap, ◌∙◌, arith, append-nil, append_assoc, length-append}
 use Rattle.std.proofs.lemmas.Bool.{true≢false, or_parts, and_cases, and_parts, not-true, not-false}
-use Rattle.meta.specs.Metadata.{Target, Targets}
+use Rattle.meta.specs.Metadata.{Targets}
+use Rattle.meta.specs.declared.targets.Target.{Target}
 use Rattle.meta.specs.Part.{Part}
 use Rattle.meta.specs.declared.fault.Fault.{Fault}
-use Rattle.deleg.specs.Accepted.{Accepted}
+use Rattle.deleg.specs.declared.accepted.Accepted.{Accepted}
 use Rattle.deleg.specs.Edge.{Edge, edges, followed, is_for}
 use Rattle.deleg.specs.Search.{Visited, done, settled, walk, accepting, examined, target_of, is_visited}
 use Rattle.deleg.specs.Quest.{Quest, outlook, pending, pending_with, is_passed, after_passed, IsNext, GoesOn, Ends}

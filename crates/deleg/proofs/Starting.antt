@@ -2,11 +2,13 @@
 use Rattle.std.proofs.Common.{◌≡◌, ℕ, ◌+◌, List, [], ◌∷◌, length, codes, Option, Some, None, option_map, option_and_then, Result, Ok, Err, IfOk, sym, ap, ◌∙◌}
 use Rattle.std.specs.Option.{option_map_or}
 use Rattle.moment.specs.Moment.{Moment}
-use Rattle.meta.specs.Metadata.{Root, Snapshot, Target, Targets}
+use Rattle.meta.specs.Metadata.{Root, Snapshot, Targets}
+use Rattle.meta.specs.declared.targets.Target.{Target}
 use Rattle.meta.specs.Part.{Part}
 use Rattle.examine.specs.Checks.{Files}
 use Rattle.rolechain.specs.State.{State}
-use Rattle.deleg.specs.Accepted.{Accepted, Searched}
+use Rattle.deleg.specs.Accepted.{Searched}
+use Rattle.deleg.specs.declared.accepted.Accepted.{Accepted}
 use Rattle.deleg.specs.Edge.{Edge, edges, followed}
 use Rattle.deleg.specs.Search.{done, settled, walk, target_of, search_from, search_in}
 use Rattle.deleg.specs.Quest.{Quest, outlook, pending}

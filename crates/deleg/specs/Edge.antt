@@ -3,7 +3,7 @@ use Rattle.std.specs.Prelude.{ℕ, List, [], ◌∷◌, map, filter, Bool, true}
 use Rattle.std.specs.Option.{option_map_or}
 use Rattle.std.specs.List.{list_any}
 use Rattle.std.specs.Str.{chars}
-use Rattle.keys.specs.Keys.{Key}
+use Rattle.keys.specs.declared.key.Key.{Key}
 use Rattle.meta.specs.Metadata.{Matcher, patterns, prefixes, every, begins_with, Delegation, Bins, Roles, listed, binned, Targets}
 use Rattle.deleg.specs.Bin.{bin_name}
 use Rattle.deleg.specs.Pattern.{is_match}

@@ -3,7 +3,8 @@ use Rattle.std.specs.Prelude.{◌≡◌, ℕ, ◌+◌, ◌<◌, ◌&&◌, ◌||�
 use Rattle.moment.specs.Moment.{Moment}
 use Rattle.meta.specs.Metadata.{Root, Snapshot}
 use Rattle.examine.specs.Checks.{Files}
-use Rattle.deleg.specs.Accepted.{Accepted, Searched}
+use Rattle.deleg.specs.Accepted.{Searched}
+use Rattle.deleg.specs.declared.accepted.Accepted.{Accepted}
 use Rattle.deleg.specs.Edge.{Edge, is_for}
 use Rattle.deleg.specs.Search.{walk, settled, is_visited}
 use Rattle.deleg.specs.declared.found.Found.{Found}

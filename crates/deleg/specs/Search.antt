@@ -1,15 +1,16 @@
 -- The search for a path through delegations, in preorder (TUF 1.0 section 5.6.7).
 use Rattle.std.specs.Prelude.{◌≡◌, ℕ, zero, suc, ◌+◌, ◌||◌, nat_le, if◌then◌else◌, List, [], ◌∷◌, ◌++◌, length, find, Bool, Option, Some, None, option_map, option_and_then, unwrap_or, bytes_eq, codes, Result, Ok, Err}
 use Rattle.std.specs.Option.{option_map_or}
-use Rattle.std.specs.List.{list_any}
 use Rattle.moment.specs.Moment.{Moment}
-use Rattle.meta.specs.Metadata.{Root, Snapshot, Target, Targets}
+use Rattle.meta.specs.Metadata.{Root, Snapshot, Targets}
+use Rattle.meta.specs.declared.targets.Target.{Target}
 use Rattle.meta.specs.Part.{Part}
 use Rattle.meta.specs.declared.fault.Fault.{Fault}
 use Rattle.examine.specs.Checks.{Files, targets_part}
 use Rattle.rolechain.specs.Expected.{next_targets}
 use Rattle.rolechain.specs.State.{State}
-use Rattle.deleg.specs.Accepted.{Accepted, Searched}
+use Rattle.deleg.specs.Accepted.{Searched, has_role}
+use Rattle.deleg.specs.declared.accepted.Accepted.{Accepted}
 use Rattle.deleg.specs.Edge.{Edge, followed}
 use Rattle.deleg.specs.declared.found.Found.{Found}
 use Rattle.deleg.specs.declared.found.Found.TheVariants.{Listed, NotFound, LimitReached, RoleRefused}
@@ -27,7 +28,7 @@ target_of m path = find (λ t. bytes_eq t.path path) m.targets
 
 -- the top-level role is visited first
 abbrev pub is_visited : List Accepted → List ℕ → Bool
-is_visited seen role = bytes_eq role (codes "targets") || list_any (λ a. bytes_eq a.role role) seen
+is_visited seen role = bytes_eq role (codes "targets") || has_role seen role
 
 -- ---- delegations, one after the other
 

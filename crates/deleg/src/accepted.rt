@@ -1,3 +1,5 @@
+//! Roles that a search accepted.
+
 ghost use Rattle.std.specs.Prelude.{◌≡◌, IfOk};
 
 use crate::found::Found;
@@ -8,8 +10,10 @@ use std::marker::Model;
 
 /// A delegated role that a search accepted.
 pub struct Accepted {
-    role: Text,
-    version: u64,
+    /// The role's name.
+    pub role: Text,
+    /// The version of its file.
+    pub version: u64,
 }
 
 impl Drop for Accepted {
@@ -18,44 +22,16 @@ impl Drop for Accepted {
     }
 }
 
-impl Model for Accepted {
-    ghost use Rattle.deleg.specs.Accepted as spec;
-
-    ghost Value = { spec.Accepted };
-
-    ghost view = { λ a. record { role = a.role; version = a.version } };
-}
-
 impl Accepted {
-    pub(crate) fn new(role: Text, version: u64) -> Accepted
-        ensures { result ≡ record { role = role; version = version } }
-    {
-        Accepted { role, version }
-    }
-
-    /// The role's name.
-    pub fn role(&self) -> &str
-        ensures value { result.now ≡ self.now.role }
-    {
-        self.role.as_str()
-    }
-
     /// An equal role.
     pub fn copy(&self, alloc: Global) -> Result<Accepted, NoMemory>
         ensures equal { IfOk result (λ a. a ≡ self.now) }
     {
-        let role = Text::new(String::from_str(alloc, self.role())?);
+        let role = Text::new(String::from_str(alloc, self.role.as_str())?);
         Ok(Accepted {
             role,
             version: self.version,
         })
-    }
-
-    /// The version of its file.
-    pub fn version(&self) -> u64
-        ensures value { result ≡ self.now.version }
-    {
-        self.version
     }
 }
 

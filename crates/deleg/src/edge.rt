@@ -1,3 +1,5 @@
+//! Delegations, as a search follows them.
+
 ghost use Rattle.std.specs.Prelude.{◌≡◌, IfOk, List, ℕ, length, slice_get, option_map, string_bytes};
 ghost use Rattle.std.specs.List.{list_any};
 ghost use Rattle.std.specs.Str.{chars};
@@ -118,9 +120,9 @@ pub(crate) fn is_for(edge: &Edge, path: &str) -> bool
     }
 }
 
-/// Whether one of the patterns or prefixes matches the path.
-fn is_matched(paths: &Paths, path: &str) -> bool
-    ensures { result ≡ spec.is_matched (matcher_of paths.now) path.now }
+/// Whether one of a delegation's patterns or prefixes matches the path (TUF 1.0 section 4.5).
+pub fn is_matched(paths: &Paths, path: &str) -> bool
+    ensures test { result ≡ spec.is_matched (matcher_of paths.now) path.now }
 {
     match paths {
         Paths::Patterns(patterns) => is_any_match(patterns.as_slice(), path),

@@ -1,3 +1,5 @@
+//! The files on the stack of a search, and which of their delegations are tried next.
+
 ghost use Rattle.std.specs.Prelude.{◌≡◌, IfOk, drop, slice_get, option_map};
 ghost use Rattle.deleg.specs.Edge as spec;
 ghost use Rattle.deleg.specs.Held.{held_targets};

@@ -15,7 +15,9 @@ mod walk;
 
 pub use accepted::{Accepted, Searched};
 pub use bin::bin_name;
+pub use edge::is_matched;
 pub use found::Found;
 pub use pattern::matches;
 pub use prefix::prefix_matches;
+pub use quest::{has_role, target_of};
 pub use searching::search;

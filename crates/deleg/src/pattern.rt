@@ -1,3 +1,5 @@
+//! Patterns of paths.
+
 ghost use Rattle.std.specs.Prelude.{◌≡◌, ◌==◌, ◌↔◌, ◌∷◌, [], IsTrue, MatchOption, option_map};
 ghost use Rattle.std.specs.Str.{chars};
 ghost use Rattle.deleg.specs.Pattern as spec;

@@ -1,7 +1,9 @@
-ghost use Rattle.std.specs.Prelude.{◌≡◌, bytes_eq, option_map};
-ghost use Rattle.std.specs.List.{list_any};
+//! What a search is asked, and the file of a role that it comes to.
+
+ghost use Rattle.std.specs.Prelude.{◌≡◌, option_map};
 ghost use Rattle.meta.specs.Answers.{Answers};
 ghost use Rattle.examine.specs.Expecting.{file_in};
+ghost use Rattle.deleg.specs.Accepted.{has_role};
 ghost use Rattle.deleg.specs.Search as spec;
 ghost use Rattle.deleg.specs.Values.{edge_of};
 
@@ -47,25 +49,26 @@ pub(crate) fn examine<J: Judge>(
     examine_targets(quest.alloc, &expect, quest.files, quest.moment, judge)
 }
 
-/// The target that is listed under the path.
-pub(crate) fn target_of<'a>(targets: &'a Targets, path: &str) -> Option<&'a Target>
-    ensures { option_map (λ t. t.now) result ≡ spec.target_of targets.now path.now }
+/// The target that a targets file lists under the path (TUF 1.0 section 4.5).
+pub fn target_of<'a>(targets: &'a Targets, path: &str) -> Option<&'a Target>
+    ensures value { option_map (λ t. t.now) result ≡ spec.target_of targets.now path.now }
 {
     targets
         .targets()
         .iter()
-        .find(|target| target.path() == path)
+        .find(|target| target.path.as_str() == path)
 }
 
 /// Whether the role was visited; the top-level role always was.
 pub(crate) fn is_visited(seen: &[Accepted], role: &str) -> bool
     ensures { result ≡ spec.is_visited seen.now role.now }
 {
-    role == "targets" || is_accepted(seen, role)
+    role == "targets" || has_role(seen, role)
 }
 
-fn is_accepted(seen: &[Accepted], role: &str) -> bool
-    ensures { result ≡ list_any (λ a. bytes_eq a.role role.now) seen.now }
+/// Whether the role is among those that were accepted.
+pub fn has_role(accepted: &[Accepted], role: &str) -> bool
+    ensures test { result ≡ has_role accepted.now role.now }
 {
-    seen.iter().any(|accepted| accepted.role() == role)
+    accepted.iter().any(|one| one.role.as_str() == role)
 }

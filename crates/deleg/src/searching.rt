@@ -1,3 +1,5 @@
+//! The search for a path.
+
 ghost use Rattle.std.specs.Prelude.{◌≡◌, IfOk, IsTrue, Some};
 ghost use Rattle.meta.specs.Metadata.{Snapshot};
 ghost use Rattle.examine.specs.Expecting.{file_in};

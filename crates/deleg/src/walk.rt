@@ -1,3 +1,5 @@
+//! The loop of a search over its stack.
+
 ghost use Rattle.std.specs.Prelude.{◌≡◌, ◌+◌, ◌<◌, ◌∷◌, ◌++◌, [], Some, drop, length, option_map, if◌then◌else◌, IfOk, IfSome, IfNone};
 ghost use Rattle.deleg.specs.Quest as spec;
 ghost use Rattle.deleg.specs.Search.{target_of as listed_in};
@@ -110,8 +112,11 @@ fn accept(
         (listed_in part.now.reading quest.now.path.now)) }
 {
     let name = Text::new(String::from_str(quest.alloc, role.as_str())?);
-    let version = part.reading().header().version();
-    seen.push(Accepted::new(name, version))?;
+    let version = part.reading().header().version.get();
+    seen.push(Accepted {
+        role: name,
+        version,
+    })?;
     let Some(target) = target_of(part.reading(), quest.path) else {
         return Ok(None);
     };

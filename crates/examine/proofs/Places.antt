@@ -5,7 +5,7 @@ use Rattle.std.proofs.lemmas.Iterator.Adapters.{position_from-zero}
 use Rattle.std.proofs.lemmas.List.Folds.{list_all-append}
 use Rattle.std.specs.Prelude.{not, is_none, IfSome, position}
 use Rattle.std.specs.List.{list_all, position_from}
-use Rattle.meta.specs.Metadata.{Named}
+use Rattle.meta.specs.declared.snapshot.Named.{Named}
 use Rattle.examine.specs.Checks.{is_listed_below, is_kept_by}
 
 none_or : (b : Bool) (i : ℕ) (r : Option ℕ) (others : Bool) → is_none r ≡ others → is_none (cond b (Some i) r) ≡ (not b && others)

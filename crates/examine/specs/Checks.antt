@@ -1,15 +1,22 @@
 -- The checks of one file, in order (TUF 1.0 sections 5.3 to 5.6): the first that fails is the
 -- answer.
-use Rattle.std.specs.Prelude.{ℕ, ◌&&◌, ◌||◌, ◌==◌, nat_lt, nat_le, not, if◌then◌else◌, List, Bool, true, false, Option, Some, None, Result, Ok, ⊤, bytes_eq}
+use Rattle.std.specs.Prelude.{ℕ, ◌&&◌, ◌||◌, ◌==◌, nat_lt, nat_le, not, if◌then◌else◌, List, [], ◌∷◌, Bool, true, false, Option, Some, None, Result, Ok, ⊤, bytes_eq}
 use Rattle.std.specs.List.{list_any, list_all}
 use Rattle.std.specs.Option.{option_map_or}
-use Rattle.keys.specs.Keys.{Key, RoleKeys}
+use Rattle.keys.specs.declared.key.Key.{Key}
+use Rattle.keys.specs.declared.role_keys.RoleKeys.{RoleKeys}
 use Rattle.keys.specs.Signers.{is_met}
 use Rattle.cjson.specs.Checks.{◌>>=◌, refuse_if, or_refuse}
 use Rattle.cjson.specs.Document.{Document}
 use Rattle.moment.specs.Moment.{Moment, is_before}
-use Rattle.meta.specs.Metadata.{Hashes, Listing, Header, Root, Timestamp, Named, Snapshot, Targets}
+use Rattle.meta.specs.Metadata.{Root, Timestamp, Snapshot, Targets}
+use Rattle.meta.specs.declared.hashes.Hashes.{Hashes}
+use Rattle.meta.specs.declared.listing.Listing.{Listing}
+use Rattle.meta.specs.declared.header.Header.{Header}
+use Rattle.meta.specs.declared.snapshot.Named.{Named}
+use Rattle.meta.specs.declared.targets.Target.{Target}
 use Rattle.meta.specs.Content.{content}
+use Rattle.meta.specs.Names.{target_names}
 use Rattle.meta.specs.Part.{Part, root_limit, timestamp_limit, snapshot_limit, targets_limit}
 use Rattle.meta.specs.Reads.{document_of, root_of, timestamp_of, snapshot_of, targets_of}
 use Rattle.meta.specs.declared.fault.Fault.{Fault}
@@ -193,3 +200,13 @@ targets_part e files now = do
   c ← signed_candidate targets_of targets_limit e files
   checked ← targets_checks (listed_version e.listed) c.part.reading.header now
   Ok c.part
+
+-- ---- the file of a target
+
+-- the first of the names that is there
+abbrev pub first_there : Files → List (List ℕ) → Option (List ℕ)
+first_there files [] = None
+first_there files (name ∷ names) = option_map_or Some (files name) (first_there files names)
+
+abbrev pub target_file : Files → Bool → Target → Option (List ℕ)
+target_file files consistent t = first_there files (target_names consistent t.path t.hashes.sha256 t.hashes.sha512)

@@ -1,3 +1,5 @@
+//! The examination of a file of each kind.
+
 ghost use Rattle.std.specs.Prelude.{option_map};
 ghost use Rattle.meta.specs.Answers.{Answers};
 ghost use Rattle.examine.specs.Checks as spec;

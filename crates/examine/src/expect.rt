@@ -1,3 +1,5 @@
+//! What a file is examined for.
+
 use keys::{KeyRing, RoleKeys};
 use meta::Listing;
 

@@ -1,3 +1,5 @@
+//! A file taken from the repository, with the checks that come before it is read.
+
 ghost use Rattle.std.specs.Prelude.{◌≡◌, ◌≤◌, length, Some};
 ghost use Rattle.std.specs.Result.{result_map_both};
 ghost use Rattle.meta.specs.Answers.{Answers};
@@ -94,7 +96,7 @@ fn content_of(listed: &Listed, limit: u64) -> Content
     } }
 {
     let (length, hashes) = match listed {
-        Listed::As(listing) => (listing.length(), listing.hashes()),
+        Listed::As(listing) => (listing.length, listing.hashes),
         _ => (None, None),
     };
     Content {
@@ -109,7 +111,7 @@ pub(crate) fn listed_version(listed: &Listed) -> Option<u64>
     ensures { result ≡ spec.listed_version (listed_of listed.now) }
 {
     match listed {
-        Listed::As(listing) => Some(listing.version()),
+        Listed::As(listing) => Some(listing.version.get()),
         _ => None,
     }
 }

@@ -4,6 +4,7 @@
 //! - Each kind has an examination of its own, which answers the file or its first fault:
 //!   [`examine_root`], [`examine_first_timestamp`] and [`examine_next_timestamp`] (without and with
 //!   a trusted timestamp), [`examine_snapshot`], [`examine_targets`].
+//! - [`target_file`] is the file that stands for a target.
 //! - [`is_expired`] is asked of trusted files too: of the last root, and of a timestamp that stays.
 #![tactic(auto)]
 
@@ -11,6 +12,7 @@ mod examine;
 mod expect;
 mod fetch;
 mod order;
+mod target;
 mod timing;
 
 pub use examine::{
@@ -18,4 +20,5 @@ pub use examine::{
     examine_targets,
 };
 pub use expect::{Expect, Listed};
+pub use target::target_file;
 pub use timing::is_expired;

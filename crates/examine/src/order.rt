@@ -1,3 +1,5 @@
+//! The order of the checks of a file that was read and signed.
+
 ghost use Rattle.std.specs.Prelude.{◌≡◌, option_map};
 ghost use Rattle.examine.specs.Checks as spec;
 

@@ -1,3 +1,5 @@
+//! The checks of versions, rollback and expiry.
+
 ghost use Rattle.std.specs.Prelude.{◌≡◌, ◌≤◌, ◌<◌, length, false, is_none, IfSome, position, option_map};
 ghost use Rattle.std.specs.Option.{option_map_or};
 ghost use Rattle.examine.specs.Checks as spec;
@@ -10,7 +12,7 @@ pub(crate) fn is_version_wrong(due: Option<u64>, header: &Header) -> bool
     ensures { result ≡ spec.is_version_wrong due header.now }
 {
     match due {
-        Some(due) => due != header.version(),
+        Some(due) => due != header.version.get(),
         None => false,
     }
 }
@@ -19,22 +21,22 @@ pub(crate) fn is_version_wrong(due: Option<u64>, header: &Header) -> bool
 pub fn is_expired(header: &Header, now: Moment) -> bool
     ensures test { result ≡ spec.is_expired header.now now }
 {
-    !now.is_before(header.expires())
+    !now.is_before(header.expires)
 }
 
 /// Whether the timestamp has the version of the trusted one.
 pub(crate) fn is_again(old: &Timestamp, new: &Timestamp) -> bool
     ensures { result ≡ spec.is_again old.now new.now }
 {
-    new.header().version() == old.header().version()
+    new.header().version.get() == old.header().version.get()
 }
 
 /// Whether the timestamp, or the snapshot that it lists, falls below the trusted one.
 pub(crate) fn is_earlier(old: &Timestamp, new: &Timestamp) -> bool
     ensures { result ≡ spec.is_earlier old.now new.now }
 {
-    new.header().version() < old.header().version()
-        || new.snapshot().version() < old.snapshot().version()
+    new.header().version.get() < old.header().version.get()
+        || new.snapshot().version.get() < old.snapshot().version.get()
 }
 
 /// Whether the snapshot leaves out a name of the trusted one, or lowers its version.
@@ -89,5 +91,5 @@ fn first_kept(files: &[Named], old: &Named) -> Option<usize>
 fn is_kept_by(old: &Named, new: &Named) -> bool
     ensures { result ≡ spec.is_kept_by old.now new.now }
 {
-    new.name() == old.name() && old.listing().version() <= new.listing().version()
+    new.name.as_str() == old.name.as_str() && old.listing.version.get() <= new.listing.version.get()
 }

@@ -10,7 +10,7 @@ use Rattle.std.proofs.Common.{bytes_eq}
 use Rattle.std.proofs.lemmas.Map.Text.{is_eq-slice_cmp}
 use Rattle.std.specs.FinSet as set
 use Rattle.std.specs.FinSet.{FinSet, nat_cmp-IsAntisymmetric, slice_cmp-IsAntisymmetric}
-use Rattle.keys.specs.Keys.{Key}
+use Rattle.keys.specs.declared.key.Key.{Key}
 
 abbrev pub Values : Type 0
 Values = FinSet (slice_cmp nat_cmp)

@@ -6,7 +6,7 @@ use Rattle.std.specs.Ordering.{nat_cmp}
 use Rattle.std.specs.Cmp.Lexicographic.{slice_cmp}
 use Rattle.std.specs.BTreeMap.{BTreeMap, get_by}
 use Rattle.std.specs.BTreeSet.{BTreeSet, contains_by}
-use Rattle.cjson.specs.Entry.{Entry}
+use Rattle.cjson.specs.declared.doc.Entry.{Entry}
 use Rattle.keys.specs.declared.entries.Placed.{Placed}
 use denote.Ref.{Bor}
 

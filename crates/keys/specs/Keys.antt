@@ -8,16 +8,8 @@ use Rattle.cjson.specs.Option.{◌>>=◌}
 use Rattle.cjson.specs.Canon.{canon}
 use Rattle.cjson.specs.Form.{Form, guard, has_text, needed, list, members, text, whole, hex_bytes}
 use Rattle.lms.specs.Lms.{public_of}
-
--- a usable key of a ring: its id and the 56 bytes of its public value
-pub record Key : Type 0 where
-  pub id : List ℕ
-  pub public : List ℕ
-
--- which keys a role lists, and how many must sign
-pub record RoleKeys : Type 0 where
-  pub ids : List (List ℕ)
-  pub threshold : ℕ
+use Rattle.keys.specs.declared.key.Key.{Key}
+use Rattle.keys.specs.declared.role_keys.RoleKeys.{RoleKeys}
 
 -- the id of a key: the SHA-256 of its canonical text, in lower-case hexadecimal (section 4.2)
 abbrev pub key_id : Data → Option (List ℕ)

@@ -6,9 +6,10 @@ use Rattle.std.specs.Cmp.Lexicographic.{slice_cmp}
 use Rattle.std.specs.FinSet as set
 use Rattle.hex.specs.Hex.{decode_of}
 use Rattle.hex.specs.declared.error.FromHexError.{FromHexError}
-use Rattle.cjson.specs.Entry.{Entry}
+use Rattle.cjson.specs.declared.doc.Entry.{Entry}
 use Rattle.lms.specs.Lms.{is_valid}
-use Rattle.keys.specs.Keys.{Key, RoleKeys}
+use Rattle.keys.specs.declared.key.Key.{Key}
+use Rattle.keys.specs.declared.role_keys.RoleKeys.{RoleKeys}
 
 abbrev pub is_valid_decoded : List ℕ → List ℕ → Result (List ℕ) FromHexError → Bool
 is_valid_decoded public message (Ok bytes) = is_valid public message bytes

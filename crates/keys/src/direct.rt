@@ -1,3 +1,5 @@
+//! The judge that decides by itself.
+
 ghost use Rattle.std.specs.Prelude.{◌≡◌, Ok, bytes_eq};
 ghost use Rattle.keys.specs.Signers.{is_signed_by};
 ghost use Rattle.keys.specs.Truth.{truth, digest_by};

@@ -1,3 +1,5 @@
+//! A document's entries by the ids of their keys.
+
 ghost use Rattle.std.specs.Prelude.{◌≡◌, IfOk, map};
 ghost use Rattle.cjson.specs.DocOf.{doc_of};
 ghost use Rattle.keys.specs.ById.{IsById, placed_of, sigs_under};
@@ -26,9 +28,9 @@ impl<'a> Entries<'a> {
     {
         let mut by_id: BTreeMap<&'a str, Vec<Placed<'a>>> = BTreeMap::new(alloc);
         for (place, entry) in doc.entries().iter().enumerate() {
-            let sig = entry.sig();
+            let sig = entry.sig.as_str();
             by_id
-                .entry(entry.keyid())?
+                .entry(entry.keyid.as_str())?
                 .or_default()
                 .push(Placed { place, sig })?;
         }

@@ -1,3 +1,5 @@
+//! Questions about signatures and digests, and who answers them.
+
 ghost use Rattle.std.specs.Prelude.{◌≡◌, ◌↔◌, IsTrue, IfOk};
 ghost use Rattle.keys.specs.Truth.{IsSame, truth};
 

@@ -1,3 +1,5 @@
+//! A single usable key.
+
 ghost use Rattle.std.specs.Prelude.{◌≡◌, IfOk, string_bytes};
 ghost use Rattle.serde_json.specs.View.{view};
 ghost use Rattle.keys.specs.Keys as spec;
@@ -10,42 +12,19 @@ use lms::Public;
 use serde_json::Value;
 use sha2::{Digest, Sha256};
 use std::alloc::Global;
-use std::marker::Model;
 
 /// A usable key: of type `lms` and scheme `lms-sha256`, with a public value of a supported kind,
 /// under its own id (TUF 1.0 section 4.2).
 pub struct Key {
-    id: Text,
-    public: Public,
+    /// The key's id: 64 lower-case hexadecimal digits.
+    pub id: Text,
+    /// The public value.
+    pub public: Public,
 }
 
 impl Drop for Key {
     fn drop(self) {
         let Key { id, public } = self;
-    }
-}
-
-impl Model for Key {
-    ghost use Rattle.keys.specs.Keys as spec;
-
-    ghost Value = { spec.Key };
-
-    ghost view = { λ a. record { id = a.id; public = a.public } };
-}
-
-impl Key {
-    /// The key's id: 64 lower-case hexadecimal digits.
-    pub fn id(&self) -> &str
-        ensures value { result.now ≡ self.now.id }
-    {
-        self.id.as_str()
-    }
-
-    /// The public value, of 56 bytes.
-    pub fn public(&self) -> &Public
-        ensures value { result.now ≡ self.now.public }
-    {
-        &self.public
     }
 }
 

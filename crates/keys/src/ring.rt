@@ -1,3 +1,5 @@
+//! The usable keys of a file, by id.
+
 ghost use Rattle.std.specs.Prelude.{◌≡◌, IfOk};
 ghost use Rattle.serde_json.specs.View.{view};
 ghost use Rattle.cjson.specs.Reads.{Reads};
@@ -27,9 +29,9 @@ impl Drop for KeyRing {
 
 impl Model for KeyRing {
     ghost use Rattle.std.specs.Prelude.{List};
-    ghost use Rattle.keys.specs.Keys as spec;
+    ghost use Rattle.keys.specs.declared.key.Key as listed;
 
-    ghost Value = { List spec.Key };
+    ghost Value = { List listed.Key };
 
     ghost view = { λ a. a.keys.items };
 }
@@ -73,9 +75,9 @@ struct ListedKey {
 
 impl Model for ListedKey {
     ghost use Rattle.std.specs.Prelude.{Option};
-    ghost use Rattle.keys.specs.Keys as spec;
+    ghost use Rattle.keys.specs.declared.key.Key as listed;
 
-    ghost Value = { Option spec.Key };
+    ghost Value = { Option listed.Key };
 
     ghost view = { λ a. a.key };
 }

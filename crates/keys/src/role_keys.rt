@@ -1,3 +1,5 @@
+//! Which keys a role lists, and its threshold.
+
 ghost use Rattle.std.specs.Prelude.{◌≡◌, ℕ, List, IfOk, bytes_eq};
 ghost use Rattle.std.specs.List.{list_any};
 ghost use Rattle.serde_json.specs.View.{view};
@@ -12,26 +14,19 @@ use cjson::{Misread, NoMemory};
 use serde_json::Value;
 use std::alloc::Global;
 use std::collections::BTreeSet;
-use std::marker::Model;
 
 /// Which keys a role lists, by their ids, and how many of them must sign (TUF 1.0 section 4.3).
 pub struct RoleKeys {
-    ids: Items<Text>,
-    threshold: Positive,
+    /// The listed ids, as the file lists them: some may be repeated or unknown.
+    pub ids: Items<Text>,
+    /// How many keys must sign.
+    pub threshold: Positive,
 }
 
 impl Drop for RoleKeys {
     fn drop(self) {
         let RoleKeys { ids, threshold } = self;
     }
-}
-
-impl Model for RoleKeys {
-    ghost use Rattle.keys.specs.Keys as spec;
-
-    ghost Value = { spec.RoleKeys };
-
-    ghost view = { λ a. record { ids = a.ids; threshold = a.threshold } };
 }
 
 impl RoleKeys {
@@ -43,30 +38,16 @@ impl RoleKeys {
         if_formed(RoleKeys::from_json(alloc, value))
     }
 
-    /// The listed ids, as the file lists them: some may be repeated or unknown.
-    pub fn ids(&self) -> &[Text]
-        ensures value { result.now ≡ self.now.ids }
-    {
-        self.ids.as_slice()
-    }
-
     /// The set of the listed ids, in which one is found at the price of a few comparisons.
     pub(crate) fn id_set(&self, alloc: Global) -> Result<BTreeSet<&str>, NoMemory>
         ensures ids { IfOk result (λ s. (id : List ℕ)
             → has_id s id ≡ list_any (bytes_eq id) self.now.ids) }
     {
         let mut ids: BTreeSet<&str> = BTreeSet::new(alloc);
-        for id in self.ids() {
+        for id in self.ids.as_slice() {
             ids.insert(id.as_str())?;
         }
         Ok(ids)
-    }
-
-    /// How many keys must sign, 1 to 9223372036854775807.
-    pub fn threshold(&self) -> u64
-        ensures value { result ≡ self.now.threshold }
-    {
-        self.threshold.get()
     }
 }
 

@@ -1,3 +1,5 @@
+//! Sets of public values.
+
 ghost use Rattle.std.specs.Prelude.{◌≡◌, OnOk, OnErr, bytes_eq};
 ghost use Rattle.std.specs.List.{list_any};
 ghost use Rattle.std.specs.FinSet as set;

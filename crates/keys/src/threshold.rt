@@ -1,3 +1,5 @@
+//! Whether enough keys signed a document.
+
 ghost use Rattle.std.specs.Prelude.{◌≡◌, ◌&&◌, IfOk};
 ghost use Rattle.cjson.specs.DocOf.{doc_of};
 ghost use Rattle.keys.specs.ById.{IsById, has_id};
@@ -35,14 +37,14 @@ pub fn enough<J: Judge>(
     let entries = Entries::of(alloc, doc)?;
     let mut signers = Signers::new(alloc);
     for key in ring.keys() {
-        if signers.len() as u64 >= role.threshold() {
+        if signers.len() as u64 >= role.threshold.get() {
             return Ok(true);
         }
         if has_signed(doc, file, &listed, &entries, key, judge)? {
-            signers.add(key.public())?;
+            signers.add(&key.public)?;
         }
     }
-    Ok(signers.len() as u64 >= role.threshold())
+    Ok(signers.len() as u64 >= role.threshold.get())
 }
 
 /// Whether the key's id is listed, and an entry under it has a valid signature.
@@ -58,7 +60,7 @@ fn has_signed<J: Judge>(
     ensures { IfOk result (λ b. b ≡ (has_id listed.now key.now.id
         && spec.has_entry (doc_of doc.now).text (doc_of doc.now).entries key.now)) }
 {
-    Ok(listed.contains(key.id()) && has_entry(doc, file, entries, key, judge)?)
+    Ok(listed.contains(key.id.as_str()) && has_entry(doc, file, entries, key, judge)?)
 }
 
 /// Whether an entry under the key's id has a valid signature.
@@ -73,7 +75,7 @@ fn has_entry<J: Judge>(
     ensures { IfOk result
         (λ b. b ≡ spec.has_entry (doc_of doc.now).text (doc_of doc.now).entries key.now) }
 {
-    let Some(under) = entries.under(key.id()) else {
+    let Some(under) = entries.under(key.id.as_str()) else {
         return Ok(false);
     };
     let message = doc.bytes();
@@ -81,7 +83,7 @@ fn has_entry<J: Judge>(
         if judge.valid(&Ask::Signature {
             file,
             place: placed.place,
-            public: key.public(),
+            public: &key.public,
             message,
             sig: placed.sig,
         })? {

@@ -9,7 +9,7 @@ use Rattle.serde_json.specs.Data.{Data, Items, no_items, item}
 use Rattle.serde_json.specs.View.{view, items_view}
 use Rattle.serde_json.specs.declared.value.Value.{Value}
 use Rattle.cjson.specs.Canon.{canon, has_whole_numbers, items_are_whole, is_ordered, items_are_ordered}
-use Rattle.cjson.specs.Entry.{Entry}
+use Rattle.cjson.specs.declared.doc.Entry.{Entry}
 use Rattle.cjson.proofs.OnLiterals.{cjson_on_literals}
 use Rattle.maker.specs.declared.signer.Signer.{Signer}
 use Rattle.maker.specs.Sealed.{Holder, HasSpent, IsSignedAt, IsSignedBy, IsOverspent, entry_object, entry_objects, holder, sealed, spend, used_of}

@@ -4,7 +4,7 @@ use Rattle.std.specs.List.{AllZip}
 use Rattle.serde_json.specs.Data.{Data, string, array, object, Items, no_items, item, no_members, member}
 use Rattle.hex.specs.Hex.{encode_lower}
 use Rattle.cjson.specs.Canon.{canon}
-use Rattle.cjson.specs.Entry.{Entry}
+use Rattle.cjson.specs.declared.doc.Entry.{Entry}
 use Rattle.lms.specs.Kind.{levels}
 use Rattle.lms.specs.Lms.{is_valid}
 use Rattle.lms.specs.Signer.{public_of}

@@ -5,7 +5,7 @@ ghost use Rattle.std.specs.List.{AllZip};
 ghost use Rattle.serde_json.specs.Find.{as_object};
 ghost use Rattle.serde_json.specs.View.{view, items_view};
 ghost use Rattle.cjson.specs.Canon.{canon};
-ghost use Rattle.cjson.specs.Entry.{Entry};
+ghost use Rattle.cjson.specs.declared.doc.Entry.{Entry};
 ghost use Rattle.maker.specs.Sealed.{HasSpent, IsOverspent, IsSealed, IsSignedAt, IsSignedBy, entry_object, entry_objects, holder, sealed, spend, used_of};
 
 use crate::fault::MakeFault;

@@ -4,7 +4,7 @@ use Rattle.std.specs.Option.{option_map_or}
 use Rattle.keys.specs.Truth.{digest_by}
 use Rattle.keys.specs.declared.judge.Algorithm.TheVariants.{Sha256, Sha512}
 use Rattle.cjson.specs.Checks.{◌>>=◌, refuse_if}
-use Rattle.meta.specs.Metadata.{Hashes}
+use Rattle.meta.specs.declared.hashes.Hashes.{Hashes}
 use Rattle.meta.specs.declared.fault.Fault.{Fault}
 use Rattle.meta.specs.declared.fault.Fault.TheVariants.{TooLong, LengthWrong, HashWrong, NoKnownHash}
 

@@ -5,25 +5,15 @@ use Rattle.serde_json.specs.Data.{Data}
 use Rattle.serde_json.specs.Find.{as_str, as_bool, as_number, as_u64, as_object}
 use Rattle.cjson.specs.Option.{◌>>=◌}
 use Rattle.cjson.specs.Form.{Form, guard, all_members, has_text, needed, optional, list, members, text, whole, hex_bytes}
-use Rattle.keys.specs.Keys.{Key, RoleKeys, ring, role_keys}
+use Rattle.keys.specs.Keys.{ring, role_keys}
+use Rattle.keys.specs.declared.key.Key.{Key}
+use Rattle.keys.specs.declared.role_keys.RoleKeys.{RoleKeys}
 use Rattle.moment.specs.Moment.{Moment, moment_of, is_digit}
-
--- the listed digests of the known algorithms (section 4.4)
-pub record Hashes : Type 0 where
-  pub sha256 : Option (List ℕ)
-  pub sha512 : Option (List ℕ)
-
--- how a file is listed by another (section 4.4)
-pub record Listing : Type 0 where
-  pub version : ℕ
-  pub length : Option ℕ
-  pub hashes : Option Hashes
-
--- a listed target (section 4.5)
-pub record Target : Type 0 where
-  pub path : List ℕ
-  pub length : ℕ
-  pub hashes : Hashes
+use Rattle.meta.specs.declared.hashes.Hashes.{Hashes}
+use Rattle.meta.specs.declared.header.Header.{Header}
+use Rattle.meta.specs.declared.listing.Listing.{Listing}
+use Rattle.meta.specs.declared.snapshot.Named.{Named}
+use Rattle.meta.specs.declared.targets.Target.{Target}
 
 -- what a delegation says of the paths that it is for (section 4.5); that to a bin is for every path
 pub data Matcher : Type 0 where
@@ -52,11 +42,6 @@ pub record Delegations : Type 0 where
   pub ring : List Key
   pub roles : Roles
 
--- what all kinds have
-pub record Header : Type 0 where
-  pub version : ℕ
-  pub expires : Moment
-
 -- section 4.3
 pub record Root : Type 0 where
   pub header : Header
@@ -71,10 +56,6 @@ pub record Root : Type 0 where
 pub record Timestamp : Type 0 where
   pub header : Header
   pub snapshot : Listing
-
-pub record Named : Type 0 where
-  pub name : List ℕ
-  pub listing : Listing
 
 -- section 4.4
 pub record Snapshot : Type 0 where

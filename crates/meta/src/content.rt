@@ -1,3 +1,5 @@
+//! The checks of length and digests.
+
 ghost use Rattle.std.specs.Prelude.{◌≡◌, IfOk, not, bytes_eq};
 ghost use Rattle.cjson.specs.Checks.{refuse_if};
 ghost use Rattle.keys.specs.Truth.{digest_by};
@@ -8,6 +10,7 @@ ghost use Rattle.keys.specs.declared.judge.Algorithm.TheVariants.{Sha256, Sha512
 use crate::fault::{Fault, Stop};
 use crate::hashes::Hashes;
 use cjson::NoMemory;
+use cjson::number::Length;
 use keys::{Algorithm, Ask, Judge};
 
 /// What may be listed of a file's content, beside the limit of its kind.
@@ -16,7 +19,7 @@ pub struct Content {
     /// The most bytes, where there is a limit.
     pub limit: Option<u64>,
     /// The length in bytes, where it is listed.
-    pub length: Option<u64>,
+    pub length: Option<Length>,
     /// The digests, where they are listed.
     pub hashes: Option<Hashes>,
 }
@@ -26,7 +29,8 @@ impl Content {
     /// digests that are listed: the first of these checks that fails (TUF 1.0 sections 5.3 to 5.7).
     pub fn check<J: Judge>(&self, file: &str, bytes: &[u8], judge: &mut J) -> Result<(), Stop>
         ensures answer { Answers
-            (spec.content self.now.limit self.now.length self.now.hashes bytes.now) result (λ x. x) }
+            (spec.content self.now.limit self.now.length self.now.hashes bytes.now)
+            result (λ x. x) }
     {
         refuse_if(is_too_long(self.limit, bytes), Fault::TooLong)?;
         refuse_if(is_length_wrong(self.length, bytes), Fault::LengthWrong)?;
@@ -58,11 +62,11 @@ fn is_too_long(limit: Option<u64>, bytes: &[u8]) -> bool
     }
 }
 
-fn is_length_wrong(length: Option<u64>, bytes: &[u8]) -> bool
+fn is_length_wrong(length: Option<Length>, bytes: &[u8]) -> bool
     ensures { result ≡ spec.is_length_wrong length bytes.now }
 {
     match length {
-        Some(length) => length != bytes.len() as u64,
+        Some(length) => length.get() != bytes.len() as u64,
         None => false,
     }
 }
@@ -70,7 +74,7 @@ fn is_length_wrong(length: Option<u64>, bytes: &[u8]) -> bool
 fn has_no_known_hash(hashes: &Hashes) -> bool
     ensures { result ≡ spec.has_no_known_hash hashes.now }
 {
-    hashes.sha256().is_none() && hashes.sha512().is_none()
+    hashes.sha256.is_none() && hashes.sha512.is_none()
 }
 
 fn is_hash_wrong<J: Judge>(
@@ -92,10 +96,10 @@ fn is_sha256_wrong<J: Judge>(
 ) -> Result<bool, NoMemory>
     ensures { IfOk result (λ b. b ≡ spec.differs hashes.now.sha256 (digest_by Sha256 bytes.now)) }
 {
-    let Some(digest) = hashes.sha256() else {
-        return Ok(false);
-    };
-    differs(Algorithm::Sha256, file, bytes, &digest, judge)
+    match &hashes.sha256 {
+        Some(digest) => differs(Algorithm::Sha256, file, bytes, digest, judge),
+        None => Ok(false),
+    }
 }
 
 fn is_sha512_wrong<J: Judge>(
@@ -106,10 +110,10 @@ fn is_sha512_wrong<J: Judge>(
 ) -> Result<bool, NoMemory>
     ensures { IfOk result (λ b. b ≡ spec.differs hashes.now.sha512 (digest_by Sha512 bytes.now)) }
 {
-    let Some(digest) = hashes.sha512() else {
-        return Ok(false);
-    };
-    differs(Algorithm::Sha512, file, bytes, &digest, judge)
+    match &hashes.sha512 {
+        Some(digest) => differs(Algorithm::Sha512, file, bytes, digest, judge),
+        None => Ok(false),
+    }
 }
 
 /// Whether the digest isn't that of the bytes.

@@ -1,4 +1,6 @@
-ghost use Rattle.std.specs.Prelude.{◌≡◌};
+//! A delegation, and the paths that it is for.
+
+ghost use Rattle.std.specs.Prelude.{◌≡◌, true};
 ghost use Rattle.std.specs.List.{list_all};
 ghost use Rattle.serde_json.specs.View.{view};
 ghost use Rattle.meta.specs.Metadata as spec;
@@ -14,7 +16,7 @@ use serde_json::Value;
 use std::alloc::Global;
 use std::marker::Model;
 
-/// A pattern of paths.
+/// A pattern of paths, without a `[`.
 pub struct PathPattern {
     text: Text,
 }
@@ -26,17 +28,21 @@ impl Drop for PathPattern {
 }
 
 impl Model for PathPattern {
-    ghost use Rattle.std.specs.Prelude.{List, ℕ};
+    ghost use Rattle.std.specs.Prelude.{◌≡◌, List, ℕ, true};
+    ghost use Rattle.meta.specs.Metadata as spec;
 
     ghost Value = { List ℕ };
 
     ghost view = { λ p. p.text };
+
+    ghost invariant = { λ p. spec.is_pattern p.text ≡ true };
 }
 
 impl PathPattern {
     /// The pattern's text.
     pub fn as_str(&self) -> &str
         ensures value { result.now ≡ self.now }
+        ensures form { spec.is_pattern result.now ≡ true }
     {
         self.text.as_str()
     }
@@ -60,7 +66,7 @@ fn is_pattern(text: &str) -> bool
     text.as_bytes().iter().all(|c| *c != b'[')
 }
 
-/// The beginning of a path's digest.
+/// The beginning of a path's digest: 1 to 64 digits of `0` to `9` and `a` to `f`.
 pub struct HashPrefix {
     text: Text,
 }
@@ -72,17 +78,21 @@ impl Drop for HashPrefix {
 }
 
 impl Model for HashPrefix {
-    ghost use Rattle.std.specs.Prelude.{List, ℕ};
+    ghost use Rattle.std.specs.Prelude.{◌≡◌, List, ℕ, true};
+    ghost use Rattle.meta.specs.Metadata as spec;
 
     ghost Value = { List ℕ };
 
     ghost view = { λ p. p.text };
+
+    ghost invariant = { λ p. spec.is_prefix p.text ≡ true };
 }
 
 impl HashPrefix {
-    /// The first digits of the digest, 1 to 64.
+    /// The first digits of the digest.
     pub fn digits(&self) -> &str
         ensures value { result.now ≡ self.now }
+        ensures form { spec.is_prefix result.now ≡ true }
     {
         self.text.as_str()
     }

@@ -1,3 +1,5 @@
+//! The faults of files.
+
 ghost use Rattle.std.specs.Prelude.{◌≡◌};
 ghost use Rattle.meta.specs.Reads.{read_fault};
 ghost use Rattle.meta.specs.Answers.{stop_of};
@@ -9,29 +11,40 @@ use thiserror::Error;
 
 /// Why a file is refused (TUF 1.0 section 5): the first check that it fails, in this order of
 /// the checks: listed, present, limit, length, hashes, form, signatures, version, rollback, expiry.
-#[derive(Clone, Copy, Debug, PartialEq, Eq)]
+#[derive(Clone, Copy, Debug, PartialEq, Eq, Error)]
 pub enum Fault {
     /// The snapshot has no listing for the role.
+    #[error("not listed")]
     NotListed = 1,
     /// The repository has no file of that name.
+    #[error("missing")]
     Missing = 2,
     /// The file is longer than its kind's limit.
+    #[error("over the limit")]
     TooLong = 3,
     /// The file has another length than listed.
+    #[error("of another length than listed")]
     LengthWrong = 4,
     /// A listed digest of a known algorithm isn't the file's.
+    #[error("of another digest than listed")]
     HashWrong = 5,
     /// Digests are listed, and none of a known algorithm.
+    #[error("listed without a known digest")]
     NoKnownHash = 6,
     /// The file hasn't the form of its kind.
+    #[error("not of the form")]
     Malformed = 7,
     /// Fewer distinct keys signed than the role asks for.
+    #[error("signed by too few keys")]
     Unsigned = 8,
     /// The version isn't the one that is due.
+    #[error("of another version than due")]
     VersionWrong = 9,
     /// The file falls below what is trusted, or leaves out a name.
+    #[error("below what is trusted")]
     Rollback = 10,
     /// The file expires no later than the moment.
+    #[error("expired")]
     Expired = 11,
 }
 

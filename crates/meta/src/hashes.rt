@@ -1,3 +1,5 @@
+//! Listed digests.
+
 ghost use Rattle.std.specs.Prelude.{◌≡◌, is_some};
 ghost use Rattle.serde_json.specs.Find.{as_str};
 ghost use Rattle.serde_json.specs.View.{view, members_view};
@@ -8,39 +10,14 @@ use cjson::Misread;
 use cjson::form::{FromJson, optional};
 use serde_json::{Map, Value};
 use std::alloc::Global;
-use std::marker::Model;
 
 /// The listed digests of the known algorithms (TUF 1.0 section 4.4).
 #[derive(Clone, Copy)]
 pub struct Hashes {
-    sha256: Option<[u8; 32]>,
-    sha512: Option<[u8; 64]>,
-}
-
-impl Model for Hashes {
-    ghost use Rattle.meta.specs.Metadata as spec;
-
-    ghost Value = { spec.Hashes };
-
-    ghost view = { λ a. record { sha256 = a.sha256; sha512 = a.sha512 } };
-
-    ghost inverse = { λ a. record { sha256 = a.sha256; sha512 = a.sha512 } };
-}
-
-impl Hashes {
-    /// The SHA-256 digest, 32 bytes, where it is listed.
-    pub fn sha256(&self) -> Option<[u8; 32]>
-        ensures value { result ≡ self.now.sha256 }
-    {
-        self.sha256
-    }
-
-    /// The SHA-512 digest, 64 bytes, where it is listed.
-    pub fn sha512(&self) -> Option<[u8; 64]>
-        ensures value { result ≡ self.now.sha512 }
-    {
-        self.sha512
-    }
+    /// The SHA-256 digest, where it is listed.
+    pub sha256: Option<[u8; 32]>,
+    /// The SHA-512 digest, where it is listed.
+    pub sha512: Option<[u8; 64]>,
 }
 
 impl FromJson for Hashes {

@@ -1,3 +1,5 @@
+//! The members that all kinds of metadata have.
+
 ghost use Rattle.std.specs.Prelude.{◌≡◌, codes};
 ghost use Rattle.serde_json.specs.View.{view};
 ghost use Rattle.cjson.specs.Form as form_of;
@@ -11,39 +13,14 @@ use cjson::text::is_text;
 use moment::Moment;
 use serde_json::Value;
 use std::alloc::Global;
-use std::marker::Model;
 
 /// What all kinds of metadata have (TUF 1.0 section 4.3).
 #[derive(Clone, Copy)]
 pub struct Header {
-    version: Positive,
-    expires: Moment,
-}
-
-impl Model for Header {
-    ghost use Rattle.meta.specs.Metadata as spec;
-
-    ghost Value = { spec.Header };
-
-    ghost view = { λ a. record { version = a.version; expires = a.expires } };
-
-    ghost inverse = { λ a. record { version = a.version; expires = a.expires } };
-}
-
-impl Header {
-    /// The version, 1 to 9223372036854775807.
-    pub fn version(&self) -> u64
-        ensures value { result ≡ self.now.version }
-    {
-        self.version.get()
-    }
-
+    /// The version.
+    pub version: Positive,
     /// The first moment at which the file is expired.
-    pub fn expires(&self) -> Moment
-        ensures value { result ≡ self.now.expires }
-    {
-        self.expires
-    }
+    pub expires: Moment,
 }
 
 pub(crate) fn read_header(alloc: Global, kind: &str, value: &Value) -> Result<Header, Misread>

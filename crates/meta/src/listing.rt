@@ -1,3 +1,5 @@
+//! How one file is listed by another.
+
 ghost use Rattle.std.specs.Prelude.{◌≡◌};
 ghost use Rattle.meta.specs.Answers.{Answers};
 ghost use Rattle.meta.specs.Content.{content};
@@ -12,51 +14,19 @@ use cjson::number::{Length, Positive};
 use keys::Judge;
 use serde_json::Value;
 use std::alloc::Global;
-use std::marker::Model;
 
 /// How a file is listed by another (TUF 1.0 section 4.4).
 #[derive(Clone, Copy)]
 pub struct Listing {
-    version: Positive,
-    length: Option<Length>,
-    hashes: Option<Hashes>,
-}
-
-impl Model for Listing {
-    ghost use Rattle.meta.specs.Metadata as spec;
-
-    ghost Value = { spec.Listing };
-
-    ghost view = { λ a. record { version = a.version; length = a.length; hashes = a.hashes } };
-
-    ghost inverse = { λ a. record { version = a.version; length = a.length; hashes = a.hashes } };
+    /// The version of the file.
+    pub version: Positive,
+    /// The length in bytes, where it is listed.
+    pub length: Option<Length>,
+    /// The digests, where they are listed.
+    pub hashes: Option<Hashes>,
 }
 
 impl Listing {
-    /// The version of the file, 1 to 9223372036854775807.
-    pub fn version(&self) -> u64
-        ensures value { result ≡ self.now.version }
-    {
-        self.version.get()
-    }
-
-    /// The length in bytes, where it is listed.
-    pub fn length(&self) -> Option<u64>
-        ensures value { result ≡ self.now.length }
-    {
-        match &self.length {
-            Some(length) => Some(length.get()),
-            None => None,
-        }
-    }
-
-    /// The listed digests, where they are listed.
-    pub fn hashes(&self) -> Option<Hashes>
-        ensures value { result ≡ self.now.hashes }
-    {
-        self.hashes
-    }
-
     /// Whether the bytes of a file of that name are within the limit, and have the listed length
     /// and digests: the first of these checks that fails (TUF 1.0 sections 5.5 to 5.7).
     pub fn check<J: Judge>(
@@ -71,7 +41,7 @@ impl Listing {
     {
         let listed = Content {
             limit,
-            length: self.length(),
+            length: self.length,
             hashes: self.hashes,
         };
         listed.check(file, bytes, judge)

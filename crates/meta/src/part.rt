@@ -1,3 +1,5 @@
+//! A file together with what is read from it.
+
 ghost use Rattle.std.specs.Prelude.{◌≡◌, ◌≤◌, ℕ, length, Result, Ok, IfOk};
 ghost use Rattle.cjson.specs.Document.{Document};
 ghost use Rattle.cjson.specs.DocOf.{doc_of};

@@ -1,3 +1,5 @@
+//! A repository in memory.
+
 use std::collections::BTreeMap;
 
 /// An update repository that lies in a folder: metadata files and target files by their names.

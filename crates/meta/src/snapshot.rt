@@ -1,3 +1,5 @@
+//! Snapshot files.
+
 ghost use Rattle.std.specs.Prelude.{◌≡◌};
 ghost use Rattle.serde_json.specs.View.{view};
 ghost use Rattle.meta.specs.Metadata as spec;
@@ -19,37 +21,15 @@ use std::marker::Model;
 
 /// A file's name with its listing (TUF 1.0 section 4.4).
 pub struct Named {
-    name: Text,
-    listing: Listing,
+    /// The name of the file, without its version.
+    pub name: Text,
+    /// How the file is listed.
+    pub listing: Listing,
 }
 
 impl Drop for Named {
     fn drop(self) {
         let Named { name, listing } = self;
-    }
-}
-
-impl Model for Named {
-    ghost use Rattle.meta.specs.Metadata as spec;
-
-    ghost Value = { spec.Named };
-
-    ghost view = { λ a. record { name = a.name; listing = a.listing } };
-}
-
-impl Named {
-    /// The name of the file, without its version.
-    pub fn name(&self) -> &str
-        ensures value { result.now ≡ self.now.name }
-    {
-        self.name.as_str()
-    }
-
-    /// How the file is listed.
-    pub fn listing(&self) -> &Listing
-        ensures value { result.now ≡ self.now.listing }
-    {
-        &self.listing
     }
 }
 

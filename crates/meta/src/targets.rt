@@ -1,3 +1,5 @@
+//! Targets files, top-level and delegated.
+
 ghost use Rattle.std.specs.Prelude.{◌≡◌, IfOk, Some, option_map};
 ghost use Rattle.serde_json.specs.View.{view};
 ghost use Rattle.meta.specs.Answers.{Answers};
@@ -25,9 +27,12 @@ use std::marker::Model;
 
 /// A listed target (TUF 1.0 section 4.5).
 pub struct Target {
-    path: Text,
-    length: Length,
-    hashes: Hashes,
+    /// The target's path.
+    pub path: Text,
+    /// The file's length in bytes.
+    pub length: Length,
+    /// The file's digests.
+    pub hashes: Hashes,
 }
 
 impl Drop for Target {
@@ -40,41 +45,12 @@ impl Drop for Target {
     }
 }
 
-impl Model for Target {
-    ghost use Rattle.meta.specs.Metadata as spec;
-
-    ghost Value = { spec.Target };
-
-    ghost view = { λ a. record { path = a.path; length = a.length; hashes = a.hashes } };
-}
-
 impl Target {
-    /// The target's path.
-    pub fn path(&self) -> &str
-        ensures value { result.now ≡ self.now.path }
-    {
-        self.path.as_str()
-    }
-
-    /// The file's length in bytes.
-    pub fn length(&self) -> u64
-        ensures value { result ≡ self.now.length }
-    {
-        self.length.get()
-    }
-
-    /// The file's digests.
-    pub fn hashes(&self) -> Hashes
-        ensures value { result ≡ self.now.hashes }
-    {
-        self.hashes
-    }
-
     /// An equal target.
     pub fn copy(&self, alloc: Global) -> Result<Target, NoMemory>
         ensures equal { IfOk result (λ t. t ≡ self.now) }
     {
-        let path = Text::new(String::from_str(alloc, self.path())?);
+        let path = Text::new(String::from_str(alloc, self.path.as_str())?);
         Ok(Target {
             path,
             length: self.length,
@@ -82,23 +58,25 @@ impl Target {
         })
     }
 
-    /// Whether the bytes of the target's file are within the limit, and have the listed length and
+    /// Whether the bytes of a file of that name are within the limit, and have the listed length and
     /// digests: the first of these checks that fails (TUF 1.0 section 5.7).
     pub fn check<J: Judge>(
         &self,
+        file: &str,
         bytes: &[u8],
         limit: Option<u64>,
         judge: &mut J,
     ) -> Result<(), Stop>
         ensures answer { Answers
-            (content limit (Some self.now.length) (Some self.now.hashes) bytes.now) result (λ x. x) }
+            (content limit (Some self.now.length) (Some self.now.hashes) bytes.now)
+            result (λ x. x) }
     {
         let listed = Content {
             limit,
-            length: Some(self.length()),
+            length: Some(self.length),
             hashes: Some(self.hashes),
         };
-        listed.check(self.path(), bytes, judge)
+        listed.check(file, bytes, judge)
     }
 }
 

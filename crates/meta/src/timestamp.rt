@@ -1,3 +1,5 @@
+//! Timestamp files.
+
 ghost use Rattle.std.specs.Prelude.{◌≡◌};
 ghost use Rattle.serde_json.specs.View.{view};
 ghost use Rattle.meta.specs.Metadata as spec;

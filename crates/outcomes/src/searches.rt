@@ -208,7 +208,12 @@ fn searched(
 fn lines_of(alloc: Global, searched: &Searched) -> Result<String> {
     let mut text = String::new(alloc);
     for accepted in searched.accepted() {
-        writeln!(text, "role {:?} {}", accepted.role(), accepted.version())?;
+        writeln!(
+            text,
+            "role {:?} {}",
+            accepted.role.as_str(),
+            accepted.version
+        )?;
     }
     push_found(&mut text, searched.found())?;
     Ok(text)
@@ -221,7 +226,7 @@ fn push_found(text: &mut String, found: &Found) -> Result<()> {
             target,
             visited,
         } => {
-            let (role, length) = (role.as_str(), target.length());
+            let (role, length) = (role.as_str(), target.length.get());
             writeln!(text, "{length} bytes in {role:?}, {visited} visited")?;
         }
         Found::NotFound => text.push_str("not found\n")?,

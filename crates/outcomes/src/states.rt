@@ -102,13 +102,13 @@ fn refused(alloc: Global, fault: StateFault) -> Result<String> {
 fn about(alloc: Global, trusted: &Trusted) -> Result<String> {
     let mut text = format!(in alloc; "root {}\n", trusted.root_version())?;
     if let Some(file) = trusted.timestamp() {
-        writeln!(text, "timestamp {}", file.reading().header().version())?;
+        writeln!(text, "timestamp {}", file.reading().header().version.get())?;
     }
     if let Some(file) = trusted.snapshot() {
-        writeln!(text, "snapshot {}", file.reading().header().version())?;
+        writeln!(text, "snapshot {}", file.reading().header().version.get())?;
     }
     if let Some(file) = trusted.targets() {
-        writeln!(text, "targets {}", file.reading().header().version())?;
+        writeln!(text, "targets {}", file.reading().header().version.get())?;
     }
     writeln!(text, "ready: {}", yes_or_no(trusted.is_ready()))?;
     Ok(text)

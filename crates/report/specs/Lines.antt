@@ -7,7 +7,7 @@ use Rattle.rolechain.specs.declared.end.Step.{Step}
 use Rattle.rolechain.specs.declared.end.Step.TheVariants.{Root, Timestamp, Snapshot, Targets}
 use Rattle.rolechain.specs.declared.end.End.{End}
 use Rattle.rolechain.specs.declared.end.End.TheVariants.{Ready, Stopped}
-use Rattle.deleg.specs.Accepted.{Accepted}
+use Rattle.deleg.specs.declared.accepted.Accepted.{Accepted}
 use Rattle.cycle.specs.Workflow.{Outcome}
 use Rattle.cycle.specs.declared.verdict.Verdict.{Verdict}
 use Rattle.cycle.specs.declared.verdict.Verdict.TheVariants.{Good, NotFound, LimitReached, RoleRefused, FileRefused, NotSearched}

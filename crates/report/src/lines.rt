@@ -117,8 +117,8 @@ fn push_role(alloc: Global, text: &mut String, accepted: &Accepted) -> Result<()
     ensures line { OnOk result (string_bytes text.new
         ≡ string_bytes text.old ++ spec.role_text accepted.now) }
 {
-    let role = quoted(alloc, accepted.role())?;
-    let version = accepted.version();
+    let role = quoted(alloc, accepted.role.as_str())?;
+    let version = accepted.version;
     writeln!(text, "role {role} {version}")
 }
 

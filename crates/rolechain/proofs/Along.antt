@@ -1,6 +1,7 @@
 -- An examination's answer, along an equation between expectations.
 use Rattle.std.proofs.Common.{◌≡◌, ℕ, List, Result, subst}
-use Rattle.keys.specs.Keys.{Key, RoleKeys}
+use Rattle.keys.specs.declared.key.Key.{Key}
+use Rattle.keys.specs.declared.role_keys.RoleKeys.{RoleKeys}
 use Rattle.meta.specs.Answers.{Answers}
 use Rattle.meta.specs.declared.fault.Fault.{Fault}
 use Rattle.meta.specs.declared.fault.Stop.{Stop}

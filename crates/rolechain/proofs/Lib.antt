@@ -7,4 +7,5 @@ pub mod Along
 pub mod Bytes
 pub mod Digits
 pub mod Written
+pub mod Spelled
 pub mod Regained

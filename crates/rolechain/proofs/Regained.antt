@@ -18,11 +18,13 @@ use Rattle.meta.specs.declared.fault.Fault.{Fault}
 use Rattle.meta.specs.declared.fault.Fault.TheVariants as fault
 use Rattle.rolechain.specs.State.{State}
 use Rattle.rolechain.specs.Parts.{IsRead, AreRead}
-use Rattle.rolechain.specs.Kept.{Kept, kept, kept_of, bytes_in, kept_text, is_over, has_long}
+use Rattle.rolechain.specs.Kept.{Kept, kept, kept_of, bytes_in, kept_text, is_over, has_long, kept_tree}
 use Rattle.rolechain.specs.Text.{or_state_fault, part_in, state_in, kept_in, state_of, ReadsState}
 use Rattle.rolechain.specs.declared.fault.StateFault.{StateFault}
 use Rattle.rolechain.specs.declared.fault.StateFault.TheVariants.{TooLong, Malformed}
 use Rattle.rolechain.proofs.Bytes.{IsBytes-is_utf8}
+use Rattle.cjson.specs.Canon.{canon}
+use Rattle.rolechain.proofs.Spelled.{canon-kept_tree}
 use Rattle.rolechain.proofs.Written.{HasBytes, files, tree_of-kept_text, kept-tree}
 
 -- ---- checks in order
@@ -146,6 +148,10 @@ state_of-kept_text s h =
 pub IfOk-read : {T : Type 0} (r : Result T NoMemory) (items : T → List ℕ) (s : State) → AreRead s → IfOk r (λ t. items t ≡ kept_text (kept_of s)) → IfOk r (λ t. state_of (items t) ≡ Ok s)
 IfOk-read (Ok t) items s h e = ap state_of e ∙ state_of-kept_text s h
 IfOk-read (Err n) items s h e = tt
+
+pub IfOk-tree : {T : Type 0} (r : Result T NoMemory) (items : T → List ℕ) (s : State) → AreRead s → IfOk r (λ t. items t ≡ kept_text (kept_of s)) → IfOk r (λ t. canon (kept_tree (kept_of s)) ≡ Some (items t))
+IfOk-tree (Ok t) items s h e = canon-kept_tree (kept_of s) (HasBytes-kept_of s h) ∙ ap Some (sym e)
+IfOk-tree (Err n) items s h e = tt
 
 -- ---- a text that is read is its state's own
 

@@ -2,7 +2,7 @@
 use Rattle.std.specs.Prelude.{ℕ, zero, suc, ◌+◌, nat_le, ◌||◌, ◌&&◌, not, if◌then◌else◌, List, Bool, Option, Some, None, is_some, Result, Ok, Err, bytes_eq}
 use Rattle.std.specs.List.{list_all, list_any}
 use Rattle.cjson.specs.Checks.{◌>>=◌, refuse_if, or_refuse}
-use Rattle.keys.specs.Keys.{RoleKeys}
+use Rattle.keys.specs.declared.role_keys.RoleKeys.{RoleKeys}
 use Rattle.moment.specs.Moment.{Moment}
 use Rattle.meta.specs.Metadata.{Root, Timestamp, Snapshot, Targets}
 use Rattle.meta.specs.Part.{Part}

@@ -1,8 +1,10 @@
 -- What each file of the workflow is expected to be (TUF 1.0 sections 5.3 to 5.7).
 use Rattle.std.specs.Prelude.{ℕ, ◌+◌, List, find, bytes_eq, codes}
 use Rattle.std.specs.Option.{option_map_or}
-use Rattle.keys.specs.Keys.{Key, RoleKeys}
-use Rattle.meta.specs.Metadata.{Listing, Root, Snapshot}
+use Rattle.keys.specs.declared.key.Key.{Key}
+use Rattle.keys.specs.declared.role_keys.RoleKeys.{RoleKeys}
+use Rattle.meta.specs.Metadata.{Root, Snapshot}
+use Rattle.meta.specs.declared.listing.Listing.{Listing}
 use Rattle.meta.specs.Names.{versioned, root_name, role_name}
 use Rattle.examine.specs.Checks.{Listed, not_due, absent, listed_as, listed_version, Expectation}
 

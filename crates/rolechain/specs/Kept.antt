@@ -1,6 +1,7 @@
 -- The files that a state file keeps.
 use Rattle.std.specs.Prelude.{ℕ, ◌||◌, nat_lt, List, [], ◌∷◌, ◌++◌, length, Bool, false, Option, Some, None, codes}
 use Rattle.std.specs.Option.{option_map_or}
+use Rattle.serde_json.specs.Data.{Data, string, object, Members, no_members, member}
 use Rattle.serde_json.specs.Find.{as_str}
 use Rattle.hex.specs.Hex.{encode_lower, decode_of}
 use Rattle.cjson.specs.Option.{◌>>=◌}
@@ -50,6 +51,18 @@ abbrev pub kept_text : Kept → List ℕ
 kept_text k =
     codes "{" ++ member_text (codes "root") k.root ++ later_text (codes "snapshot") k.snapshot
     ++ later_text (codes "targets") k.targets ++ later_text (codes "timestamp") k.timestamp ++ codes "}"
+
+-- the member of a file that is trusted, before the others
+abbrev pub later_member : List ℕ → Option (List ℕ) → Members → Members
+later_member name None ms = ms
+later_member name (Some bytes) ms = member name (string (encode_lower bytes)) ms
+
+-- the tree of a state file
+abbrev pub kept_tree : Kept → Data
+kept_tree k =
+    object (member (codes "root") (string (encode_lower k.root))
+    (later_member (codes "snapshot") k.snapshot (later_member (codes "targets") k.targets
+    (later_member (codes "timestamp") k.timestamp no_members))))
 
 abbrev pub is_over : ℕ → Option (List ℕ) → Bool
 is_over limit bytes = option_map_or (λ b. nat_lt limit (length b)) bytes false

@@ -1,6 +1,9 @@
+//! A cycle's draft of the trusted state.
+
 ghost use Rattle.std.specs.Prelude.{◌≡◌, IfOk, option_map};
 ghost use Rattle.rolechain.specs.Advance.{with_root, with_timestamp, with_snapshot, with_targets, reading_in};
 ghost use Rattle.rolechain.specs.Held.{held_part};
+ghost use Rattle.rolechain.specs.Parts.{AreRead};
 
 use crate::rotation::is_rotated;
 use crate::state::Trusted;
@@ -65,7 +68,8 @@ impl<'a> Draft<'a> {
 
     /// The state that the cycle leaves.
     pub(crate) fn into_trusted(self, alloc: Global) -> Result<Trusted, NoMemory>
-        ensures { IfOk result (λ t. t ≡ self.entry) }
+        ensures state { IfOk result (λ t. t ≡ self.entry) }
+        ensures parts { IfOk result (λ t. AreRead t) }
     {
         let Draft {
             root,

@@ -1,3 +1,5 @@
+//! How a cycle ends.
+
 ghost use Rattle.std.specs.Prelude.{◌≡◌};
 ghost use Rattle.rolechain.specs.Answers as spec;
 

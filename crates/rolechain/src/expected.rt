@@ -1,3 +1,5 @@
+//! What each file of the workflow is expected to be.
+
 ghost use Rattle.std.specs.Prelude.{◌≡◌, ◌+◌, IfOk, bytes_eq, codes, find, option_map, string_bytes};
 ghost use Rattle.meta.specs.Names.{root_name, versioned as due_name};
 ghost use Rattle.examine.specs.Expecting.{expectation, listed_of};
@@ -42,7 +44,12 @@ pub(crate) fn snapshot_name(
     ensures { IfOk result (λ s. string_bytes s
         ≡ due_name root.now.consistent listing.now.version (codes "snapshot.json")) }
 {
-    versioned(alloc, root.consistent(), listing.version(), "snapshot.json")
+    versioned(
+        alloc,
+        root.consistent(),
+        listing.version.get(),
+        "snapshot.json",
+    )
 }
 
 /// What the snapshot that is so listed is expected to be (TUF 1.0 section 5.5).
@@ -74,8 +81,9 @@ pub fn place_of<'a>(
     let plain = role_name(alloc, role)?;
     match find_name(snapshot.files(), plain.as_str()) {
         Some(named) => {
-            let listing = named.listing();
-            let name = versioned(alloc, root.consistent(), listing.version(), plain.as_str())?;
+            let listing = &named.listing;
+            let version = listing.version.get();
+            let name = versioned(alloc, root.consistent(), version, plain.as_str())?;
             Ok((Listed::As(listing), name))
         }
         None => Ok((Listed::Absent, plain)),
@@ -102,5 +110,5 @@ pub(crate) fn due_targets<'a>(root: &'a Root, listed: Listed<'a>, name: &'a str)
 fn find_name<'a>(files: &'a [Named], name: &str) -> Option<&'a Named>
     ensures { option_map (λ n. n.now) result ≡ find (λ n. bytes_eq n.name name.now) files.now }
 {
-    files.iter().find(|named| named.name() == name)
+    files.iter().find(|named| named.name.as_str() == name)
 }

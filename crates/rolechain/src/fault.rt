@@ -1,3 +1,5 @@
+//! The faults of a trusted state's text.
+
 ghost use Rattle.std.specs.Prelude.{◌≡◌};
 ghost use Rattle.rolechain.specs.declared.fault.StateFault.TheVariants as state;
 

@@ -1,3 +1,5 @@
+//! The chain of roots (TUF 1.0 section 5.3).
+
 ghost use Rattle.std.specs.Prelude.{◌≡◌, ◌+◌, ◌-◌, ◌^◌, ◌<◌};
 ghost use Rattle.meta.specs.Answers.{Answers};
 ghost use Rattle.examine.specs.Checks.{root_part};
@@ -61,7 +63,7 @@ fn successor<J: Judge>(
     ensures { Answers (spec.successor (file_in round.now.files.now) round.now.moment root.now)
         result (λ p. p) }
 {
-    if root.header().version() >= LAST_VERSION {
+    if root.header().version.get() >= LAST_VERSION {
         return Ok(None);
     }
     let name = root_name(round.alloc, due_version(root))?;
@@ -97,5 +99,5 @@ fn due_version(root: &Root) -> u64
     requires last { root.now.header.version < 2 ^ 63 - 1 }
     ensures { result ≡ root.now.header.version + 1 }
 {
-    root.header().version() + 1
+    root.header().version.get() + 1
 }

@@ -1,3 +1,5 @@
+//! Rotation of the keys of timestamp and snapshot.
+
 ghost use Rattle.std.specs.Prelude.{◌≡◌, bytes_eq};
 ghost use Rattle.std.specs.List.{list_any};
 ghost use Rattle.rolechain.specs.Advance as spec;
@@ -16,7 +18,8 @@ pub(crate) fn is_rotated(old: &Root, new: &Root) -> bool
 fn has_other_ids(old: &RoleKeys, new: &RoleKeys) -> bool
     ensures { result ≡ spec.has_other_ids old.now new.now }
 {
-    !(are_among(old.ids(), new.ids()) && are_among(new.ids(), old.ids()))
+    let (old, new) = (old.ids.as_slice(), new.ids.as_slice());
+    !(are_among(old, new) && are_among(new, old))
 }
 
 fn are_among(ids: &[Text], others: &[Text]) -> bool

@@ -1,3 +1,5 @@
+//! The trusted state.
+
 ghost use Rattle.std.specs.Prelude.{◌≡◌, IfOk, IfSome, option_map};
 ghost use Rattle.rolechain.specs.State as spec;
 ghost use Rattle.rolechain.specs.Parts.{AreRead, IsRead};
@@ -11,10 +13,10 @@ use std::marker::Model;
 /// targets file (TUF 1.0 section 5). Each is the reading of its bytes, which are within the limit
 /// of its kind.
 pub struct Trusted {
-    root: Part<Root>,
-    timestamp: Option<Part<Timestamp>>,
-    snapshot: Option<Part<Snapshot>>,
-    targets: Option<Part<Targets>>,
+    pub(crate) root: Part<Root>,
+    pub(crate) timestamp: Option<Part<Timestamp>>,
+    pub(crate) snapshot: Option<Part<Snapshot>>,
+    pub(crate) targets: Option<Part<Targets>>,
 }
 
 impl Drop for Trusted {
@@ -57,12 +59,13 @@ impl Trusted {
         snapshot: Option<Part<Snapshot>>,
         targets: Option<Part<Targets>>,
     ) -> Trusted
-        ensures { result ≡ record {
+        ensures state { result ≡ record {
           root = root;
           timestamp = timestamp;
           snapshot = snapshot;
           targets = targets;
         } }
+        ensures parts { AreRead result }
     {
         note_read(&root);
         note_each_read(&timestamp);
@@ -111,13 +114,6 @@ impl Trusted {
         self.timestamp.is_some() && self.snapshot.is_some() && self.targets.is_some()
     }
 
-    /// Notes for the proof that each file is what its bytes are read as; nothing is done.
-    pub(crate) fn note_read(&self)
-        ensures { AreRead self.now }
-    {
-        let _root = &self.root;
-    }
-
     /// An equal state.
     pub fn copy(&self, alloc: Global) -> Result<Trusted, NoMemory>
         ensures equal { IfOk result (λ t. t ≡ self.now) }
@@ -134,7 +130,7 @@ impl Trusted {
     pub fn root_version(&self) -> u64
         ensures value { result ≡ self.now.root.reading.header.version }
     {
-        self.root.reading().header().version()
+        self.root.reading().header().version.get()
     }
 }
 

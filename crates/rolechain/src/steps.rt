@@ -1,3 +1,5 @@
+//! The steps behind the roots: timestamp, snapshot and top-level targets.
+
 ghost use Rattle.std.specs.Prelude.{◌≡◌, IfOk, Ok, None, option_map};
 ghost use Rattle.meta.specs.Answers.{Answers};
 ghost use Rattle.examine.specs.Checks as checks;

@@ -1,8 +1,12 @@
+//! The text of a trusted state.
+
 ghost use Rattle.std.specs.Prelude.{◌≡◌, ◌≢◌, ◌++◌, Ok, Some, None, IfOk, IfErr, OnOk, option_map};
 ghost use Rattle.serde_json.specs.View.{view};
+ghost use Rattle.cjson.specs.Canon.{canon};
 ghost use Rattle.cjson.specs.Document.{tree_of};
 ghost use Rattle.meta.specs.Part.{part_of};
 ghost use Rattle.rolechain.specs.Kept as spec;
+ghost use Rattle.rolechain.specs.Parts.{AreRead};
 ghost use Rattle.rolechain.specs.Text.{ReadsState, or_state_fault, of_fault, root_state, state_of, state_in, kept_in, part_in, with_targets_in, with_timestamp_in};
 
 use crate::fault::StateFault;
@@ -52,6 +56,7 @@ struct Kept {
 
 impl Model for Kept {
     ghost use Rattle.rolechain.specs.Kept as spec;
+    ghost use Rattle.rolechain.specs.Parts.{AreRead};
 
     ghost Value = { spec.Kept };
 
@@ -105,20 +110,22 @@ impl Trusted {
     /// `from_text` reads it as this state, so no other state has this text.
     pub fn to_text(&self, alloc: Global) -> Result<Vec<u8>, NoMemory>
         ensures text { IfOk result (λ text. text.items ≡ spec.kept_text (spec.kept_of self.now)) }
+        ensures tree { IfOk result (λ text.
+            canon (spec.kept_tree (spec.kept_of self.now)) ≡ Some text.items) }
         ensures read { IfOk result (λ text. state_of text.items ≡ Ok self.now) }
     {
-        self.note_read();
         self.text(alloc)
     }
 
     /// The text of a state file.
     fn text(&self, alloc: Global) -> Result<Vec<u8>, NoMemory>
-        ensures { IfOk result (λ text. text.items ≡ spec.kept_text (spec.kept_of self.now)) }
+        ensures text { IfOk result (λ text. text.items ≡ spec.kept_text (spec.kept_of self.now)) }
+        ensures parts { AreRead self.now }
     {
-        let root = self.root().bytes();
-        let snapshot = self.snapshot().map(|part| part.bytes());
-        let targets = self.targets().map(|part| part.bytes());
-        let timestamp = self.timestamp().map(|part| part.bytes());
+        let root = self.root.bytes();
+        let snapshot = self.snapshot.as_ref().map(|part| part.bytes());
+        let targets = self.targets.as_ref().map(|part| part.bytes());
+        let timestamp = self.timestamp.as_ref().map(|part| part.bytes());
         text_of(alloc, root, snapshot, targets, timestamp)
     }
 }

@@ -1,3 +1,5 @@
+//! The client workflow, step by step.
+
 ghost use Rattle.std.specs.Prelude.{◌≡◌, IfOk, true};
 ghost use Rattle.examine.specs.Expecting.{file_in};
 ghost use Rattle.rolechain.specs.Advance as spec;
@@ -46,7 +48,6 @@ pub fn advance<J: Judge>(
     let mut draft = Draft::of(trusted);
     let end = end_of(steps(&round, &mut draft, judge))?;
     let state = draft.into_trusted(alloc)?;
-    state.note_read();
     Ok((state, end))
 }
 

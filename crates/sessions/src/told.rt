@@ -1,3 +1,5 @@
+//! What a command gave, as text.
+
 use anyhow::Result;
 use std::alloc::Global;
 

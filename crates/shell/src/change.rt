@@ -49,7 +49,7 @@ fn signer_of(alloc: Global, doc: &Doc, key: &str) -> Result<Signer> {
     let first = doc.entries().first().context("no entry")?;
     let secret = secret(alloc, key.parse::<u8>()?, Height::H5)?;
     Ok(Signer {
-        id: String::from_str(alloc, first.keyid())?,
+        id: String::from_str(alloc, first.keyid.as_str())?,
         secret,
     })
 }

@@ -42,8 +42,8 @@ fn sealed(
 /// Whether the entry at the place is the key's, and its signature is valid.
 fn is_signed(alloc: Global, doc: &Doc, place: usize, id: &str, key: &Public) -> Result<bool, Fail> {
     let entry = doc.entries().get(place).ok_or("an entry")?;
-    let sig = hex::decode(alloc, entry.sig())?;
-    Ok(entry.keyid() == id && verify(key, doc.bytes(), &sig))
+    let sig = hex::decode(alloc, entry.sig.as_str())?;
+    Ok(entry.keyid.as_str() == id && verify(key, doc.bytes(), &sig))
 }
 
 #[test]

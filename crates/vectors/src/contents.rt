@@ -65,5 +65,5 @@ fn check_target<R: Files + AllocGlobal + Clone + Drop>(
     let signed = changed(alloc, signed.as_str(), "\"c/abc.txt\":{", new.as_str())?;
     let part: Part<Targets> = Part::read(alloc, file(alloc, signed.as_str())?)?;
     let target = part.reading().targets().first().context("no target")?;
-    Ok(target.check(b"abc", limit_of(step)?, &mut Direct))
+    Ok(target.check("abc.txt", b"abc", limit_of(step)?, &mut Direct))
 }

@@ -80,7 +80,10 @@ fn optional_truth(alloc: Global, name: &str, json: &str) -> Result<String> {
 fn needed_text(alloc: Global, name: &str, json: &str) -> Result<String> {
     let value = Value::from_str(alloc, json)?;
     match needed::<Text>(alloc, &value, name) {
-        Ok(text) => Ok(format!(in alloc; "{:?}\n", text.as_str())?),
+        Ok(text) => {
+            let given = text.into_string();
+            Ok(format!(in alloc; "{:?}\n", given.as_str())?)
+        }
         Err(fault) => misread(alloc, fault),
     }
 }

@@ -42,8 +42,8 @@ fn ring(alloc: Global, json: &str) -> Result<String> {
 pub fn keys_of(alloc: Global, ring: &KeyRing) -> Result<String> {
     let mut text = format!(in alloc; "keys {}\n", ring.keys().len())?;
     for key in ring.keys() {
-        let public = hex::encode(alloc, *key.public().bytes())?;
-        writeln!(text, "key {} {public}", key.id())?;
+        let public = hex::encode(alloc, *key.public.bytes())?;
+        writeln!(text, "key {} {public}", key.id.as_str())?;
     }
     Ok(text)
 }
@@ -61,8 +61,8 @@ fn role(alloc: Global, json: &str) -> Result<String> {
 
 /// Adds the threshold and the ids of a role.
 pub fn push_role(text: &mut String, role: &RoleKeys) -> Result<()> {
-    write!(text, "{} of", role.threshold())?;
-    for id in role.ids() {
+    write!(text, "{} of", role.threshold.get())?;
+    for id in role.ids.as_slice() {
         write!(text, " {:?}", id.as_str())?;
     }
     text.push('\n')?;

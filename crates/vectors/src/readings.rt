@@ -120,7 +120,7 @@ impl Shown for Snapshot {
     fn push(&self, alloc: Global, text: &mut String) -> Result<()> {
         push_header(alloc, text, self.header())?;
         for named in self.files() {
-            push_listing(alloc, text, named.name(), named.listing())?;
+            push_listing(alloc, text, named.name.as_str(), &named.listing)?;
         }
         Ok(())
     }
@@ -142,28 +142,28 @@ impl Shown for Targets {
 }
 
 fn push_header(alloc: Global, text: &mut String, header: &Header) -> Result<()> {
-    let expires = spelled(alloc, header.expires())?;
-    writeln!(text, "version {}, expires {expires}", header.version())?;
+    let expires = spelled(alloc, header.expires)?;
+    writeln!(text, "version {}, expires {expires}", header.version.get())?;
     Ok(())
 }
 
 fn push_listing(alloc: Global, text: &mut String, name: &str, listing: &Listing) -> Result<()> {
-    write!(text, "{name} version {}", listing.version())?;
-    if let Some(length) = listing.length() {
-        write!(text, " length {length}")?;
+    write!(text, "{name} version {}", listing.version.get())?;
+    if let Some(length) = listing.length {
+        write!(text, " length {}", length.get())?;
     }
     text.push('\n')?;
-    match listing.hashes() {
+    match listing.hashes {
         Some(hashes) => push_hashes(alloc, text, hashes),
         None => Ok(()),
     }
 }
 
 fn push_hashes(alloc: Global, text: &mut String, hashes: Hashes) -> Result<()> {
-    if let Some(digest) = hashes.sha256() {
+    if let Some(digest) = hashes.sha256 {
         writeln!(text, "sha256 {}", hex::encode(alloc, digest)?)?;
     }
-    if let Some(digest) = hashes.sha512() {
+    if let Some(digest) = hashes.sha512 {
         writeln!(text, "sha512 {}", hex::encode(alloc, digest)?)?;
     }
     Ok(())
@@ -174,10 +174,10 @@ fn push_target(alloc: Global, text: &mut String, target: &Target) -> Result<()> 
     writeln!(
         text,
         "target {:?} length {}",
-        target.path(),
-        target.length()
+        target.path.as_str(),
+        target.length.get()
     )?;
-    push_hashes(alloc, text, target.hashes())
+    push_hashes(alloc, text, target.hashes)
 }
 
 fn push_delegated(text: &mut String, roles: &Roles) -> Result<()> {

@@ -48,7 +48,12 @@ fn push_document(alloc: Global, text: &mut String, doc: &Doc) -> Result<()> {
     let tree = doc.tree().to_string(alloc)?;
     writeln!(text, "\ntree {tree}")?;
     for entry in doc.entries() {
-        writeln!(text, "entry {:?} {:?}", entry.keyid(), entry.sig())?;
+        writeln!(
+            text,
+            "entry {:?} {:?}",
+            entry.keyid.as_str(),
+            entry.sig.as_str()
+        )?;
     }
     Ok(())
 }

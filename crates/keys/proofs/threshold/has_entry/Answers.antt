@@ -11,8 +11,8 @@ returns-in_default g c =
     let d = doc_of c.args.doc.now in
     let is_by = is_signed_by c.args.key.now.public d.text in
     sym (
-    ap (λ id. list_any (λ e. bytes_eq e.keyid id && is_by e.sig) d.entries) (sym c.id.ensures.value)
-    ∙ found is_by c.id.result.now d.entries c.under.result (sigs_under c.args.entries.now.by_id c.id.result.now) c.under.ensures (c.requires c.id.result.now)
+    ap (λ id. list_any (λ e. bytes_eq e.keyid id && is_by e.sig) d.entries) (sym c.as_str.ensures.value)
+    ∙ found is_by c.as_str.result.now d.entries c.under.result (sigs_under c.args.entries.now.by_id c.as_str.result.now) c.under.ensures (c.requires c.as_str.result.now)
     ∙ ap (λ o. list_any (λ p. is_by p.sig.now) (placed_of o)) c.in_default.is
     )
 
@@ -20,6 +20,6 @@ pub loop-placed-init : goal.loop-placed-init
 loop-placed-init g c =
     let d = doc_of c.args.doc.now in
     let is_by = is_signed_by c.args.key.now.public d.text in
-    ap (λ id. list_any (λ e. bytes_eq e.keyid id && is_by e.sig) d.entries) (sym c.id.ensures.value)
-    ∙ found is_by c.id.result.now d.entries c.under.result (sigs_under c.args.entries.now.by_id c.id.result.now) c.under.ensures (c.requires c.id.result.now)
+    ap (λ id. list_any (λ e. bytes_eq e.keyid id && is_by e.sig) d.entries) (sym c.as_str.ensures.value)
+    ∙ found is_by c.as_str.result.now d.entries c.under.result (sigs_under c.args.entries.now.by_id c.as_str.result.now) c.under.ensures (c.requires c.as_str.result.now)
     ∙ ap (λ o. list_any (λ p. is_by p.sig.now) (placed_of o)) c.in-Some.is

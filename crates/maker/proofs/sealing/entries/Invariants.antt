@@ -1,7 +1,7 @@
 use Rattle.std.proofs.Common.{◌≡◌, List, map, fold, take}
 use Rattle.std.specs.List.{AllZip}
 use Rattle.serde_json.specs.View.{items_view}
-use Rattle.cjson.specs.Entry.{Entry}
+use Rattle.cjson.specs.declared.doc.Entry.{Entry}
 use Rattle.maker.specs.Sealed.{IsSignedAt, entry_objects, holder, spend, used_of}
 use Rattle.maker.proofs.sealing.entries.Given as goal
 
