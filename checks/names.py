@@ -6,7 +6,8 @@
 For each character that a file's name and a word may hold (all below 128 but NUL and the slash, and some above), a role
 `rX` lists a target `pX`, and a last word asks for a target that no role lists. All metadata is signed by the Python
 beside this script. A run of `tufcheck verify`, by no worker and by eight, must find each target and quote the names as
-docs/FORMATS.md says. `rt run` in crates/tufcheck proves and builds the program.
+docs/FORMATS.md says. Then a file whose name isn't UTF-8 stands in one of the two folders: the run must refuse the
+folder, with status 4, print nothing and store nothing. `rt run` in crates/tufcheck proves and builds the program.
 """
 import hashlib
 import os
@@ -57,6 +58,21 @@ def make():
         write(f"targets/p{odd}", odd.encode())
 
 
+def verify(workers, wanted):
+    words = ["verify", "--state", "state", "--metadata", "metadata", "--targets", "targets", "--workers", workers,
+             "--now", "2026-01-01T00:00:00Z", "--out", "new", *wanted]
+    return subprocess.run([PROGRAM, *words], capture_output=True, check=False)
+
+
+def refuse(folder, name):
+    path = folder.encode() + b"/" + name
+    write(path, b"{}")
+    run = verify("0", ["p"])
+    os.remove(path)
+    if run.returncode != 4 or run.stdout or run.stderr != b"tufcheck: folder\n" or os.path.exists("new"):
+        sys.exit(f"names.py: {path}: status {run.returncode}\n{run.stdout}{run.stderr}")
+
+
 def main():
     wanted = [f"p{odd}" for odd in ODD]
     lines = ["root 1", "end ready"]
@@ -68,11 +84,14 @@ def main():
         make()
         subprocess.run([PROGRAM, "init", "metadata/1.root.json", "--out", "state"], check=True, capture_output=True)
         for workers in ("0", "8"):
-            words = ["verify", "--state", "state", "--metadata", "metadata", "--targets", "targets", "--workers", workers,
-                     "--now", "2026-01-01T00:00:00Z", "--out", "new", *wanted, "p"]
-            run = subprocess.run([PROGRAM, *words], capture_output=True, check=False)
+            run = verify(workers, [*wanted, "p"])
             if run.stdout.decode().split("\n") != lines or run.returncode != 1 or run.stderr:
                 sys.exit(f"names.py: by {workers} workers: status {run.returncode}\n{run.stdout.decode()}{run.stderr.decode()}")
+        os.remove("new")
+        for folder in ("metadata", "targets"):
+            for name in (b"\xff", b"a\x80.json", b"\xed\xa0\x80"):
+                refuse(folder, name)
+    print("6 names that aren't UTF-8: all refused")
     print(f"{len(ODD)} characters in names of roles and targets, by 0 and by 8 workers: all found, and quoted as they should be")
 
 
