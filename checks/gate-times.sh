@@ -3,12 +3,14 @@
 # edits, each with the minute in which it began, the minute in which it ended, and how long that was. So who adds a crate
 # or an edit sees its price.
 #
-#   checks/gate-times.sh [LOG]      what the gate prints goes to LOG, gate.log unless given
+#   checks/gate-times.sh [LOG [WORD..]]      what the gate prints goes to LOG, gate.log unless given, and the words to
+#                                            rt ci, as --anew, which takes nothing that an earlier run proved
 #
 # It looks at the prover's processes every five seconds, so nothing else should be proved on the machine meanwhile, and a
 # task of less than that may be missing. It takes as long as the gate, and ends with its status.
 set -u
 log=$(realpath -m "${1:-gate.log}")
+[ $# -gt 0 ] && shift
 cd "$(dirname "$0")/.." || exit 2
 
 # seen: the crate and the task of each process of the prover
@@ -26,7 +28,7 @@ seen() {
     done | sort -u
 }
 
-rt ci > "$log" 2>&1 &
+rt ci "$@" > "$log" 2>&1 &
 gate=$!
 declare -A first last
 SECONDS=0

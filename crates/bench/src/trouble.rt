@@ -1,9 +1,9 @@
 //! What ends a measurement early.
 
-use cjson::{Canon, Misread, NoMemory};
+use cjson::{CanonicalFault, Misread, NoMemory};
 use cycle::StateFault;
 use lms::SignFault;
-use maker::MakeFault;
+use seals::MakeFault;
 use std::alloc::{AllocError, AllocFailed};
 use std::io;
 use thiserror::Error;
@@ -64,8 +64,8 @@ impl From<MakeFault> for Trouble {
     }
 }
 
-impl From<Canon> for Trouble {
-    fn from(_error: Canon) -> Trouble {
+impl From<CanonicalFault> for Trouble {
+    fn from(_error: CanonicalFault) -> Trouble {
         Trouble::Part
     }
 }

@@ -4,5 +4,5 @@ pub mod Trees
 pub mod Before
 pub mod Ordered
 pub mod OnLiterals
-pub mod Rows
+pub mod WorkedValues
 pub mod Utf8

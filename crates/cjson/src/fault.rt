@@ -1,7 +1,7 @@
 //! Want of memory, and the faults of readers and documents.
 
 ghost use Rattle.std.specs.Prelude.{◌≡◌};
-ghost use Rattle.cjson.specs.declared.fault.Canon.TheVariants as canon;
+ghost use Rattle.cjson.specs.declared.fault.CanonicalFault.TheVariants as canon;
 ghost use Rattle.cjson.specs.declared.fault.Misread.TheVariants as misread;
 ghost use Rattle.cjson.specs.Faults.{doc_fault_of};
 
@@ -15,7 +15,7 @@ pub struct NoMemory;
 
 /// Why no canonical text of a tree was made.
 #[derive(Clone, Copy, Debug, PartialEq, Eq, Error)]
-pub enum Canon {
+pub enum CanonicalFault {
     /// A number in the tree isn't whole, or is below -2^63 or above 2^64 - 1.
     #[error("a number is not whole")]
     Float,
@@ -67,29 +67,29 @@ impl<T: Drop> From<AllocFailed<T>> for NoMemory {
     }
 }
 
-impl From<AllocError> for Canon {
+impl From<AllocError> for CanonicalFault {
     ghost from_gives = { λ _ e. e ≡ canon.NoMemory };
 
-    fn from(_refused: AllocError) -> Canon {
-        Canon::NoMemory
+    fn from(_refused: AllocError) -> CanonicalFault {
+        CanonicalFault::NoMemory
     }
 }
 
-impl<T: Drop> From<AllocFailed<T>> for Canon {
+impl<T: Drop> From<AllocFailed<T>> for CanonicalFault {
     ghost from_gives = { λ _ e. e ≡ canon.NoMemory };
 
-    fn from(_refused: AllocFailed<T>) -> Canon {
-        Canon::NoMemory
+    fn from(_refused: AllocFailed<T>) -> CanonicalFault {
+        CanonicalFault::NoMemory
     }
 }
 
-impl From<Canon> for DocFault {
+impl From<CanonicalFault> for DocFault {
     ghost from_gives = { λ c e. e ≡ doc_fault_of c };
 
-    fn from(fault: Canon) -> DocFault {
+    fn from(fault: CanonicalFault) -> DocFault {
         match fault {
-            Canon::Float => DocFault::Float,
-            Canon::NoMemory => DocFault::NoMemory,
+            CanonicalFault::Float => DocFault::Float,
+            CanonicalFault::NoMemory => DocFault::NoMemory,
         }
     }
 }

@@ -8,7 +8,7 @@ use Rattle.std.specs.BTreeMap.{BTreeMap, Updates}
 use Rattle.std.specs.Ordering.{nat_cmp}
 use Rattle.std.specs.Cmp.Lexicographic.{slice_cmp}
 use Rattle.crew.specs.Questions.{IsIndex, at, mark}
-use Rattle.crew.specs.Held.{IsWhole, question_in, questions_in}
+use Rattle.crew.specs.PlanFields.{IsWhole, question_in, questions_in}
 use Rattle.crew.specs.Drafts.{IsDraft, Grows}
 use Rattle.crew.specs.declared.draft.Draft.{Draft}
 use Rattle.crew.specs.declared.document.Document.{Document}

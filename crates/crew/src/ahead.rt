@@ -90,6 +90,13 @@ pub(crate) struct Scope<'a> {
     pub most: usize,
 }
 
+/// The files that say under which name a role's file lies: the last root and the snapshot.
+#[derive(Clone, Copy)]
+struct TopLevel<'a> {
+    root: &'a Root,
+    snapshot: &'a Snapshot,
+}
+
 /// Reads what follows the trusted root: the successive roots, the timestamp, the snapshot that it
 /// lists, and the targets files from the top-level one on.
 pub(crate) fn read_ahead(scope: &Scope, documents: &mut Vec<Document>) -> Result<Ahead, NoMemory> {
@@ -105,8 +112,11 @@ pub(crate) fn read_ahead(scope: &Scope, documents: &mut Vec<Document>) -> Result
     ahead.timestamp = read_file(scope, "timestamp.json", documents)?;
     ahead.snapshot = read_snapshot(scope, &ahead, documents)?;
     if let Some(snapshot) = &ahead.snapshot {
-        let root = last_root(scope.trusted, ahead.roots.as_slice());
-        read_roles(scope, root, &snapshot.reading, &mut ahead.roles, documents)?;
+        let top = TopLevel {
+            root: last_root(scope.trusted, ahead.roots.as_slice()),
+            snapshot: &snapshot.reading,
+        };
+        read_roles(scope, &top, &mut ahead.roles, documents)?;
     }
     Ok(ahead)
 }
@@ -156,19 +166,18 @@ fn read_snapshot(
 /// first.
 fn read_roles(
     scope: &Scope,
-    root: &Root,
-    snapshot: &Snapshot,
+    top: &TopLevel,
     roles: &mut Roles,
     documents: &mut Vec<Document>,
 ) -> Result<(), NoMemory> {
-    let top = String::from_str(scope.alloc, "targets")?;
-    read_role(scope, root, snapshot, top, roles, documents)?;
+    let first = String::from_str(scope.alloc, "targets")?;
+    read_role(scope, top, first, roles, documents)?;
     for place in 0..scope.files {
         let names = match roles.files.get(place) {
             Some(file) => names_in(scope.alloc, file)?,
             None => break,
         };
-        read_each(scope, root, snapshot, names, roles, documents)?;
+        read_each(scope, top, names, roles, documents)?;
     }
     Ok(())
 }
@@ -176,14 +185,13 @@ fn read_roles(
 /// Reads the files of these roles.
 fn read_each(
     scope: &Scope,
-    root: &Root,
-    snapshot: &Snapshot,
+    top: &TopLevel,
     names: Vec<String>,
     roles: &mut Roles,
     documents: &mut Vec<Document>,
 ) -> Result<(), NoMemory> {
     for name in names {
-        read_role(scope, root, snapshot, name, roles, documents)?;
+        read_role(scope, top, name, roles, documents)?;
     }
     Ok(())
 }
@@ -223,8 +231,7 @@ fn add_names(
 /// Reads a role's file, unless that was tried before.
 fn read_role(
     scope: &Scope,
-    root: &Root,
-    snapshot: &Snapshot,
+    top: &TopLevel,
     role: String,
     roles: &mut Roles,
     documents: &mut Vec<Document>,
@@ -232,7 +239,7 @@ fn read_role(
     if roles.files.len() >= scope.files || roles.places.contains_key(role.as_str()) {
         return Ok(());
     }
-    let (listed, name) = place_of(scope.alloc, root, snapshot, role.as_str())?;
+    let (listed, name) = place_of(scope.alloc, top.root, top.snapshot, role.as_str())?;
     let found: Option<Read<Targets>> = match listed {
         Listed::As(_) => read_file(scope, name.as_str(), documents)?,
         _ => None,

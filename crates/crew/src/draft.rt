@@ -3,7 +3,7 @@
 ghost use Rattle.std.specs.Prelude.{◌≡◌, ◌<◌, false, vec_len};
 ghost use Rattle.std.specs.Option.{is_some};
 ghost use Rattle.crew.specs.Questions.{at};
-ghost use Rattle.crew.specs.Held.{IsWhole};
+ghost use Rattle.crew.specs.PlanFields.{IsWhole};
 ghost use Rattle.crew.specs.Drafts.{IsDraft, Grows};
 
 use crate::document::Document;

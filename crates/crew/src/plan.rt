@@ -3,7 +3,7 @@
 ghost use Rattle.std.specs.Prelude.{◌≡◌, ◌≢◌, ◌≤◌, ◌<◌, ℕ, IfOk, IfSome, IfNone, All, Some, length, slice_get, vec_len};
 ghost use Rattle.crew.specs.Questions as spec;
 ghost use Rattle.crew.specs.Questions.{IsIndex, IsDistinct, question_of, truths_of};
-ghost use Rattle.crew.specs.Held.{IsWhole, question_in};
+ghost use Rattle.crew.specs.PlanFields.{IsWhole, question_in};
 ghost use Rattle.crew.specs.Drafts.{IsDraft, Grows};
 
 use crate::ahead::{Scope, read_ahead};
@@ -59,7 +59,7 @@ impl<'a> Drop for Plan<'a> {
 impl<'a> Model for Plan<'a> {
     ghost use Rattle.std.specs.Prelude.{List, All, ◌≤◌, vec_len};
     ghost use Rattle.crew.specs.Questions.{Question, IsIndex};
-    ghost use Rattle.crew.specs.Held.{IsWhole, questions_in};
+    ghost use Rattle.crew.specs.PlanFields.{IsWhole, questions_in};
 
     ghost Value = { List Question };
 

@@ -1,7 +1,7 @@
 //! The questions about signatures.
 
 ghost use Rattle.std.specs.Prelude.{IfSome, slice_get};
-ghost use Rattle.crew.specs.Held.{HasEntry};
+ghost use Rattle.crew.specs.PlanFields.{HasEntry};
 ghost use Rattle.crew.specs.Drafts.{IsDraft, Grows};
 
 use crate::ahead::{Ahead, Read, RoleFile, Roles, Scope, last_root};

@@ -3,4 +3,4 @@ pub mod Patterns
 pub mod Walking
 pub mod Stack
 pub mod Starting
-pub mod Rows
+pub mod WorkedValues

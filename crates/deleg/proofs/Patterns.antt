@@ -3,30 +3,30 @@ use Rattle.std.proofs.Common.{◌≡◌, None, Some, ℕ, zero, suc, ◌+◌, �
 use Rattle.std.proofs.lemmas.Bool.{false≢true, or_cases, or_left, or_right, and_parts, and_from, eqb-true, eqb-false, eq-eqb, ne_eqb, not-true}
 use Rattle.std.proofs.lemmas.List.{drop-drop}
 use Rattle.deleg.specs.Pattern.{Matches, both_end, itself, any_one, run_ends, run_goes_on, stands_for, behind_run, behind_one, is_match}
-use Rattle.deleg.specs.Lead.{Lead, at_run, whole, fails, lead_one, lead, past_one}
+use Rattle.deleg.specs.Remainder.{Remainder, at_run, whole, fails, remainder_one, remainder, past_one}
 
 -- ---- what the first comparison means
 
-abbrev pub meaning : Lead → Bool
+abbrev pub meaning : Remainder → Bool
 meaning (at_run cs ds) = behind_run (is_match cs) ds
 meaning whole = true
 meaning fails = false
 
-by_cond : (b : Bool) (x y : Bool) (l m : Lead) → x ≡ meaning l → y ≡ meaning m → cond b x y ≡ meaning (cond b l m)
+by_cond : (b : Bool) (x y : Bool) (l m : Remainder) → x ≡ meaning l → y ≡ meaning m → cond b x y ≡ meaning (cond b l m)
 by_cond true x y l m p q = p
 by_cond false x y l m p q = q
 
-by_and : (b : Bool) (x : Bool) (l : Lead) → x ≡ meaning l → (b && x) ≡ meaning (cond b l fails)
+by_and : (b : Bool) (x : Bool) (l : Remainder) → x ≡ meaning l → (b && x) ≡ meaning (cond b l fails)
 by_and true x l p = p
 by_and false x l p = refl
 
-pub lead-meaning : (cs ds : List ℕ) → is_match cs ds ≡ meaning (lead cs ds)
-lead-meaning [] [] = refl
-lead-meaning [] (d ∷ ds) = refl
-lead-meaning (c ∷ cs) [] = by_cond (eqb c 42) _ _ (at_run cs []) fails refl refl
-lead-meaning (c ∷ cs) (d ∷ ds) =
-    by_cond (eqb c 42) (behind_run (is_match cs) (d ∷ ds)) (stands_for c d && is_match cs ds) (at_run cs (d ∷ ds)) (cond (stands_for c d) (lead cs ds) fails)
-    refl (by_and (stands_for c d) (is_match cs ds) (lead cs ds) (lead-meaning cs ds))
+pub remainder-meaning : (cs ds : List ℕ) → is_match cs ds ≡ meaning (remainder cs ds)
+remainder-meaning [] [] = refl
+remainder-meaning [] (d ∷ ds) = refl
+remainder-meaning (c ∷ cs) [] = by_cond (eqb c 42) _ _ (at_run cs []) fails refl refl
+remainder-meaning (c ∷ cs) (d ∷ ds) =
+    by_cond (eqb c 42) (behind_run (is_match cs) (d ∷ ds)) (stands_for c d && is_match cs ds) (at_run cs (d ∷ ds)) (cond (stands_for c d) (remainder cs ds) fails)
+    refl (by_and (stands_for c d) (is_match cs ds) (remainder cs ds) (remainder-meaning cs ds))
 
 -- ---- slashes are counted
 
@@ -99,7 +99,7 @@ pub record Led (cs ds p s : List ℕ) : Type 0 where
   pub counted : slashes ds ≡ count + slashes s
   pub follows : (y : List ℕ) → is_match cs y ≡ true → (behind_run (is_match p) (drop size y) ≡ true) × (slashes y ≡ count + slashes (drop size y))
 
-at_next : (b : Bool) (l : Lead) (p s : List ℕ) → cond b l fails ≡ at_run p s → (b ≡ true) × (l ≡ at_run p s)
+at_next : (b : Bool) (l : Remainder) (p s : List ℕ) → cond b l fails ≡ at_run p s → (b ≡ true) × (l ≡ at_run p s)
 at_next true l p s h = (refl, h)
 at_next false l p s h = absurd (cc)
 
@@ -149,15 +149,15 @@ led_more c d cs ds p s star one l = record {
         let even : slash e ≡ slash d = same_slash c e d parts.0 one in
         (after.0, omega (arith, after.1, even))
 
-led_at : (b : Bool) (c : ℕ) (cs ds p s : List ℕ) → eqb c 42 ≡ b → cond b (at_run cs ds) (lead_one c (lead cs) ds) ≡ at_run p s
-    → ((es : List ℕ) → lead cs es ≡ at_run p s → Led cs es p s) → Led (c ∷ cs) ds p s
+led_at : (b : Bool) (c : ℕ) (cs ds p s : List ℕ) → eqb c 42 ≡ b → cond b (at_run cs ds) (remainder_one c (remainder cs) ds) ≡ at_run p s
+    → ((es : List ℕ) → remainder cs es ≡ at_run p s → Led cs es p s) → Led (c ∷ cs) ds p s
 led_at true c cs ds p s star h later = led_here c cs ds p s star (run_pattern cs ds p s h) (run_path cs ds p s h)
 led_at false c cs [] p s star h later = absurd (no_run p s h)
 led_at false c cs (d ∷ ds) p s star h later =
-    let next = at_next (stands_for c d) (lead cs ds) p s h in
+    let next = at_next (stands_for c d) (remainder cs ds) p s h in
     led_more c d cs ds p s star next.0 (later ds next.1)
 
-led : (cs ds p s : List ℕ) → lead cs ds ≡ at_run p s → Led cs ds p s
+led : (cs ds p s : List ℕ) → remainder cs ds ≡ at_run p s → Led cs ds p s
 led [] [] p s h = absurd (no_run_of_whole p s h)
 led [] (d ∷ ds) p s h = absurd (no_run p s h)
 led (c ∷ cs) ds p s h = led_at (eqb c 42) c cs ds p s refl h (λ es k. led cs es p s k)
@@ -167,7 +167,7 @@ led (c ∷ cs) ds p s h = led_at (eqb c 42) c cs ds p s refl h (λ es k. led cs 
 swapped : (m r : ℕ) (ds s : List ℕ) → s ≡ drop m ds → drop m (drop r ds) ≡ drop r s
 swapped m r ds s e = drop-drop m r ds ∙ ap (λ (k : ℕ). drop k ds) (omega arith) ∙ sym (drop-drop r m ds) ∙ ap (drop r) (sym e)
 
-forgets : (cs ds p s : List ℕ) → lead cs ds ≡ at_run p s → behind_run (is_match cs) ds ≡ true → behind_run (is_match p) s ≡ true
+forgets : (cs ds p s : List ℕ) → remainder cs ds ≡ at_run p s → behind_run (is_match cs) ds ≡ true → behind_run (is_match p) s ≡ true
 forgets cs ds p s h k =
     let l : Led cs ds p s = led cs ds p s h in
     let t : Taken (is_match cs) ds = taken (is_match cs) ds k in
@@ -187,39 +187,39 @@ same_Bool true false f g = sym (f refl)
 same_Bool false true f g = g refl
 same_Bool false false f g = refl
 
-pub settles : (cs ds p s : List ℕ) → lead cs ds ≡ at_run p s → behind_run (is_match cs) ds ≡ behind_run (is_match p) s
+pub settles : (cs ds p s : List ℕ) → remainder cs ds ≡ at_run p s → behind_run (is_match cs) ds ≡ behind_run (is_match p) s
 settles cs ds p s h =
-    same_Bool _ _ (forgets cs ds p s h) (λ k. empty_run (is_match cs) ds (lead-meaning cs ds ∙ ap meaning h ∙ k))
+    same_Bool _ _ (forgets cs ds p s h) (λ k. empty_run (is_match cs) ds (remainder-meaning cs ds ∙ ap meaning h ∙ k))
 
-pub matches_whole : (cs ds : List ℕ) → lead cs ds ≡ whole → behind_run (is_match cs) ds ≡ true
-matches_whole cs ds h = empty_run (is_match cs) ds (lead-meaning cs ds ∙ ap meaning h)
+pub matches_whole : (cs ds : List ℕ) → remainder cs ds ≡ whole → behind_run (is_match cs) ds ≡ true
+matches_whole cs ds h = empty_run (is_match cs) ds (remainder-meaning cs ds ∙ ap meaning h)
 
-fails_at_end : (cs : List ℕ) → lead cs [] ≡ fails → behind_run (is_match cs) [] ≡ false
-fails_at_end cs h = lead-meaning cs [] ∙ ap meaning h
+fails_at_end : (cs : List ℕ) → remainder cs [] ≡ fails → behind_run (is_match cs) [] ≡ false
+fails_at_end cs h = remainder-meaning cs [] ∙ ap meaning h
 
-fails_on : (cs : List ℕ) (d : ℕ) (ds : List ℕ) → lead cs (d ∷ ds) ≡ fails → behind_run (is_match cs) (d ∷ ds) ≡ (not (eqb d 47) && behind_run (is_match cs) ds)
-fails_on cs d ds h = ap (λ (b : Bool). b || (not (eqb d 47) && behind_run (is_match cs) ds)) (lead-meaning cs (d ∷ ds) ∙ ap meaning h)
+fails_on : (cs : List ℕ) (d : ℕ) (ds : List ℕ) → remainder cs (d ∷ ds) ≡ fails → behind_run (is_match cs) (d ∷ ds) ≡ (not (eqb d 47) && behind_run (is_match cs) ds)
+fails_on cs d ds h = ap (λ (b : Bool). b || (not (eqb d 47) && behind_run (is_match cs) ds)) (remainder-meaning cs (d ∷ ds) ∙ ap meaning h)
 
 -- ---- what is left is shorter
 
 abbrev Shorter : List ℕ → List ℕ → List ℕ → List ℕ → Type 0
 Shorter cs ds p s = (length p < length cs) × (length s ≤ length ds)
 
-shorter_at : (b : Bool) (c : ℕ) (cs ds p s : List ℕ) → cond b (at_run cs ds) (lead_one c (lead cs) ds) ≡ at_run p s
-    → ((es : List ℕ) → lead cs es ≡ at_run p s → Shorter cs es p s) → Shorter (c ∷ cs) ds p s
+shorter_at : (b : Bool) (c : ℕ) (cs ds p s : List ℕ) → cond b (at_run cs ds) (remainder_one c (remainder cs) ds) ≡ at_run p s
+    → ((es : List ℕ) → remainder cs es ≡ at_run p s → Shorter cs es p s) → Shorter (c ∷ cs) ds p s
 shorter_at true c cs ds p s k later =
     let e : length cs ≡ length p = ap length (run_pattern cs ds p s k) in
     let f : length ds ≡ length s = ap length (run_path cs ds p s k) in
     (omega arith, omega arith)
 shorter_at false c cs [] p s k later = absurd (no_run p s k)
 shorter_at false c cs (d ∷ ds) p s k later =
-    let less : Shorter cs ds p s = later ds (at_next (stands_for c d) (lead cs ds) p s k).1 in
+    let less : Shorter cs ds p s = later ds (at_next (stands_for c d) (remainder cs ds) p s k).1 in
     (omega (arith, less.0), omega (arith, less.1))
 
-pub lead-shorter : (cs ds p s : List ℕ) → lead cs ds ≡ at_run p s → Shorter cs ds p s
-lead-shorter [] [] p s h = absurd (no_run_of_whole p s h)
-lead-shorter [] (d ∷ ds) p s h = absurd (no_run p s h)
-lead-shorter (c ∷ cs) ds p s h = shorter_at (eqb c 42) c cs ds p s h (λ es k. lead-shorter cs es p s k)
+pub remainder-shorter : (cs ds p s : List ℕ) → remainder cs ds ≡ at_run p s → Shorter cs ds p s
+remainder-shorter [] [] p s h = absurd (no_run_of_whole p s h)
+remainder-shorter [] (d ∷ ds) p s h = absurd (no_run p s h)
+remainder-shorter (c ∷ cs) ds p s h = shorter_at (eqb c 42) c cs ds p s h (λ es k. remainder-shorter cs es p s k)
 
 -- ---- the test is the relation
 
@@ -272,7 +272,7 @@ is_match-Matches b cs ds e = (λ h. Matches-from cs ds (sym e ∙ h), λ m. e �
 
 -- ---- one step behind a run
 
-pub ends : (cs ds : List ℕ) → fails ≡ lead cs ds → None ≡ past_one ds → behind_run (is_match cs) ds ≡ false
+pub ends : (cs ds : List ℕ) → fails ≡ remainder cs ds → None ≡ past_one ds → behind_run (is_match cs) ds ≡ false
 ends cs [] h k = fails_at_end cs (sym h)
 ends cs (d ∷ ds) h k = fails_on cs d ds (sym h) ∙ stuck (eqb d 47) (behind_run (is_match cs) ds) ds k
   where
@@ -287,7 +287,7 @@ past_slash false es f ds k = (cc, cc)
 no_more : (es : List ℕ) → Some es ≡ None → ⊥
 no_more es k = cc
 
-pub goes_on : (cs ds es : List ℕ) → fails ≡ lead cs ds → Some es ≡ past_one ds → behind_run (is_match cs) ds ≡ behind_run (is_match cs) es
+pub goes_on : (cs ds es : List ℕ) → fails ≡ remainder cs ds → Some es ≡ past_one ds → behind_run (is_match cs) ds ≡ behind_run (is_match cs) es
 goes_on cs [] es h k = absurd (no_more es k)
 goes_on cs (d ∷ ds) es h k = fails_on cs d ds (sym h) ∙ (past_slash (eqb d 47) es (behind_run (is_match cs)) ds k).0
 

@@ -8,7 +8,7 @@ use Rattle.meta.specs.declared.fault.Fault.{Fault}
 use Rattle.deleg.specs.declared.accepted.Accepted.{Accepted}
 use Rattle.deleg.specs.Edge.{Edge, edges, followed, is_for}
 use Rattle.deleg.specs.Search.{Visited, done, settled, walk, accepting, examined, target_of, is_visited}
-use Rattle.deleg.specs.Quest.{Quest, outlook, pending, pending_with, is_passed, after_passed, IsNext, GoesOn, Ends}
+use Rattle.deleg.specs.Query.{Query, outlook, pending, pending_with, is_passed, after_passed, IsNext, GoesOn, Ends}
 use Rattle.deleg.specs.declared.found.Found.{Found}
 use Rattle.deleg.specs.declared.found.Found.TheVariants.{Listed, NotFound, LimitReached, RoleRefused}
 use Rattle.deleg.proofs.Walking.{left, walk-skips, walk-stops, walk-refused, walk-finds, walk-descends}
@@ -21,7 +21,7 @@ pending-push path (fs ∷ files) es =
 
 -- ---- delegations that are passed over
 
-module _ (q : Quest) (s : List Accepted) where
+module _ (q : Query) (s : List Accepted) where
   abbrev on : List Edge → Visited
   on es = walk q.files q.now q.top q.snap q.path q.most es s
 

@@ -11,10 +11,10 @@ use Rattle.deleg.specs.Accepted.{Searched}
 use Rattle.deleg.specs.declared.accepted.Accepted.{Accepted}
 use Rattle.deleg.specs.Edge.{Edge, edges, followed}
 use Rattle.deleg.specs.Search.{done, settled, walk, target_of, search_from, search_in}
-use Rattle.deleg.specs.Quest.{Quest, outlook, pending}
+use Rattle.deleg.specs.Query.{Query, outlook, pending}
 use Rattle.deleg.specs.declared.found.Found.TheVariants.{Listed}
 
-starts : (q : Quest) (m : Targets) (files : List (List Edge)) → files ≡ edges m q.path ∷ [] → None ≡ target_of m q.path
+starts : (q : Query) (m : Targets) (files : List (List Edge)) → files ≡ edges m q.path ∷ [] → None ≡ target_of m q.path
     → outlook q (pending q.path files) [] ≡ search_from q.files q.now q.top q.snap q.path q.most m
 unfolding outlook
 starts q m files e none =
@@ -25,7 +25,7 @@ along : {E : Type 0} (r : Result Searched E) (a b : Searched) → a ≡ b → If
 along (Ok s) a b e h = h ∙ e
 along (Err x) a b e h = h
 
-pub starts_from : {E : Type 0} (q : Quest) (m : Targets) (files : List (List Edge)) (r : Result Searched E) → files ≡ edges m q.path ∷ [] → None ≡ target_of m q.path
+pub starts_from : {E : Type 0} (q : Query) (m : Targets) (files : List (List Edge)) (r : Result Searched E) → files ≡ edges m q.path ∷ [] → None ≡ target_of m q.path
     → IfOk r (λ s. s ≡ outlook q (pending q.path files) []) → IfOk r (λ s. s ≡ search_from q.files q.now q.top q.snap q.path q.most m)
 starts_from q m files r e none h = along r _ _ (starts q m files e none) h
 

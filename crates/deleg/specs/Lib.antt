@@ -1,10 +1,10 @@
 pub mod Pattern
 pub mod Prefix
-pub mod Lead
+pub mod Remainder
 pub mod Accepted
 pub mod Bin
 pub mod Edge
 pub mod Search
-pub mod Quest
-pub mod Held
+pub mod Query
+pub mod Delegator
 pub mod Values

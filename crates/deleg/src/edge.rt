@@ -9,8 +9,8 @@ ghost use Rattle.deleg.specs.Pattern.{is_match};
 ghost use Rattle.deleg.specs.Prefix.{path_digest};
 ghost use Rattle.meta.specs.Delegated.{roles_in};
 ghost use Rattle.deleg.specs.Edge as spec;
-ghost use Rattle.deleg.specs.Held as held;
-ghost use Rattle.deleg.specs.Held.{edges_by, roles_by};
+ghost use Rattle.deleg.specs.Delegator as delegator;
+ghost use Rattle.deleg.specs.Delegator.{edges_by, roles_by};
 ghost use Rattle.deleg.specs.Values.{edge_of};
 
 use crate::bin::bin_name;
@@ -92,7 +92,7 @@ fn role_count(roles: &Roles) -> usize
 
 /// The name of the path's bin, where the file has bins.
 pub(crate) fn bin_of(alloc: Global, targets: &Targets, path: &str) -> Result<Text, NoMemory>
-    ensures { IfOk result (λ bin. bin ≡ held.bin_of targets.now path.now) }
+    ensures { IfOk result (λ bin. bin ≡ delegator.bin_of targets.now path.now) }
 {
     let name = match targets.delegations() {
         Some(delegations) => bin_in(alloc, delegations.roles(), path)?,
@@ -102,7 +102,7 @@ pub(crate) fn bin_of(alloc: Global, targets: &Targets, path: &str) -> Result<Tex
 }
 
 fn bin_in(alloc: Global, roles: &Roles, path: &str) -> Result<String, NoMemory>
-    ensures { IfOk result (λ name. string_bytes name ≡ held.bin_in path.now (roles_in roles.now)) }
+    ensures { IfOk result (λ name. string_bytes name ≡ delegator.bin_in path.now (roles_in roles.now)) }
 {
     match roles {
         Roles::Listed(_) => Ok(String::new(alloc)),

@@ -2,13 +2,13 @@
 
 ghost use Rattle.std.specs.Prelude.{◌≡◌, IfOk, drop, slice_get, option_map};
 ghost use Rattle.deleg.specs.Edge as spec;
-ghost use Rattle.deleg.specs.Held.{held_targets};
-ghost use Rattle.deleg.specs.Quest as quest;
+ghost use Rattle.deleg.specs.Delegator.{delegator_targets};
+ghost use Rattle.deleg.specs.Query as query;
 ghost use Rattle.deleg.specs.Values.{edge_of};
 
 use crate::accepted::Accepted;
 use crate::edge::{Edge, bin_of, edge_at, edge_count, is_for};
-use crate::quest::is_visited;
+use crate::query::is_visited;
 use cjson::NoMemory;
 use cjson::text::Text;
 use meta::{Part, Targets};
@@ -17,24 +17,24 @@ use std::marker::Model;
 
 /// The targets file whose delegations are tried.
 #[derive(Drop)]
-enum Held<'a> {
+enum Delegator<'a> {
     Trusted(&'a Targets),
     Accepted(Part<Targets>),
 }
 
-fn targets_in<'a>(file: &'a Held<'_>) -> &'a Targets
-    ensures { result.now ≡ held_targets file.now }
+fn targets_in<'a>(file: &'a Delegator<'_>) -> &'a Targets
+    ensures { result.now ≡ delegator_targets file.now }
 {
     match file {
-        Held::Trusted(targets) => targets,
-        Held::Accepted(part) => part.reading(),
+        Delegator::Trusted(targets) => targets,
+        Delegator::Accepted(part) => part.reading(),
     }
 }
 
 /// A targets file, the name of the bin of the path that is searched for, and how many of the file's
 /// delegations were tried; seen as those that are left.
 pub(crate) struct Frame<'a> {
-    file: Held<'a>,
+    file: Delegator<'a>,
     bin: Text,
     tried: usize,
 }
@@ -48,11 +48,11 @@ impl<'a> Drop for Frame<'a> {
 impl<'a> Model for Frame<'a> {
     ghost use Rattle.std.specs.Prelude.{List, drop};
     ghost use Rattle.deleg.specs.Edge as spec;
-    ghost use Rattle.deleg.specs.Held.{edges_by, held_targets};
+    ghost use Rattle.deleg.specs.Delegator.{edges_by, delegator_targets};
 
     ghost Value = { List spec.Edge };
 
-    ghost view = { λ f. drop f.tried (edges_by f.bin (held_targets f.file)) };
+    ghost view = { λ f. drop f.tried (edges_by f.bin (delegator_targets f.file)) };
 }
 
 impl<'a> Frame<'a> {
@@ -64,7 +64,7 @@ impl<'a> Frame<'a> {
         ensures { IfOk result (λ f. f ≡ spec.edges targets.now path.now) }
     {
         Ok(Frame {
-            file: Held::Trusted(targets),
+            file: Delegator::Trusted(targets),
             bin: bin_of(alloc, targets, path)?,
             tried: 0,
         })
@@ -79,7 +79,7 @@ impl<'a> Frame<'a> {
     {
         let bin = bin_of(alloc, part.reading(), path)?;
         Ok(Frame {
-            file: Held::Accepted(part),
+            file: Delegator::Accepted(part),
             bin,
             tried: 0,
         })
@@ -104,7 +104,7 @@ impl<'a> Frame<'a> {
     /// Leaves out the first delegations that aren't for the path or lead to visited roles, up to a
     /// terminating one that is for the path.
     pub(crate) fn pass(&mut self, path: &str, seen: &[Accepted])
-        ensures { self.new ≡ quest.after_passed path.now seen.now self.old }
+        ensures { self.new ≡ query.after_passed path.now seen.now self.old }
     {
         while self.starts_passed(path, seen) {
             self.skip();
@@ -112,7 +112,7 @@ impl<'a> Frame<'a> {
     }
 
     fn starts_passed(&self, path: &str, seen: &[Accepted]) -> bool
-        ensures { result ≡ quest.starts_passed path.now seen.now self.now }
+        ensures { result ≡ query.starts_passed path.now seen.now self.now }
     {
         match self.next() {
             Some(edge) => is_passed(&edge, path, seen),
@@ -123,7 +123,7 @@ impl<'a> Frame<'a> {
 
 /// Whether the delegation isn't for the path, or leads to a visited role and isn't terminating.
 fn is_passed(edge: &Edge, path: &str, seen: &[Accepted]) -> bool
-    ensures { result ≡ quest.is_passed path.now seen.now (edge_of edge.now) }
+    ensures { result ≡ query.is_passed path.now seen.now (edge_of edge.now) }
 {
     !is_for(edge, path) || (is_visited(seen, edge.name) && !edge.terminating)
 }

@@ -9,7 +9,7 @@ mod found;
 mod frame;
 mod pattern;
 mod prefix;
-mod quest;
+mod query;
 mod searching;
 mod walk;
 
@@ -19,5 +19,5 @@ pub use edge::is_matched;
 pub use found::Found;
 pub use pattern::matches;
 pub use prefix::prefix_matches;
-pub use quest::{has_role, target_of};
+pub use query::{has_role, target_of};
 pub use searching::search;

@@ -3,7 +3,7 @@
 ghost use Rattle.std.specs.Prelude.{◌≡◌, ◌==◌, ◌↔◌, ◌∷◌, [], IsTrue, MatchOption, option_map};
 ghost use Rattle.std.specs.Str.{chars};
 ghost use Rattle.deleg.specs.Pattern as spec;
-ghost use Rattle.deleg.specs.Lead.{lead, lead_of, past_one};
+ghost use Rattle.deleg.specs.Remainder.{remainder, remainder_of, past_one};
 
 /// Whether the pattern matches the whole path (TUF 1.0 section 4.5): `*` is a run of characters
 /// without `/`, also the empty one, `?` is one character that isn't `/`, and any other character is
@@ -32,7 +32,7 @@ enum Compared<'a> {
 
 /// Compares the characters before the pattern's first `*` with the first ones of the path.
 fn compare<'a>(pattern: &'a str, path: &'a str) -> Compared<'a>
-    ensures { lead_of result ≡ lead (chars pattern.now) (chars path.now) }
+    ensures { remainder_of result ≡ remainder (chars pattern.now) (chars path.now) }
 {
     let mut left = pattern;
     let mut rest = path;

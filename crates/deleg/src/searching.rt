@@ -10,7 +10,7 @@ ghost use Rattle.deleg.specs.Values.{quest_of};
 use crate::accepted::Searched;
 use crate::found::Found;
 use crate::frame::Frame;
-use crate::quest::{Quest, target_of};
+use crate::query::{Query, target_of};
 use crate::walk::walk;
 use cjson::NoMemory;
 use cjson::text::Text;
@@ -49,7 +49,7 @@ pub fn search<J: Judge>(
     let Some(targets) = trusted.targets() else {
         unreachable!()
     };
-    let quest = Quest {
+    let query = Query {
         alloc,
         files: &repo.metadata,
         moment: now,
@@ -58,29 +58,29 @@ pub fn search<J: Judge>(
         path,
         limit,
     };
-    search_from(&quest, targets.reading(), judge)
+    search_from(&query, targets.reading(), judge)
 }
 
 /// The search from the top-level targets file on.
 fn search_from<J: Judge>(
-    quest: &Quest,
+    query: &Query,
     targets: &Targets,
     judge: &mut J,
 ) -> Result<Searched, NoMemory>
-    ensures { let q = quest_of quest.now in
+    ensures { let q = quest_of query.now in
         IfOk result (λ s.
         s ≡ spec.search_from q.files q.now q.top q.snap q.path q.most targets.now) }
 {
-    if let Some(target) = target_of(targets, quest.path) {
-        let role = Text::new(String::from_str(quest.alloc, "targets")?);
+    if let Some(target) = target_of(targets, query.path) {
+        let role = Text::new(String::from_str(query.alloc, "targets")?);
         let found = Found::Listed {
             role,
-            target: target.copy(quest.alloc)?,
+            target: target.copy(query.alloc)?,
             visited: 1,
         };
-        return Ok(Searched::new(found, Vec::new(quest.alloc)));
+        return Ok(Searched::new(found, Vec::new(query.alloc)));
     }
-    let mut stack = Vec::new(quest.alloc);
-    stack.push(Frame::of_trusted(quest.alloc, targets, quest.path)?)?;
-    walk(quest, stack, judge)
+    let mut stack = Vec::new(query.alloc);
+    stack.push(Frame::of_trusted(query.alloc, targets, query.path)?)?;
+    walk(query, stack, judge)
 }

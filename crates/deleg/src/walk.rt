@@ -1,7 +1,7 @@
 //! The loop of a search over its stack.
 
 ghost use Rattle.std.specs.Prelude.{◌≡◌, ◌+◌, ◌<◌, ◌∷◌, ◌++◌, [], Some, drop, length, option_map, if◌then◌else◌, IfOk, IfSome, IfNone};
-ghost use Rattle.deleg.specs.Quest as spec;
+ghost use Rattle.deleg.specs.Query as spec;
 ghost use Rattle.deleg.specs.Search.{target_of as listed_in};
 ghost use Rattle.deleg.specs.Values.{quest_of};
 ghost use Rattle.deleg.specs.declared.found.Found.TheVariants as found;
@@ -9,7 +9,7 @@ ghost use Rattle.deleg.specs.declared.found.Found.TheVariants as found;
 use crate::accepted::{Accepted, Searched};
 use crate::found::Found;
 use crate::frame::Frame;
-use crate::quest::{Quest, examine, is_visited, target_of};
+use crate::query::{Query, examine, is_visited, target_of};
 use cjson::NoMemory;
 use cjson::text::Text;
 use keys::Judge;
@@ -17,17 +17,17 @@ use meta::{Part, Stop, Targets};
 
 /// Tries the delegations of the files on the stack, the last file's first.
 pub(crate) fn walk<'a, J: Judge>(
-    quest: &Quest,
+    query: &Query,
     mut stack: Vec<Frame<'a>>,
     judge: &mut J,
 ) -> Result<Searched, NoMemory>
     ensures { IfOk result (λ s.
-        s ≡ spec.outlook (quest_of quest.now)
-        (spec.pending quest.now.path.now stack.entry.items) []) }
+        s ≡ spec.outlook (quest_of query.now)
+        (spec.pending query.now.path.now stack.entry.items) []) }
 {
-    let mut seen = Vec::new(quest.alloc);
-    while let Some(frame) = next_frame(quest, &mut stack, seen.as_slice()) {
-        if let Some(found) = visit(quest, frame, &mut stack, &mut seen, judge)? {
+    let mut seen = Vec::new(query.alloc);
+    while let Some(frame) = next_frame(query, &mut stack, seen.as_slice()) {
+        if let Some(found) = visit(query, frame, &mut stack, &mut seen, judge)? {
             return Ok(Searched::new(found, seen));
         }
     }
@@ -36,17 +36,17 @@ pub(crate) fn walk<'a, J: Judge>(
 
 /// Takes the last file that has a delegation to visit, up to that delegation; None where no more is
 /// tried.
-fn next_frame<'a>(quest: &Quest, stack: &mut Vec<Frame<'a>>, seen: &[Accepted]) -> Option<Frame<'a>>
-    ensures none { let q = quest_of quest.now in
+fn next_frame<'a>(query: &Query, stack: &mut Vec<Frame<'a>>, seen: &[Accepted]) -> Option<Frame<'a>>
+    ensures none { let q = quest_of query.now in
         IfNone result (spec.Ends q (spec.pending q.path stack.old.items) seen.now found.NotFound
         seen.now) }
-    ensures next { IfSome result (spec.IsNext quest.now.path.now seen.now) }
-    ensures same { let q = quest_of quest.now in
+    ensures next { IfSome result (spec.IsNext query.now.path.now seen.now) }
+    ensures same { let q = quest_of query.now in
         IfSome result (λ f. spec.outlook q (spec.pending q.path stack.old.items) seen.now
         ≡ spec.outlook q (spec.pending_with q.path f stack.new.items) seen.now) }
 {
     while let Some(mut frame) = stack.pop() {
-        frame.pass(quest.path, seen);
+        frame.pass(query.path, seen);
         let Some(edge) = frame.next() else {
             continue;
         };
@@ -61,66 +61,66 @@ fn next_frame<'a>(quest: &Quest, stack: &mut Vec<Frame<'a>>, seen: &[Accepted]) 
 /// Visits the role of the file's first delegation: what the search found, or None where it goes on
 /// with the delegations that are now on the stack.
 fn visit<'a, J: Judge>(
-    quest: &Quest,
+    query: &Query,
     frame: Frame<'a>,
     stack: &mut Vec<Frame<'a>>,
     seen: &mut Vec<Accepted>,
     judge: &mut J,
 ) -> Result<Option<Found>, NoMemory>
-    requires { spec.IsNext quest.now.path.now seen.old.items frame }
-    ensures goes_on { let q = quest_of quest.now in
+    requires { spec.IsNext query.now.path.now seen.old.items frame }
+    ensures goes_on { let q = quest_of query.now in
         IfOk result (λ o. IfNone o (spec.GoesOn q
         (spec.pending_with q.path frame.entry stack.old.items) seen.old.items
         (spec.pending q.path stack.new.items) seen.new.items)) }
-    ensures ends { let q = quest_of quest.now in
+    ensures ends { let q = quest_of query.now in
         IfOk result (λ o. IfSome o (λ f. spec.Ends q
         (spec.pending_with q.path frame.entry stack.old.items) seen.old.items f seen.new.items)) }
 {
-    if seen.len() >= quest.limit.saturating_sub(1) {
+    if seen.len() >= query.limit.saturating_sub(1) {
         return Ok(Some(Found::LimitReached));
     }
     let Some(edge) = frame.next() else {
         unreachable!()
     };
     let terminating = edge.terminating;
-    let role = Text::new(String::from_str(quest.alloc, edge.name)?);
-    let part = match examine(quest, &edge, judge) {
+    let role = Text::new(String::from_str(query.alloc, edge.name)?);
+    let part = match examine(query, &edge, judge) {
         Ok(part) => part,
         Err(Stop::Refused(fault)) => return Ok(Some(Found::RoleRefused { role, fault })),
         Err(Stop::NoMemory) => return Err(NoMemory),
     };
-    if let Some(found) = accept(quest, role, &part, seen)? {
+    if let Some(found) = accept(query, role, &part, seen)? {
         return Ok(Some(found));
     }
     put_back(frame, terminating, stack)?;
-    stack.push(Frame::of_accepted(quest.alloc, part, quest.path)?)?;
+    stack.push(Frame::of_accepted(query.alloc, part, query.path)?)?;
     Ok(None)
 }
 
 /// Accepts a role, and looks the path up in its file.
 fn accept(
-    quest: &Quest,
+    query: &Query,
     role: Text,
     part: &Part<Targets>,
     seen: &mut Vec<Accepted>,
 ) -> Result<Option<Found>, NoMemory>
-    requires { length seen.old.items + 1 < quest.now.limit }
+    requires { length seen.old.items + 1 < query.now.limit }
     ensures accepted { IfOk result (λ _. seen.new.items ≡ seen.old.items
         ++ record { role = role; version = part.now.reading.header.version } ∷ []) }
     ensures found { IfOk result (λ o.
         o ≡ option_map (λ t. found.Listed role t (length seen.new.items + 1))
-        (listed_in part.now.reading quest.now.path.now)) }
+        (listed_in part.now.reading query.now.path.now)) }
 {
-    let name = Text::new(String::from_str(quest.alloc, role.as_str())?);
+    let name = Text::new(String::from_str(query.alloc, role.as_str())?);
     let version = part.reading().header().version.get();
     seen.push(Accepted {
         role: name,
         version,
     })?;
-    let Some(target) = target_of(part.reading(), quest.path) else {
+    let Some(target) = target_of(part.reading(), query.path) else {
         return Ok(None);
     };
-    let target = target.copy(quest.alloc)?;
+    let target = target.copy(query.alloc)?;
     Ok(Some(Found::Listed {
         role,
         target,

@@ -3,16 +3,16 @@ use Rattle.std.specs.Prelude.{ℕ, option_map, String, Vec}
 use Rattle.std.specs.declared.alloc.Global.{Global}
 use Rattle.std.specs.BTreeMap.{BTreeMap, get_by_text}
 use Rattle.examine.specs.Checks as spec
-use Rattle.examine.specs.declared.expect.Expect.{Expect}
-use Rattle.examine.specs.declared.expect.Listed.{Listed}
-use Rattle.examine.specs.declared.expect.Listed.TheVariants.{NotDue, Absent, As}
+use Rattle.examine.specs.declared.expectation.Expectation.{Expectation}
+use Rattle.examine.specs.declared.expectation.Listed.{Listed}
+use Rattle.examine.specs.declared.expectation.Listed.TheVariants.{NotDue, Absent, As}
 
 abbrev pub listed_of : Listed → spec.Listed
 listed_of NotDue = spec.not_due
 listed_of Absent = spec.absent
 listed_of (As l) = spec.listed_as l.now
 
-abbrev pub expectation : Expect → spec.Expectation
+abbrev pub expectation : Expectation → spec.Expectation
 expectation e = record {
   name = e.name.now;
   listed = listed_of e.listed;

@@ -5,7 +5,7 @@ ghost use Rattle.meta.specs.Answers.{Answers};
 ghost use Rattle.examine.specs.Checks as spec;
 ghost use Rattle.examine.specs.Expecting.{expectation, file_in};
 
-use crate::expect::Expect;
+use crate::expectation::Expectation;
 use crate::fetch::{Candidate, fetch_signed, listed_version};
 use crate::order::{check_expiry, check_root, check_snapshot, check_targets, is_newer};
 use keys::{Judge, enough};
@@ -18,7 +18,7 @@ use std::collections::BTreeMap;
 /// version that is due, and the file must be signed as expected and by its own root role.
 pub fn examine_root<J: Judge>(
     alloc: Global,
-    expect: &Expect,
+    expect: &Expectation,
     due: u64,
     files: &BTreeMap<String, Vec<u8>>,
     judge: &mut J,
@@ -43,7 +43,7 @@ pub fn examine_root<J: Judge>(
 /// A timestamp file where none is trusted, or its first fault (TUF 1.0 section 5.4).
 pub fn examine_first_timestamp<J: Judge>(
     alloc: Global,
-    expect: &Expect,
+    expect: &Expectation,
     files: &BTreeMap<String, Vec<u8>>,
     now: Moment,
     judge: &mut J,
@@ -60,7 +60,7 @@ pub fn examine_first_timestamp<J: Judge>(
 /// where it is signed as expected and has the version of `old` again.
 pub fn examine_next_timestamp<J: Judge>(
     alloc: Global,
-    expect: &Expect,
+    expect: &Expectation,
     old: &Timestamp,
     files: &BTreeMap<String, Vec<u8>>,
     now: Moment,
@@ -82,7 +82,7 @@ pub fn examine_next_timestamp<J: Judge>(
 /// names it must list, each with no lower version.
 pub fn examine_snapshot<J: Judge>(
     alloc: Global,
-    expect: &Expect,
+    expect: &Expectation,
     old: Option<&Snapshot>,
     files: &BTreeMap<String, Vec<u8>>,
     now: Moment,
@@ -100,7 +100,7 @@ pub fn examine_snapshot<J: Judge>(
 /// A targets file, top-level or delegated, or its first fault (TUF 1.0 sections 5.6 and 5.7).
 pub fn examine_targets<J: Judge>(
     alloc: Global,
-    expect: &Expect,
+    expect: &Expectation,
     files: &BTreeMap<String, Vec<u8>>,
     now: Moment,
     judge: &mut J,

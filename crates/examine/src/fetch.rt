@@ -7,7 +7,7 @@ ghost use Rattle.examine.specs.Checks as spec;
 ghost use Rattle.examine.specs.Expecting.{expectation, file_in, listed_of};
 ghost use Rattle.examine.specs.Fetching.{candidate_of};
 
-use crate::expect::{Expect, Listed};
+use crate::expectation::{Expectation, Listed};
 use cjson::Doc;
 use keys::{Judge, enough};
 use meta::{Content, Fault, Part, Reading, Stop, read_document, refuse_if};
@@ -24,7 +24,7 @@ pub(crate) struct Candidate<A: Reading> {
 /// The file that is expected, out of the repository's, signed as expected.
 pub(crate) fn fetch_signed<A: Reading + Drop, J: Judge>(
     alloc: Global,
-    expect: &Expect,
+    expect: &Expectation,
     files: &BTreeMap<String, Vec<u8>>,
     judge: &mut J,
 ) -> Result<Candidate<A>, Stop>
@@ -48,7 +48,7 @@ pub(crate) fn fetch_signed<A: Reading + Drop, J: Judge>(
 /// The file that is expected, out of the repository's, whoever signed it.
 fn fetch<A: Reading + Drop, J: Judge>(
     alloc: Global,
-    expect: &Expect,
+    expect: &Expectation,
     files: &BTreeMap<String, Vec<u8>>,
     judge: &mut J,
 ) -> Result<Candidate<A>, Stop>
@@ -63,7 +63,7 @@ fn fetch<A: Reading + Drop, J: Judge>(
 
 /// The bytes of the file, which must be listed where that is due, and be there.
 fn listed_bytes<'a>(
-    expect: &Expect,
+    expect: &Expectation,
     files: &'a BTreeMap<String, Vec<u8>>,
 ) -> Result<&'a [u8], Fault>
     ensures { result_map_both (λ b. b.now) (λ e. e) result

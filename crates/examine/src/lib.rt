@@ -1,6 +1,6 @@
 //! The checks of one metadata file, in order (TUF 1.0 sections 5.3 to 5.6).
 //!
-//! - [`Expect`] says what is expected of a file, whatever its kind.
+//! - [`Expectation`] says what is expected of a file, whatever its kind.
 //! - Each kind has an examination of its own, which answers the file or its first fault:
 //!   [`examine_root`], [`examine_first_timestamp`] and [`examine_next_timestamp`] (without and with
 //!   a trusted timestamp), [`examine_snapshot`], [`examine_targets`].
@@ -9,7 +9,7 @@
 #![tactic(auto)]
 
 mod examine;
-mod expect;
+mod expectation;
 mod fetch;
 mod order;
 mod target;
@@ -19,6 +19,6 @@ pub use examine::{
     examine_first_timestamp, examine_next_timestamp, examine_root, examine_snapshot,
     examine_targets,
 };
-pub use expect::{Expect, Listed};
+pub use expectation::{Expectation, Listed};
 pub use target::target_file;
 pub use timing::is_expired;

@@ -1,7 +1,7 @@
 -- Why a run ended early: whose mistake it is, and what is told of it.
 use Rattle.std.specs.Prelude.{ℕ, Bool, true, false, List, [], ◌∷◌, codes, decimal}
-use Rattle.maker.specs.declared.fault.MakeFault.{MakeFault}
-use Rattle.maker.specs.declared.fault.MakeFault.TheVariants as made
+use Rattle.seals.specs.declared.fault.MakeFault.{MakeFault}
+use Rattle.seals.specs.declared.fault.MakeFault.TheVariants as made
 use Rattle.failure.specs.declared.failure.Failure.{Failure}
 use Rattle.failure.specs.declared.failure.Failure.TheVariants.{Words, Now, State, Script, Input, Folder, Clock, Output, Memory}
 use Rattle.failure.specs.Line.{line}

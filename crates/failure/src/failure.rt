@@ -9,8 +9,8 @@ ghost use Rattle.rolechain.specs.declared.fault.StateFault.TheVariants as state;
 
 use cjson::NoMemory;
 use folder::LoadFault;
-use maker::MakeFault;
 use rolechain::StateFault;
+use seals::MakeFault;
 use std::alloc::{AllocError, AllocFailed};
 use std::io::{self, ErrorKind, Write};
 use thiserror::Error;

@@ -1,4 +1,4 @@
 pub mod Deals
 pub mod Owned
 pub mod PartLemmas
-mod Rows
+mod WorkedValues

@@ -6,7 +6,7 @@ use Rattle.cjson.specs.declared.fault.NoMemory.{NoMemory}
 use Rattle.crossbeam_deque.specs.Handles.{worker_flavor, worker_view}
 use Rattle.hands.specs.declared.rule.Took.{Took}
 use Rattle.hands.specs.Dealt.{took, Takes}
-use Rattle.hands.specs.Held.{Deck, IsOwn}
+use Rattle.hands.specs.Deques.{Deck, IsOwn}
 use Rattle.hands.proofs.Deals.{taken_below, range-snoc}
 
 pub some_below : (o : Option ℕ) (v w : Took) (n : ℕ) → IfSome o (λ x. Takes v (x ∷ []) w) → All (λ y. y < n) v.pushed → IfSome o (λ x. x < n)

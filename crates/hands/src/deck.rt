@@ -43,13 +43,13 @@ pub fn another(deck: &mut Deck) -> Pass<usize, Took>
 }
 
 /// The next number of one's own deque.
-pub fn pop(own: &mut Deck) -> Option<usize>
-    requires fifo { worker_flavor own.old ≡ 0 }
-    ensures same { SameWorker own.old own.new }
-    ensures some { IfSome result (λ n. Takes (worker_view own.old) (n ∷ []) (worker_view own.new)) }
-    ensures none { IfNone result (worker_view own.new ≡ worker_view own.old) }
+pub fn pop(deck: &mut Deck) -> Option<usize>
+    requires fifo { worker_flavor deck.old ≡ 0 }
+    ensures same { SameWorker deck.old deck.new }
+    ensures some { IfSome result (λ n. Takes (worker_view deck.old) (n ∷ []) (worker_view deck.new)) }
+    ensures none { IfNone result (worker_view deck.new ≡ worker_view deck.old) }
 {
-    own.pop_as::<Taken>()
+    deck.pop_as::<Taken>()
 }
 
 /// Tries once to take a number from another's deque.

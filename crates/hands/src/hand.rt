@@ -1,7 +1,7 @@
 //! A worker's numbers.
 ghost use Rattle.std.specs.Prelude.{◌≡◌, ◌≤◌, ◌<◌, IfOk, IfSome};
 ghost use Rattle.crossbeam_deque.specs.Handles.{stealer_deque, worker_deque};
-ghost use Rattle.hands.specs.Held.{IsOwn, IsOther, Thief};
+ghost use Rattle.hands.specs.Deques.{IsOwn, IsOther, Thief};
 
 use crate::deck::{Deck, Thief, another, filled, pop, steal};
 use crate::rule::Took;
@@ -20,7 +20,7 @@ pub(crate) struct Other {
 
 impl Model for Other {
     ghost use Rattle.std.specs.Prelude.{ℕ};
-    ghost use Rattle.hands.specs.Held.{IsOther};
+    ghost use Rattle.hands.specs.Deques.{IsOther};
 
     ghost Value = { ℕ };
 
@@ -53,7 +53,7 @@ pub struct Hand {
 impl Model for Hand {
     ghost use Rattle.std.specs.Prelude.{◌≡◌, All};
     ghost use Rattle.hands.specs.Parts.{Part};
-    ghost use Rattle.hands.specs.Held.{IsOwn};
+    ghost use Rattle.hands.specs.Deques.{IsOwn};
 
     ghost Value = { Part };
 
@@ -135,22 +135,22 @@ fn filled_below(alloc: Global, count: usize, from: usize, end: usize) -> Result<
 }
 
 // Lets another worker take.
-fn another_below(own: &mut Deck, count: usize, from: usize, end: usize) -> Pass<usize, Took>
-    requires { IsOwn count from end own.old }
-    ensures own { IsOwn count from end own.new }
-    ensures pass { (thief : Thief) → stealer_deque thief ≡ worker_deque own.new
+fn another_below(deck: &mut Deck, count: usize, from: usize, end: usize) -> Pass<usize, Took>
+    requires { IsOwn count from end deck.old }
+    ensures own { IsOwn count from end deck.new }
+    ensures pass { (thief : Thief) → stealer_deque thief ≡ worker_deque deck.new
         → IsOther count thief result }
 {
-    another(own)
+    another(deck)
 }
 
 // Takes from one's own deque.
-fn pop_below(own: &mut Deck, count: usize, from: usize, end: usize) -> Option<usize>
-    requires { IsOwn count from end own.old }
-    ensures own { IsOwn count from end own.new }
+fn pop_below(deck: &mut Deck, count: usize, from: usize, end: usize) -> Option<usize>
+    requires { IsOwn count from end deck.old }
+    ensures own { IsOwn count from end deck.new }
     ensures below { IfSome result (λ n. n < count) }
 {
-    pop(own)
+    pop(deck)
 }
 
 // Tries another worker's deque once.

@@ -1,5 +1,5 @@
 pub mod Asks
 pub mod Found
 pub mod Decoded
-mod Rows
+mod WorkedValues
 pub mod Sets

@@ -6,7 +6,7 @@ ghost use Rattle.keys.specs.Keys as spec;
 ghost use Rattle.keys.specs.GivesText.{GivesText};
 
 use cjson::text::{Text, is_text};
-use cjson::{Canon, NoMemory, canonical};
+use cjson::{CanonicalFault, NoMemory, canonical};
 use hex::FromHex;
 use lms::Public;
 use serde_json::Value;
@@ -30,7 +30,7 @@ impl Drop for Key {
 
 /// The id of a key object as it stands: the SHA-256 of its canonical text, in 64 lower-case hexadecimal
 /// digits (TUF 1.0 section 4.2). An object with a number that isn't whole has no canonical text, so no id.
-pub fn key_id(alloc: Global, key: &Value) -> Result<String, Canon>
+pub fn key_id(alloc: Global, key: &Value) -> Result<String, CanonicalFault>
     ensures digest { GivesText (spec.key_id (view key.now)) result string_bytes }
 {
     let text = canonical(alloc, key)?;
@@ -73,7 +73,7 @@ fn is_own_id(alloc: Global, id: &str, key: &Value) -> Result<bool, NoMemory>
 {
     match key_id(alloc, key) {
         Ok(found) => Ok(found.as_str() == id),
-        Err(Canon::Float) => Ok(false),
-        Err(Canon::NoMemory) => Err(NoMemory),
+        Err(CanonicalFault::Float) => Ok(false),
+        Err(CanonicalFault::NoMemory) => Err(NoMemory),
     }
 }

@@ -1,6 +1,7 @@
 //! One-time signatures: digits and chains.
 
 ghost use Rattle.std.specs.Prelude.{◌≡◌, ℕ, ◌+◌, ◌-◌, ◌*◌, ◌/◌, ◌^◌, ◌<◌, ◌≤◌, List, [], ◌∷◌, ◌++◌, length, slice_index, slice_index_or, take};
+ghost use Rattle.sha2.specs.Hashers.{Holds256};
 ghost use Rattle.sha2.specs.Sha256.{sha256};
 ghost use Rattle.lms.specs.Kind.{digit_bits, chain_count};
 ghost use Rattle.lms.specs.Carrying.{row_of};
@@ -29,6 +30,18 @@ pub(crate) fn u32str(n: u32) -> [u8; 4]
     ensures { result ≡ u32str n }
 {
     n.to_be_bytes()
+}
+
+// A hasher that was given the identifier, a number and the tag of what is hashed, with which all but
+// the chains' messages begin.
+pub(crate) fn hasher_of(id: &[u8; 16], number: u32, tag: u16) -> Sha256
+    ensures { Holds256 result (id.now ++ u32str number ++ u16str tag) }
+{
+    let mut hasher = Sha256::new();
+    hasher.update(id);
+    hasher.update(u32str(number));
+    hasher.update(u16str(tag));
+    hasher
 }
 
 // The `i`-th digit of `s`.
@@ -163,10 +176,7 @@ fn nodes(width: Width, y: &[u8]) -> [Node; MOST_CHAINS]
 fn key_of(width: Width, id: &[u8; 16], q: u32, values: &[Node; MOST_CHAINS]) -> Node
     ensures { result ≡ ots_digest id.now q (row_of values.now (chain_count width)) }
 {
-    let mut key = Sha256::new();
-    key.update(id);
-    key.update(u32str(q));
-    key.update(u16str(D_PBLC));
+    let mut key = hasher_of(id, q, D_PBLC);
     'chains: for i in 0..usize::from(width.chain_count()) {
         key.update(values[i]);
     }
@@ -189,10 +199,7 @@ pub(crate) fn ots_key(width: Width, id: &[u8; 16], q: u32, c: &[u8], y: &[u8], m
 pub(crate) fn message_digest(id: &[u8; 16], q: u32, c: &[u8], msg: &[u8]) -> Node
     ensures { result ≡ message_digest id.now q c.now msg.now }
 {
-    let mut hasher = Sha256::new();
-    hasher.update(id);
-    hasher.update(u32str(q));
-    hasher.update(u16str(D_MESG));
+    let mut hasher = hasher_of(id, q, D_MESG);
     hasher.update(c);
     hasher.update(msg);
     hasher.finalize()

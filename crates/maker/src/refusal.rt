@@ -2,8 +2,8 @@
 
 ghost use Rattle.std.specs.Prelude.{◌≢◌};
 
-use crate::fault::MakeFault;
-use cjson::{Canon, NoMemory};
+use cjson::{CanonicalFault, NoMemory};
+use seals::MakeFault;
 use std::alloc::{AllocError, AllocFailed};
 
 /// Why a line of a script isn't followed.
@@ -45,11 +45,11 @@ impl From<NoMemory> for Refusal {
     }
 }
 
-impl From<Canon> for Refusal {
-    fn from(fault: Canon) -> Refusal {
+impl From<CanonicalFault> for Refusal {
+    fn from(fault: CanonicalFault) -> Refusal {
         match fault {
-            Canon::Float => Refusal::Line,
-            Canon::NoMemory => Refusal::NoMemory,
+            CanonicalFault::Float => Refusal::Line,
+            CanonicalFault::NoMemory => Refusal::NoMemory,
         }
     }
 }

@@ -8,11 +8,10 @@ use crate::objects::{
 };
 use crate::refusal::Refusal;
 use crate::ring::{ids_of, new_signer, place_of, places_of, put_keys};
-use crate::sealing::seal_text;
-use crate::signer::Signer;
 use cjson::canonical;
 use lms::{Height, Width};
 use meta::names;
+use seals::{Signer, seal_text};
 use serde_json::{Map, Value, json};
 use std::alloc::{AllocError, Global};
 use std::collections::BTreeMap;

@@ -4,9 +4,9 @@ ghost use Rattle.std.specs.Prelude.{◌<◌, IfSome, IfOk, All, length};
 
 use crate::objects::{key_object, put};
 use crate::refusal::Refusal;
-use crate::signer::{Signer, secret_of};
 use keys::key_id;
 use lms::{Height, Public, Width};
+use seals::{Signer, secret_of};
 use serde_json::{Map, Value};
 use std::alloc::Global;
 

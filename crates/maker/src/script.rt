@@ -2,10 +2,10 @@
 
 ghost use Rattle.std.specs.Prelude.{◌≢◌};
 
-use crate::fault::MakeFault;
 use crate::line::read_line;
 use crate::refusal::Refusal;
 use crate::repository::Repository;
+use seals::MakeFault;
 use std::alloc::Global;
 
 /// The files of the repository that a script makes, in the order of their names, which begin with

@@ -12,6 +12,16 @@ use std::alloc::Global;
 use std::collections::BTreeMap;
 use std::num::NonZeroUsize;
 
+/// A question about a signature, as a judge is asked it.
+#[derive(Clone, Copy)]
+pub(crate) struct Question<'a> {
+    pub file: &'a str,
+    pub place: usize,
+    pub public: &'a Public,
+    pub message: &'a [u8],
+    pub sig: &'a str,
+}
+
 /// A verdict on a signature: a key's public value, the signature's text, and whether it is valid.
 struct Verdict {
     public: Public,
@@ -58,14 +68,16 @@ impl Remembered {
     }
 
     /// The kept verdict, if all parts of the question are equal.
-    fn find(&self, place: usize, public: &Public, message: &[u8], sig: &str) -> Option<bool>
-        ensures { IfSome result (λ b. b ≡ is_signed_by public.now message.now sig.now) }
+    fn find(&self, question: &Question) -> Option<bool>
+        ensures { IfSome result (λ b. b ≡ is_signed_by
+            question.now.public.now question.now.message.now question.now.sig.now) }
     {
-        let verdict = self.verdicts.get(&(place, *public.bytes()))?;
-        if self.message.as_slice() != message {
+        let key = (question.place, *question.public.bytes());
+        let verdict = self.verdicts.get(&key)?;
+        if self.message.as_slice() != question.message {
             return None;
         }
-        answer_of(verdict, public, sig)
+        answer_of(verdict, question.public, question.sig)
     }
 
     /// Keeps a verdict in place of an earlier one at its place for its key.
@@ -92,13 +104,13 @@ fn answer_of(verdict: &Verdict, public: &Public, sig: &str) -> Option<bool>
 }
 
 /// A verdict on a signature, as it was asked for.
-fn verdict_on(alloc: Global, public: &Public, sig: &str, valid: bool) -> Result<Verdict, NoMemory>
-    ensures { IfOk result (λ v. (v.valid ≡ valid)
-        × (v.public ≡ public.now) × (string_bytes v.sig ≡ sig.now)) }
+fn verdict_on(alloc: Global, question: &Question, valid: bool) -> Result<Verdict, NoMemory>
+    ensures { IfOk result (λ v. (v.valid ≡ valid) × (v.public ≡ question.now.public.now)
+        × (string_bytes v.sig ≡ question.now.sig.now)) }
 {
     Ok(Verdict {
-        public: *public,
-        sig: String::from_str(alloc, sig)?,
+        public: *question.public,
+        sig: String::from_str(alloc, question.sig)?,
         valid,
     })
 }
@@ -132,52 +144,43 @@ impl Cache {
         })
     }
 
-    /// The digest by which the file of this name with this message is found. It isn't computed again where the file that
-    /// was used last has this name and these very bytes.
-    pub(crate) fn digest_of(&self, name: &str, message: &[u8]) -> [u8; 32] {
+    /// The digest by which the question's file is found. It isn't computed again where the file that
+    /// was used last has this name and this very message.
+    pub(crate) fn digest_of(&self, question: &Question) -> [u8; 32] {
         if let Some((digest, file)) = self.files.peek_mru() {
-            if file.name.as_str() == name && file.message.as_slice() == message {
+            if file.name.as_str() == question.file && file.message.as_slice() == question.message {
                 return *digest;
             }
         }
-        digest_of_parts(name, message)
+        digest_of_parts(question.file, question.message)
     }
 
-    /// The kept verdict on the message of the file with this digest, if all parts of the question are equal.
-    pub(crate) fn find(
-        &mut self,
-        digest: &[u8; 32],
-        place: usize,
-        public: &Public,
-        message: &[u8],
-        sig: &str,
-    ) -> Option<bool>
-        ensures { IfSome result (λ b. b ≡ is_signed_by public.now message.now sig.now) }
+    /// The kept verdict in the file with this digest, if all parts of the question are equal.
+    pub(crate) fn find(&mut self, digest: &[u8; 32], question: &Question) -> Option<bool>
+        ensures { IfSome result (λ b. b ≡ is_signed_by
+            question.now.public.now question.now.message.now question.now.sig.now) }
     {
-        self.files.get(digest)?.find(place, public, message, sig)
+        self.files.get(digest)?.find(question)
     }
 
-    /// Keeps a verdict on the message of the file of this name with this digest. After a refusal it may know less.
+    /// Keeps a verdict in the file with this digest. After a refusal it may know less.
     pub(crate) fn learn(
         &mut self,
         digest: [u8; 32],
-        name: &str,
-        place: usize,
-        public: &Public,
-        message: &[u8],
-        sig: &str,
+        question: &Question,
         valid: bool,
     ) -> Result<(), NoMemory>
-        requires { valid ≡ is_signed_by public.now message.now sig.now }
+        requires { valid ≡ is_signed_by
+            question.now.public.now question.now.message.now question.now.sig.now }
     {
-        let verdict = verdict_on(self.alloc, public, sig, valid)?;
+        let verdict = verdict_on(self.alloc, question, valid)?;
         if let Some(file) = self.files.get_mut(&digest) {
-            if file.message.as_slice() == message {
-                return file.learn(place, verdict);
+            if file.message.as_slice() == question.message {
+                return file.learn(question.place, verdict);
             }
         }
-        let mut file = Remembered::new(self.alloc, name, message)?;
-        file.learn(place, verdict)?;
+        let mut file = Remembered::new(self.alloc, question.file, question.message)?;
+        file.learn(question.place, verdict)?;
         self.files.put(digest, file)?;
         Ok(())
     }

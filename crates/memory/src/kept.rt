@@ -1,6 +1,6 @@
 //! A judge that remembers.
 
-use crate::cache::Cache;
+use crate::cache::{Cache, Question};
 use cjson::NoMemory;
 use keys::{Ask, Judge};
 
@@ -57,15 +57,20 @@ impl<J: Judge> Judge for Kept<'_, J> {
         if sig.len() / 2 != public.signature_len() {
             return self.inner.valid(ask);
         }
-        let digest = self.cache.digest_of(file, message);
-        if let Some(valid) = self.cache.find(&digest, place, public, message, sig) {
+        let question = Question {
+            file,
+            place,
+            public,
+            message,
+            sig,
+        };
+        let digest = self.cache.digest_of(&question);
+        if let Some(valid) = self.cache.find(&digest, &question) {
             self.taken_over = self.taken_over.saturating_add(1);
             return Ok(valid);
         }
         let valid = self.inner.valid(ask)?;
-        let _ = self
-            .cache
-            .learn(digest, file, place, public, message, sig, valid);
+        let _ = self.cache.learn(digest, &question, valid);
         Ok(valid)
     }
 }

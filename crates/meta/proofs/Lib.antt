@@ -1,2 +1,2 @@
 pub mod Hashed
-mod Rows
+mod WorkedValues

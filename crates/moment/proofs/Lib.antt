@@ -1,2 +1,2 @@
-mod Rows
+mod WorkedValues
 pub mod Stamps

@@ -1,3 +1,3 @@
 mod Numbered
-mod Rows
+mod WorkedValues
 mod Statuses

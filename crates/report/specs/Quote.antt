@@ -1,7 +1,7 @@
 -- How a name is printed, so that it stands on one line and between quotes.
-use Rattle.std.specs.Prelude.{ℕ, ◌/◌, ◌%◌, Bool, not, ◌&&◌, ◌==◌, nat_le, List, [], ◌∷◌, ◌++◌, if◌then◌else◌}
+use Rattle.std.specs.Prelude.{ℕ, Bool, not, ◌&&◌, ◌==◌, nat_le, List, [], ◌∷◌, ◌++◌, if◌then◌else◌}
 use Rattle.std.specs.List.{flat_map}
-use Rattle.std.specs.Char.{digit_char}
+use Rattle.hex.specs.Hex.{encode_lower}
 
 -- whether the byte stands for itself: 0x20 to 0x7e, but neither `"` nor `\`
 abbrev pub is_plain : ℕ → Bool
@@ -9,7 +9,7 @@ is_plain byte = nat_le 32 byte && nat_le byte 126 && not (byte == 34) && not (by
 
 -- a plain byte, or else `\x` and two lower-case hexadecimal digits
 abbrev pub quoted_byte : ℕ → List ℕ
-quoted_byte byte = if is_plain byte then byte ∷ [] else 92 ∷ 120 ∷ digit_char (byte / 16) ∷ digit_char (byte % 16) ∷ []
+quoted_byte byte = if is_plain byte then byte ∷ [] else 92 ∷ 120 ∷ encode_lower (byte ∷ [])
 
 -- each byte of the name, between double quotes
 abbrev pub quoted_text : List ℕ → List ℕ

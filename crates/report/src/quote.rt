@@ -1,6 +1,6 @@
 //! Names as they are printed.
-ghost use Rattle.std.specs.Prelude.{◌≡◌, ◌<◌, ◌/◌, ◌%◌, [], ◌∷◌, ◌++◌, IfOk, OnOk, string_bytes};
-ghost use Rattle.std.specs.Char.{digit_char};
+ghost use Rattle.std.specs.Prelude.{◌≡◌, [], ◌∷◌, ◌++◌, IfOk, OnOk, string_bytes};
+ghost use Rattle.hex.specs.Hex.{encode_lower};
 ghost use Rattle.report.specs.Quote.{quoted_byte, quoted_text};
 
 use std::alloc::{AllocError, Global};
@@ -12,40 +12,26 @@ pub(crate) fn quoted(alloc: Global, name: &str) -> Result<String, AllocError>
 {
     let mut text = String::from_str(alloc, "\"")?;
     for &byte in name.as_bytes() {
-        push_byte(&mut text, byte)?;
+        push_byte(alloc, &mut text, byte)?;
     }
     text.push('"')?;
     Ok(text)
 }
 
-fn push_byte(text: &mut String, byte: u8) -> Result<(), AllocError>
+fn push_byte(alloc: Global, text: &mut String, byte: u8) -> Result<(), AllocError>
     ensures { OnOk result (string_bytes text.new ≡ string_bytes text.old ++ quoted_byte byte) }
 {
     match byte {
-        b'"' | b'\\' | 0..=0x1f | 0x7f..=0xff => push_escape(text, byte),
+        b'"' | b'\\' | 0..=0x1f | 0x7f..=0xff => push_escape(alloc, text, byte),
         _ => text.push(char::from(byte)),
     }
 }
 
-fn push_escape(text: &mut String, byte: u8) -> Result<(), AllocError>
+fn push_escape(alloc: Global, text: &mut String, byte: u8) -> Result<(), AllocError>
     ensures { OnOk result (string_bytes text.new
-        ≡ string_bytes text.old
-        ++ 92 ∷ 120 ∷ digit_char (byte / 16) ∷ digit_char (byte % 16) ∷ []) }
+        ≡ string_bytes text.old ++ 92 ∷ 120 ∷ encode_lower (byte ∷ [])) }
 {
-    text.push('\\')?;
-    text.push('x')?;
-    text.push(digit(byte / 16))?;
-    text.push(digit(byte % 16))
-}
-
-/// The hexadecimal digit, in lower case.
-fn digit(value: u8) -> char
-    requires { value < 16 }
-    ensures { result ≡ digit_char value }
-{
-    if value < 10 {
-        char::from(b'0' + value)
-    } else {
-        char::from(b'a' - 10 + value)
-    }
+    let digits = hex::encode(alloc, [byte])?;
+    text.push_str("\\x")?;
+    text.push_str(digits.as_str())
 }

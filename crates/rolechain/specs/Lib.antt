@@ -10,5 +10,5 @@ pub mod Advance
 pub mod Roots
 pub mod Answers
 pub mod Kept
-pub mod Held
+pub mod Current
 pub mod Text

@@ -2,7 +2,7 @@
 
 ghost use Rattle.std.specs.Prelude.{◌≡◌, IfOk, option_map};
 ghost use Rattle.rolechain.specs.Advance.{with_root, with_timestamp, with_snapshot, with_targets, reading_in};
-ghost use Rattle.rolechain.specs.Held.{held_part};
+ghost use Rattle.rolechain.specs.Current.{current_part};
 ghost use Rattle.rolechain.specs.Parts.{AreRead};
 
 use crate::rotation::is_rotated;
@@ -14,17 +14,17 @@ use std::marker::Model;
 
 /// A file of a draft: one that was trusted before the cycle, or one that the cycle trusts.
 #[derive(Drop)]
-enum Held<'a, A: Reading> {
+enum Current<'a, A: Reading> {
     Before(&'a Part<A>),
     Since(Part<A>),
 }
 
 /// The trusted state while a cycle goes on. What stays is lent by the state before.
 pub(crate) struct Draft<'a> {
-    root: Held<'a, Root>,
-    timestamp: Option<Held<'a, Timestamp>>,
-    snapshot: Option<Held<'a, Snapshot>>,
-    targets: Option<Held<'a, Targets>>,
+    root: Current<'a, Root>,
+    timestamp: Option<Current<'a, Timestamp>>,
+    snapshot: Option<Current<'a, Snapshot>>,
+    targets: Option<Current<'a, Targets>>,
 }
 
 impl<'a> Drop for Draft<'a> {
@@ -41,15 +41,15 @@ impl<'a> Drop for Draft<'a> {
 impl<'a> Model for Draft<'a> {
     ghost use Rattle.std.specs.Prelude.{option_map};
     ghost use Rattle.rolechain.specs.State as spec;
-    ghost use Rattle.rolechain.specs.Held.{held_part};
+    ghost use Rattle.rolechain.specs.Current.{current_part};
 
     ghost Value = { spec.State };
 
     ghost view = { λ d. record {
-      root = held_part d.root;
-      timestamp = option_map held_part d.timestamp;
-      snapshot = option_map held_part d.snapshot;
-      targets = option_map held_part d.targets;
+      root = current_part d.root;
+      timestamp = option_map current_part d.timestamp;
+      snapshot = option_map current_part d.snapshot;
+      targets = option_map current_part d.targets;
     } };
 }
 
@@ -59,7 +59,7 @@ impl<'a> Draft<'a> {
         ensures { result ≡ before.now }
     {
         Draft {
-            root: Held::Before(before.root()),
+            root: Current::Before(before.root()),
             timestamp: lent(before.timestamp()),
             snapshot: lent(before.snapshot()),
             targets: lent(before.targets()),
@@ -118,7 +118,7 @@ impl<'a> Draft<'a> {
         ensures { self.new ≡ with_root self.old next }
     {
         let rotates = is_rotated(self.root().reading(), next.reading());
-        self.root = Held::Since(next);
+        self.root = Current::Since(next);
         if rotates {
             self.timestamp = None;
             self.snapshot = None;
@@ -128,67 +128,67 @@ impl<'a> Draft<'a> {
     pub(crate) fn trust_timestamp(&mut self, next: Part<Timestamp>)
         ensures { self.new ≡ with_timestamp self.old next }
     {
-        self.timestamp = Some(Held::Since(next));
+        self.timestamp = Some(Current::Since(next));
     }
 
     pub(crate) fn trust_snapshot(&mut self, next: Part<Snapshot>)
         ensures { self.new ≡ with_snapshot self.old next }
     {
-        self.snapshot = Some(Held::Since(next));
+        self.snapshot = Some(Current::Since(next));
     }
 
     pub(crate) fn trust_targets(&mut self, next: Part<Targets>)
         ensures { self.new ≡ with_targets self.old next }
     {
-        self.targets = Some(Held::Since(next));
+        self.targets = Some(Current::Since(next));
     }
 }
 
-fn lent<'a, A: Reading + Drop>(part: Option<&'a Part<A>>) -> Option<Held<'a, A>>
-    ensures { option_map held_part result ≡ option_map (λ p. p.now) part.entry }
+fn lent<'a, A: Reading + Drop>(part: Option<&'a Part<A>>) -> Option<Current<'a, A>>
+    ensures { option_map current_part result ≡ option_map (λ p. p.now) part.entry }
 {
     match part {
-        Some(part) => Some(Held::Before(part)),
+        Some(part) => Some(Current::Before(part)),
         None => None,
     }
 }
 
-fn part_in<'a, A: Reading + Drop>(held: &'a Held<'_, A>) -> &'a Part<A>
-    ensures { result.now ≡ held_part held.now }
+fn part_in<'a, A: Reading + Drop>(current: &'a Current<'_, A>) -> &'a Part<A>
+    ensures { result.now ≡ current_part current.now }
 {
-    match held {
-        Held::Before(part) => part,
-        Held::Since(part) => part,
+    match current {
+        Current::Before(part) => part,
+        Current::Since(part) => part,
     }
 }
 
-fn part_of<'a, A: Reading + Drop>(held: &'a Option<Held<'_, A>>) -> Option<&'a Part<A>>
-    ensures { option_map (λ p. p.now) result ≡ option_map held_part held.now }
+fn part_of<'a, A: Reading + Drop>(current: &'a Option<Current<'_, A>>) -> Option<&'a Part<A>>
+    ensures { option_map (λ p. p.now) result ≡ option_map current_part current.now }
 {
-    match held {
-        Some(held) => Some(part_in(held)),
+    match current {
+        Some(current) => Some(part_in(current)),
         None => None,
     }
 }
 
 /// The file itself, copied where the state before keeps it.
-fn owned<A: Reading + Drop>(alloc: Global, held: Held<'_, A>) -> Result<Part<A>, NoMemory>
-    ensures { IfOk result (λ p. p ≡ held_part held.entry) }
+fn owned<A: Reading + Drop>(alloc: Global, current: Current<'_, A>) -> Result<Part<A>, NoMemory>
+    ensures { IfOk result (λ p. p ≡ current_part current.entry) }
 {
-    match held {
-        Held::Before(part) => part.copy(alloc),
-        Held::Since(part) => Ok(part),
+    match current {
+        Current::Before(part) => part.copy(alloc),
+        Current::Since(part) => Ok(part),
     }
 }
 
 fn owned_of<A: Reading + Drop>(
     alloc: Global,
-    held: Option<Held<'_, A>>,
+    current: Option<Current<'_, A>>,
 ) -> Result<Option<Part<A>>, NoMemory>
-    ensures { IfOk result (λ p. p ≡ option_map held_part held.entry) }
+    ensures { IfOk result (λ p. p ≡ option_map current_part current.entry) }
 {
-    match held {
-        Some(held) => Ok(Some(owned(alloc, held)?)),
+    match current {
+        Some(current) => Ok(Some(owned(alloc, current)?)),
         None => Ok(None),
     }
 }

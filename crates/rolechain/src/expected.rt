@@ -5,17 +5,17 @@ ghost use Rattle.meta.specs.Names.{root_name, versioned as due_name};
 ghost use Rattle.examine.specs.Expecting.{expectation, listed_of};
 ghost use Rattle.rolechain.specs.Expected as spec;
 
-use examine::{Expect, Listed};
+use examine::{Expectation, Listed};
 use meta::names::{role_name, versioned};
 use meta::{Listing, Named, Root, Snapshot};
 use std::alloc::{AllocError, Global};
 
 /// What the root that follows is expected to be (TUF 1.0 section 5.3).
-pub(crate) fn due_root<'a>(root: &'a Root, name: &'a str) -> Expect<'a>
+pub(crate) fn due_root<'a>(root: &'a Root, name: &'a str) -> Expectation<'a>
     requires { name.now ≡ root_name (root.now.header.version + 1) }
     ensures { expectation result ≡ spec.next_root root.now }
 {
-    Expect {
+    Expectation {
         name,
         listed: Listed::NotDue,
         ring: root.ring(),
@@ -24,10 +24,10 @@ pub(crate) fn due_root<'a>(root: &'a Root, name: &'a str) -> Expect<'a>
 }
 
 /// What the timestamp is expected to be (TUF 1.0 section 5.4).
-pub(crate) fn due_timestamp(root: &Root) -> Expect<'_>
+pub(crate) fn due_timestamp(root: &Root) -> Expectation<'_>
     ensures { expectation result ≡ spec.due_timestamp root.now }
 {
-    Expect {
+    Expectation {
         name: "timestamp.json",
         listed: Listed::NotDue,
         ring: root.ring(),
@@ -53,11 +53,15 @@ pub(crate) fn snapshot_name(
 }
 
 /// What the snapshot that is so listed is expected to be (TUF 1.0 section 5.5).
-pub(crate) fn due_snapshot<'a>(root: &'a Root, listing: &'a Listing, name: &'a str) -> Expect<'a>
+pub(crate) fn due_snapshot<'a>(
+    root: &'a Root,
+    listing: &'a Listing,
+    name: &'a str,
+) -> Expectation<'a>
     requires { name.now ≡ due_name root.now.consistent listing.now.version (codes "snapshot.json") }
     ensures { expectation result ≡ spec.next_snapshot root.now listing.now }
 {
-    Expect {
+    Expectation {
         name,
         listed: Listed::As(listing),
         ring: root.ring(),
@@ -91,7 +95,7 @@ pub fn place_of<'a>(
 }
 
 /// What the top-level targets file that lies there is expected to be (TUF 1.0 section 5.6).
-pub(crate) fn due_targets<'a>(root: &'a Root, listed: Listed<'a>, name: &'a str) -> Expect<'a>
+pub(crate) fn due_targets<'a>(root: &'a Root, listed: Listed<'a>, name: &'a str) -> Expectation<'a>
     ensures { expectation result ≡ record {
       name = name.now;
       listed = listed_of listed.entry;
@@ -99,7 +103,7 @@ pub(crate) fn due_targets<'a>(root: &'a Root, listed: Listed<'a>, name: &'a str)
       role = root.now.targets;
     } }
 {
-    Expect {
+    Expectation {
         name,
         listed,
         ring: root.ring(),

@@ -4,7 +4,7 @@ use crate::shell::Shell;
 use anyhow::{Context, Result, bail};
 use cjson::{Doc, canonical, read_tree, signed_bytes};
 use lms::Height;
-use maker::{Signer, seal, secret};
+use seals::{Signer, seal, secret};
 use serde_json::Value;
 use sessions::{Told, script_of};
 use std::alloc::Global;

@@ -13,7 +13,7 @@ mod keepers;
 #[cfg(test)]
 mod outputs;
 #[cfg(test)]
-mod seals;
+mod sealing;
 #[cfg(test)]
 mod stored;
 #[cfg(test)]

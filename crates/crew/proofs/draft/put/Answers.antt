@@ -1,6 +1,6 @@
 use Rattle.std.proofs.Common.{◌≡◌, ◌≤◌, ◌∷◌, ◌++◌, ◌∙◌, [], length, vec_len, ap, sym, refl, arith}
 use Rattle.crew.specs.Questions.{mark}
-use Rattle.crew.specs.Held.{question_in}
+use Rattle.crew.specs.PlanFields.{question_in}
 use Rattle.crew.proofs.Drafting.{indexed_more, whole_more}
 use Rattle.crew.proofs.draft.put.Goals as goal
 

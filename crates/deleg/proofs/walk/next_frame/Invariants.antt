@@ -1,11 +1,11 @@
 use Rattle.std.proofs.Common.{◌≡◌, vec_len}
-use Rattle.deleg.specs.Quest.{outlook, pending}
+use Rattle.deleg.specs.Query.{outlook, pending}
 use Rattle.deleg.specs.Values.{quest_of}
 use Rattle.deleg.proofs.walk.next_frame.Given as goal
 
 abbrev pub invariant-loop-frame : goal.invariant-loop-frame
 invariant-loop-frame l =
-    let q = quest_of l.quest in
+    let q = quest_of l.query in
     outlook q (pending q.path l.initial.stack.items) l.seen ≡ outlook q (pending q.path l.stack.items) l.seen
 
 abbrev pub decreases-loop-frame : goal.decreases-loop-frame

@@ -6,12 +6,11 @@ use Rattle.lms.proofs.ots.key_of.Goals as goal
 
 pub chains-init : goal.chains-init
 chains-init c =
-    let held = c.update-3.ensures _ (c.update-2.ensures _ (c.update.ensures _ c.new-key.ensures)) in
-    rw (row_none, append-nil) (rw (c.u32str.ensures, c.u16str.ensures) at held)
+    rw (row_none, append-nil) c.hasher_of-key.ensures
 
 pub chains-preserved : goal.chains-preserved
 chains-preserved c =
-    let held = c.update-in-chains.ensures _ c.chains.invariant in
+    let held = c.update.ensures _ c.chains.invariant in
     rw (row_more, ← append_assoc) held
 
 pub returns : goal.returns

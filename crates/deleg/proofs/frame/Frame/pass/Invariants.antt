@@ -1,5 +1,5 @@
 use Rattle.std.proofs.Common.{◌≡◌, length}
-use Rattle.deleg.specs.Quest.{after_passed}
+use Rattle.deleg.specs.Query.{after_passed}
 use Rattle.deleg.proofs.frame.Frame.pass.Given as goal
 
 abbrev pub invariant-loop-self : goal.invariant-loop-self

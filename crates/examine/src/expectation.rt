@@ -15,7 +15,7 @@ pub enum Listed<'a> {
 
 /// What is expected of a file, whatever its kind.
 #[derive(Clone, Copy)]
-pub struct Expect<'a> {
+pub struct Expectation<'a> {
     /// The file's name in the repository.
     pub name: &'a str,
     pub listed: Listed<'a>,

@@ -1,6 +1,6 @@
 use Rattle.std.proofs.Common.{IsSome, refl, sym, subst}
-use Rattle.maker.proofs.Seals.{IsSome-canon-sealed, spent_all}
-use Rattle.maker.proofs.sealing.seal_text.Goals as goal
+use Rattle.seals.proofs.Seals.{IsSome-canon-sealed, spent_all}
+use Rattle.seals.proofs.sealing.seal_text.Goals as goal
 
 pub text_of-requires : goal.text_of-requires
 text_of-requires c =

@@ -11,8 +11,8 @@ use Rattle.serde_json.specs.declared.value.Value.{Value}
 use Rattle.cjson.specs.Canon.{canon, has_whole_numbers, items_are_whole, is_ordered, items_are_ordered}
 use Rattle.cjson.specs.declared.doc.Entry.{Entry}
 use Rattle.cjson.proofs.OnLiterals.{cjson_on_literals}
-use Rattle.maker.specs.declared.signer.Signer.{Signer}
-use Rattle.maker.specs.Sealed.{Holder, HasSpent, IsSignedAt, IsSignedBy, IsOverspent, entry_object, entry_objects, holder, sealed, spend, used_of}
+use Rattle.seals.specs.declared.signer.Signer.{Signer}
+use Rattle.seals.specs.Sealed.{Holder, HasSpent, IsSignedAt, IsSignedBy, IsOverspent, entry_object, entry_objects, holder, sealed, spend, used_of}
 
 -- ---- the file has a text
 

@@ -2,8 +2,8 @@ use Rattle.std.proofs.Common.{◌≡◌, List, map, fold, take}
 use Rattle.std.specs.List.{AllZip}
 use Rattle.serde_json.specs.View.{items_view}
 use Rattle.cjson.specs.declared.doc.Entry.{Entry}
-use Rattle.maker.specs.Sealed.{IsSignedAt, entry_objects, holder, spend, used_of}
-use Rattle.maker.proofs.sealing.entries.Given as goal
+use Rattle.seals.specs.Sealed.{IsSignedAt, entry_objects, holder, spend, used_of}
+use Rattle.seals.proofs.sealing.entries.Given as goal
 
 -- the entries of the places so far, all holders as before, and a leaf of each place
 abbrev pub invariant-loop-place : goal.invariant-loop-place

@@ -1,7 +1,7 @@
 use Rattle.std.proofs.Common.{◌<◌, length, map, slice_index_or, Err, inr, sym, ap, arith}
-use Rattle.maker.specs.Sealed.{holder}
-use Rattle.maker.proofs.Seals.{holders_kept, overspent_at, holder_at, entries_more, leaves_more, spent_or_not}
-use Rattle.maker.proofs.sealing.entries.Goals as goal
+use Rattle.seals.specs.Sealed.{holder}
+use Rattle.seals.proofs.Seals.{holders_kept, overspent_at, holder_at, entries_more, leaves_more, spent_or_not}
+use Rattle.seals.proofs.sealing.entries.Goals as goal
 
 pub returns-in_err-entry-clause-kept : goal.returns-in_err-entry-clause-kept
 returns-in_err-entry-clause-kept c =

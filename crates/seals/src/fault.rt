@@ -1,8 +1,8 @@
 //! Why a script or a seal is refused.
 
 ghost use Rattle.std.specs.Prelude.{◌≡◌};
-ghost use Rattle.maker.specs.Faults.{fault_of};
-ghost use Rattle.maker.specs.declared.fault.MakeFault.TheVariants as fault;
+ghost use Rattle.seals.specs.Faults.{fault_of};
+ghost use Rattle.seals.specs.declared.fault.MakeFault.TheVariants as fault;
 
 use cjson::NoMemory;
 use lms::SignFault;

@@ -3,7 +3,7 @@ use Rattle.std.specs.Prelude.{◌≡◌, refl, codes, fold, Some, [], ◌∷◌}
 use Rattle.serde_json.specs.Data.{object, no_members}
 use Rattle.cjson.proofs.OnLiterals.{cjson_on_literals}
 use Rattle.cjson.specs.Canon.{canon}
-use Rattle.maker.specs.Sealed.{sealed, spend}
+use Rattle.seals.specs.Sealed.{sealed, spend}
 
 pub file_of_nobody : canon (sealed (object no_members) []) ≡ Some (codes "{\"signatures\":[],\"signed\":{}}")
 unfolding cjson_on_literals

@@ -8,7 +8,7 @@ use Rattle.cjson.specs.declared.doc.Entry.{Entry}
 use Rattle.lms.specs.Kind.{levels}
 use Rattle.lms.specs.Lms.{is_valid}
 use Rattle.lms.specs.Signer.{public_of}
-use Rattle.maker.specs.declared.signer.Signer.{Signer}
+use Rattle.seals.specs.declared.signer.Signer.{Signer}
 
 -- ---- the file
 

@@ -10,7 +10,7 @@ use Rattle.deleg.specs.Search.{walk, settled, is_visited}
 use Rattle.deleg.specs.declared.found.Found.{Found}
 
 -- what is looked for, and where; `most` is how many roles may be visited
-pub record Quest : Type 0 where
+pub record Query : Type 0 where
   pub files : Files
   pub now : Moment
   pub top : Root
@@ -19,7 +19,7 @@ pub record Quest : Type 0 where
   pub most : ℕ
 
 -- what the search gives, where these delegations are pending and these roles were accepted
-unfoldable pub outlook : Quest → List Edge → List Accepted → Searched
+unfoldable pub outlook : Query → List Edge → List Accepted → Searched
 outlook q es seen = settled (walk q.files q.now q.top q.snap q.path q.most es seen)
 
 -- the pending delegations of each file, the last file's first
@@ -50,8 +50,8 @@ IsNext path seen [] = ⊥
 IsNext path seen (e ∷ es) = (is_for path e ≡ true) × (is_visited seen e.to.name ≡ false)
 
 -- the search goes on with other pending delegations, and with one more role accepted
-abbrev pub GoesOn : Quest → List Edge → List Accepted → List Edge → List Accepted → Type 0
+abbrev pub GoesOn : Query → List Edge → List Accepted → List Edge → List Accepted → Type 0
 GoesOn q es seen es' seen' = (outlook q es seen ≡ outlook q es' seen') × (length seen' ≡ length seen + 1) × (length seen' < q.most)
 
-abbrev pub Ends : Quest → List Edge → List Accepted → Found → List Accepted → Type 0
+abbrev pub Ends : Query → List Edge → List Accepted → Found → List Accepted → Type 0
 Ends q es seen found seen' = outlook q es seen ≡ record { found = found; accepted = seen' }

@@ -9,7 +9,7 @@ ghost use Rattle.deleg.specs.Values.{edge_of};
 
 use crate::accepted::Accepted;
 use crate::edge::Edge;
-use examine::{Expect, examine_targets};
+use examine::{Expectation, examine_targets};
 use keys::Judge;
 use meta::{Moment, Part, Root, Snapshot, Stop, Target, Targets};
 use rolechain::place_of;
@@ -19,7 +19,7 @@ use std::collections::BTreeMap;
 /// What a search looks for, and where: a path, in the repository's metadata files by their names, at
 /// a moment, below a trusted root and snapshot; it visits at most so many roles.
 #[derive(Clone, Copy)]
-pub(crate) struct Quest<'a> {
+pub(crate) struct Query<'a> {
     pub alloc: Global,
     pub files: &'a BTreeMap<String, Vec<u8>>,
     pub moment: Moment,
@@ -32,21 +32,21 @@ pub(crate) struct Quest<'a> {
 /// The file of the role that is delegated to, or its first fault: it must be listed by the snapshot,
 /// and signed by the keys that this delegation asks for.
 pub(crate) fn examine<J: Judge>(
-    quest: &Quest,
+    query: &Query,
     edge: &Edge,
     judge: &mut J,
 ) -> Result<Part<Targets>, Stop>
-    ensures { Answers (spec.examined (file_in quest.now.files.now) quest.now.moment
-        quest.now.root.now quest.now.snapshot.now (edge_of edge.now)) result (λ p. p) }
+    ensures { Answers (spec.examined (file_in query.now.files.now) query.now.moment
+        query.now.root.now query.now.snapshot.now (edge_of edge.now)) result (λ p. p) }
 {
-    let (listed, name) = place_of(quest.alloc, quest.root, quest.snapshot, edge.name)?;
-    let expect = Expect {
+    let (listed, name) = place_of(query.alloc, query.root, query.snapshot, edge.name)?;
+    let expect = Expectation {
         name: name.as_str(),
         listed,
         ring: edge.ring,
         role: edge.keys,
     };
-    examine_targets(quest.alloc, &expect, quest.files, quest.moment, judge)
+    examine_targets(query.alloc, &expect, query.files, query.moment, judge)
 }
 
 /// The target that a targets file lists under the path (TUF 1.0 section 4.5).

@@ -4,7 +4,7 @@ ghost use Rattle.std.specs.Prelude.{◌<◌, All, length};
 
 use cjson::{Doc, canonical, signed_bytes};
 use lms::{Height, Public, verify};
-use maker::{MakeFault, Signer, seal, secret};
+use seals::{MakeFault, Signer, seal, secret};
 use serde_json::json;
 use std::alloc::Global;
 use std::test::Fail;

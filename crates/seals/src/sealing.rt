@@ -6,11 +6,11 @@ ghost use Rattle.serde_json.specs.Find.{as_object};
 ghost use Rattle.serde_json.specs.View.{view, items_view};
 ghost use Rattle.cjson.specs.Canon.{canon};
 ghost use Rattle.cjson.specs.declared.doc.Entry.{Entry};
-ghost use Rattle.maker.specs.Sealed.{HasSpent, IsOverspent, IsSealed, IsSignedAt, IsSignedBy, entry_object, entry_objects, holder, sealed, spend, used_of};
+ghost use Rattle.seals.specs.Sealed.{HasSpent, IsOverspent, IsSealed, IsSignedAt, IsSignedBy, entry_object, entry_objects, holder, sealed, spend, used_of};
 
 use crate::fault::MakeFault;
 use crate::signer::Signer;
-use cjson::{Canon, canonical};
+use cjson::{CanonicalFault, canonical};
 use serde_json::{Value, json};
 use std::alloc::{AllocError, Global};
 
@@ -47,8 +47,8 @@ pub fn seal(
     seal_text(alloc, value, &text, signers, by)
 }
 
-/// The same, of a value whose canonical text is known.
-pub(crate) fn seal_text(
+/// As [`seal`], of a value whose canonical text is known.
+pub fn seal_text(
     alloc: Global,
     value: &Value,
     text: &[u8],
@@ -82,8 +82,8 @@ fn text_of(alloc: Global, value: &Value) -> Result<Vec<u8>, MakeFault>
 {
     match canonical(alloc, value) {
         Ok(text) => Ok(text),
-        Err(Canon::NoMemory) => Err(MakeFault::NoMemory),
-        Err(Canon::Float) => unreachable!(),
+        Err(CanonicalFault::NoMemory) => Err(MakeFault::NoMemory),
+        Err(CanonicalFault::Float) => unreachable!(),
     }
 }
 

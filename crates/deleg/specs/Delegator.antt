@@ -4,12 +4,12 @@ use Rattle.std.specs.Option.{option_map_or}
 use Rattle.meta.specs.Metadata.{Delegation, Roles, listed, binned, Targets}
 use Rattle.deleg.specs.Bin.{bin_name}
 use Rattle.deleg.specs.Edge as spec
-use Rattle.deleg.specs.declared.frame.Held.{Held}
-use Rattle.deleg.specs.declared.frame.Held.TheVariants.{Trusted, Accepted}
+use Rattle.deleg.specs.declared.frame.Delegator.{Delegator}
+use Rattle.deleg.specs.declared.frame.Delegator.TheVariants.{Trusted, Accepted}
 
-abbrev pub held_targets : Held → Targets
-held_targets (Trusted targets) = targets.now
-held_targets (Accepted part) = part.reading
+abbrev pub delegator_targets : Delegator → Targets
+delegator_targets (Trusted targets) = targets.now
+delegator_targets (Accepted part) = part.reading
 
 -- the name of the path's bin, where a file delegates to bins
 abbrev pub bin_in : List ℕ → Roles → List ℕ

@@ -1,0 +1,2 @@
+pub mod WorkedValues
+pub mod Seals
