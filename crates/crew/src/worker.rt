@@ -29,8 +29,9 @@ pub fn settle<C: Checks, G: Gate>(board: &Board, seat: &mut Seat, checks: &C, j:
     gate.leave(j);
 }
 
-/// Takes the next number and decides its check, where the seat wins it. The answer is whether to go on. Numbers count from
-/// the last check, since the work in order begins with the first: so the two meet once, and don't go side by side.
+/// Takes the next number and decides its check, where the seat wins it. The answer is whether to go
+/// on. All workers go down from the last check, in turns, since the work in order goes up from the
+/// first: so they meet it once, and nobody is left with checks that it has passed.
 #[tactic(auto, using(board::proofs::SeatLemmas::keeps_trans, board::proofs::SeatLemmas::free_kept))]
 fn step<C: Checks, G: Gate>(
     board: &Board,
@@ -52,7 +53,7 @@ fn step<C: Checks, G: Gate>(
     let Some(n) = hand.next() else {
         return false;
     };
-    let j = checks.count() - 1 - n;
+    let j = checks.count() - 1 - hand.turn(n);
     if !board.claim(seat, j) {
         return true;
     }

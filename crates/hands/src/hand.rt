@@ -5,6 +5,7 @@ ghost use Rattle.hands.specs.Deques.{IsOwn, IsOther, Thief};
 
 use crate::deck::{Deck, Thief, another, filled, pop, steal};
 use crate::rule::Took;
+use crate::turn::turn_of;
 use cjson::NoMemory;
 use crossbeam_deque::Pass;
 use std::alloc::Global;
@@ -122,6 +123,15 @@ impl Hand {
             }
         }
         None
+    }
+
+    /// Where a number comes if the parts of all hands are taken in turns: the first number of each
+    /// comes first, then the second ones, and so on. No two numbers come at one place.
+    pub fn turn(&self, n: usize) -> usize
+        requires below { n < self.now.count }
+        ensures below { result < self.now.count }
+    {
+        turn_of(self.count, self.others.len().saturating_add(1), n)
     }
 }
 

@@ -3,12 +3,14 @@
 //!
 //! - [`deal`] makes a [`Hand`] for each worker.
 //! - [`Hand::next`] gives a worker its next number: one of its own, or else one that it steals.
+//! - [`Hand::turn`] says where a number comes if the parts are taken in turns.
 #![tactic(auto)]
 
 mod dealing;
 mod deck;
 mod hand;
 mod rule;
+mod turn;
 
 pub use dealing::deal;
 pub use hand::Hand;

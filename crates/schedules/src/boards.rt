@@ -25,6 +25,11 @@ pub fn given<R: Threads + Wait + Sync>(
         "two-threads" => two_threads(rt, alloc, &Given::of_words(alloc, step.words())?)?,
         "worker" => one_worker(alloc, &Given::of_words(alloc, step.words())?)?,
         "stealing" => stealing(rt, alloc, &Given::of_words(alloc, step.words())?)?,
+        "turns" => turns(
+            alloc,
+            step.word(0)?.parse::<usize>()?,
+            step.word(1)?.parse::<usize>()?,
+        )?,
         _ => return Ok(None),
     };
     Ok(Some(text))
@@ -192,6 +197,27 @@ fn last_hand(hands: &mut Vec<Hand>, count: usize) -> Option<Hand>
     ensures rest { All (λ h. h.count ≡ count) hands.new.items }
 {
     hands.pop()
+}
+
+/// The turns of all numbers, as the last hand takes its own and steals those of the others.
+fn turns(alloc: Global, count: usize, workers: usize) -> Result<String> {
+    ensure!(workers > 0, "no worker");
+    let mut hands = hands_for(alloc, count, workers)?;
+    let hand = last_hand(&mut hands, count).context("no hand")?;
+    let mut text = String::from_str(alloc, "turns:")?;
+    push_turns(&mut text, count, hand)?;
+    Ok(text)
+}
+
+/// Adds the turns of the numbers that the hand takes.
+fn push_turns(text: &mut String, count: usize, mut hand: Hand) -> Result<()> {
+    for _ in 0..count {
+        if let Some(n) = hand.next() {
+            write!(text, " {}", hand.turn(n))?;
+        }
+    }
+    text.push('\n')?;
+    Ok(())
 }
 
 fn both_work<R: Threads>(

@@ -23,7 +23,7 @@ pub enum Rule {
     HeldToEnd(u64),
     /// The work in order begins, and a check that has entered is decided, once two have entered.
     TwoEntered,
-    /// Checks 0 to 3 wait until check 7 has entered, and check 7 until six have.
+    /// Check 7 waits until six checks have entered, and the others until check 7 has.
     Stealing,
     /// Each check takes so many turns before it is decided.
     Slow(u64),
@@ -101,8 +101,7 @@ impl Schedule {
     fn enter_stealing(&self, j: usize) {
         match j {
             7 => self.wait(&self.entered, 6),
-            0..=3 => self.wait(&self.seventh, 1),
-            _ => {}
+            _ => self.wait(&self.seventh, 1),
         }
     }
 }

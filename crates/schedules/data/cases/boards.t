@@ -27,6 +27,14 @@ A worker that is refused memory at a check gives its right back, so the check is
   $ worker refused refused
   done 0: Open Open, won 2
 
-Two workers with four of eight checks each, which they take from the last one on: the first has checks 7 to 4, and the second 3 to 0. Checks 0 to 3 wait until check 7 has entered, and check 7 until six have. So the first worker, held at check 7, can't enter its other three, and the second one's four with check 7 are five: the sixth is one that the second worker steals.
+The numbers that are dealt to hands, in the order in which the last hand has them: its own, and then those that it steals, from the first hand on. Three hands have the numbers 0 to 2, 3 and 4, and 5 and 6 of seven. In turns the first numbers of the hands come first, 0, 3 and 5, then 1, 4 and 6, and then 2. Three hands have one, one and none of two.
+  $ turns 7 3
+  turns: 2 5 0 3 6 1 4
+  $ turns 2 3
+  turns: 0 1
+  $ turns 4 1
+  turns: 0 1 2 3
+
+Two workers with four of eight checks each, which they take in turns from the last one on: the first has checks 7, 5, 3 and 1, and the second 6, 4, 2 and 0. Check 7 waits until six checks have entered, and the others until check 7 has. So the first worker, held at check 7, can't enter its other three, and the second one's four with check 7 are five: the sixth is one that the second worker steals.
   $ stealing valid valid valid valid valid valid valid valid
   done 8, late 0
