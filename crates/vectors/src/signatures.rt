@@ -16,6 +16,7 @@ pub fn given<R: Files + AllocGlobal + Clone + Drop>(
 ) -> Result<Option<String>> {
     let text = match step.name()? {
         "verify" => verified(layers, step)?,
+        "about" => about(layers.alloc, &vector_in(layers, step.word(0)?)?)?,
         "sign" => sign(layers, step)?,
         "leaves" => leaves(layers.alloc, step)?,
         _ => return Ok(None),
@@ -89,13 +90,21 @@ fn turn(bytes: &mut Vec<u8>, at: usize, bits: u8) -> Result<()> {
     Ok(())
 }
 
+/// What stands in a file.
+fn vector_in<R: Files + AllocGlobal + Clone + Drop>(
+    layers: &Layers<'_, R>,
+    name: &str,
+) -> Result<Vector> {
+    let text = layers.text(name)?;
+    Vector::read(layers.alloc, text.as_str())
+}
+
 /// Whether the signature in a file is valid, after a change.
 fn verified<R: Files + AllocGlobal + Clone + Drop>(
     layers: &Layers<'_, R>,
     step: &Step,
 ) -> Result<String> {
-    let text = layers.text(step.word(0)?)?;
-    let mut vector = Vector::read(layers.alloc, text.as_str())?;
+    let mut vector = vector_in(layers, step.word(0)?)?;
     vector.change(step.words().get(1..).unwrap_or(&[]))?;
     told(layers.alloc, vector.is_valid()?)
 }

@@ -190,6 +190,10 @@ of the first signature and the sixth one are from a program that shares no code 
   1292 bytes of 2668
   SHA-256 4a6ffc8bf6d95c56f514e0fee496e3309e9bb02a1fae0f95d16f2349006e1e34
   $ same sixth cases/leaf-5-5.vector
+  $ about sixth
+  root 599d16861dc9aacdc40b4275991c60ebdf9decfb219eb795df51d5c9a347762a
+  1292 bytes of 2668
+  SHA-256 099b6151260d6762cdab6942f1732b65511cd87c21769e99b4a07e1182d7acea
   $ verify first
   yes
   $ verify first message 0 1
