@@ -1,6 +1,7 @@
 -- Worked values of the definitions.
 use Rattle.std.proofs.Common.{◌≡◌, [], ◌∷◌, ◌++◌, refl, codes}
 use Rattle.std.specs.Fmt.{digits}
+use Rattle.hex.proofs.OnLiterals.{hex_on_literals}
 use Rattle.meta.specs.declared.fault.Fault.TheVariants as fault
 use Rattle.rolechain.specs.declared.end.Step.TheVariants as step
 use Rattle.rolechain.specs.declared.end.End.TheVariants.{Ready, Stopped}
@@ -10,10 +11,12 @@ use Rattle.report.specs.Quote.{quoted_text}
 
 -- `a`, a quote, `b`, a backslash, `é` in UTF-8 and a line feed
 quoted-escapes : quoted_text (97 ∷ 34 ∷ 98 ∷ 92 ∷ 195 ∷ 169 ∷ 10 ∷ []) ≡ codes "\"a\\x22b\\x5c\\xc3\\xa9\\x0a\""
+unfolding hex_on_literals
 quoted-escapes = refl
 
 -- the bytes at both ends of what stands for itself
 quoted-ends : quoted_text (31 ∷ 32 ∷ 126 ∷ 127 ∷ []) ≡ codes "\"\\x1f ~\\x7f\""
+unfolding hex_on_literals
 quoted-ends = refl
 
 root-line : root_text 1 ≡ codes "root 1" ++ 10 ∷ []
@@ -39,6 +42,7 @@ unfolding digits
 good-line = refl
 
 refused-line : verdict_text (codes "a") (RoleRefused (codes "b\"") fault.Unsigned) ≡ codes "no \"a\" Unsigned \"b\\x22\"" ++ 10 ∷ []
+unfolding hex_on_literals
 refused-line = refl
 
 -- each path stands with its own verdict
