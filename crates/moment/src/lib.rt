@@ -5,7 +5,7 @@ ghost use Rattle.std.specs.Prelude.{◌≡◌, ◌+◌, ◌*◌, ◌/◌, ◌%�
 ghost use Rattle.jiff_core.specs.Calendar.{IsDate, days_from_civil};
 ghost use Rattle.moment.specs.Moment as spec;
 
-use jiff::civil::Date;
+use jiff_core::civil::Date;
 use std::marker::Model;
 
 /// The day number of 31 December 9999.
@@ -146,7 +146,7 @@ fn day_number(year: u16, month: u8, day: u8) -> Option<i32>
     ensures none { IsNone result → IsDate (pos year) (pos month) (pos day) → ⊥ }
 {
     match Date::new(year as i16, month as i8, day as i8) {
-        Ok(date) => Some(date.to_plain().to_unix_epoch_day()),
+        Ok(date) => Some(date.to_unix_epoch_day()),
         Err(_) => None,
     }
 }
