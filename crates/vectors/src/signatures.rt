@@ -26,11 +26,20 @@ pub fn given<R: Files + AllocGlobal + Clone + Drop>(
 
 /// A public key, a message, and a signature. A file of them has a line of hexadecimal digits for
 /// each.
-#[derive(Drop)]
 struct Vector {
     public: Vec<u8>,
     message: Vec<u8>,
     signature: Vec<u8>,
+}
+
+impl Drop for Vector {
+    fn drop(self) {
+        let Vector {
+            public,
+            message,
+            signature,
+        } = self;
+    }
 }
 
 impl Vector {
