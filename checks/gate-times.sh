@@ -17,7 +17,7 @@ cd "$(dirname "$0")/.." || exit 2
 seen() {
     local pid words folder name task
     for pid in $(pgrep -x rattle); do
-        words=$(tr '\0' ' ' < "/proc/$pid/cmdline" 2> "/dev/null") || continue
+        { words=$(tr '\0' ' ' < "/proc/$pid/cmdline"); } 2> "/dev/null" || continue
         folder=$(readlink "/proc/$pid/cwd") || continue
         name=${words#*--crate-name }
         [ "$name" = "$words" ] && continue
