@@ -59,8 +59,8 @@ impl Drop for Roles {
     }
 }
 
-/// What was read ahead, each file once. A file stands here only where the one that leads to it could
-/// be read.
+/// What was read ahead, each file once. A file stands here only where the one that leads to it
+/// could be read.
 pub(crate) struct Ahead {
     pub roots: Vec<Read<Root>>,
     pub timestamp: Option<Read<Timestamp>>,
@@ -79,7 +79,8 @@ impl Drop for Ahead {
     }
 }
 
-/// Where is read, and for which paths: at most so many targets files, and at most so many questions.
+/// Where is read, and for which paths: at most so many targets files, and at most so many
+/// questions.
 #[derive(Clone, Copy)]
 pub(crate) struct Scope<'a> {
     pub alloc: Global,
@@ -162,8 +163,8 @@ fn read_snapshot(
     read_file(scope, name.as_str(), documents)
 }
 
-/// Reads the targets files that some wanted path leads to, the top-level one first, and then breadth
-/// first.
+/// Reads the targets files that some wanted path leads to, the top-level one first, and then
+/// breadth first.
 fn read_roles(
     scope: &Scope,
     top: &TopLevel,

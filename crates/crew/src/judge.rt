@@ -9,7 +9,8 @@ use cjson::NoMemory;
 use keys::{Ask, Direct, Judge};
 use std::marker::{Brand, Model, PhantomData};
 
-/// The seat that a judge began with, as a type: so it is known of a judge that comes back from a call which takes any.
+/// The seat that a judge began with, as a type: so it is known of a judge that comes back from a
+/// call which takes any.
 pub trait Sitting {
     ghost use Rattle.board.specs.Seats.{SeatValue};
 
@@ -22,8 +23,8 @@ impl Sitting for Brand {
     ghost start = { no_seat };
 }
 
-/// Answers from the board of a plan, and decides by itself what the plan hasn't or the board has no verdict of. It looks
-/// once, never waits, and publishes nothing.
+/// Answers from the board of a plan, and decides by itself what the plan hasn't or the board has no
+/// verdict of. It looks once, never waits, and publishes nothing.
 #[derive(Drop)]
 pub struct BoardJudge<'a, P: Questions, K: Sitting> {
     board: &'a Board,
@@ -64,7 +65,8 @@ impl<'a, P: Questions, K: Sitting> BoardJudge<'a, P, K> {
         }
     }
 
-    /// How many questions it answered from the board, and how many by itself. Each stays at the greatest number.
+    /// How many questions it answered from the board, and how many by itself. Each stays at the
+    /// greatest number.
     pub fn counts(&self) -> (u64, u64) {
         (self.taken_over, self.alone)
     }
@@ -95,7 +97,8 @@ impl<'a, P: Questions, K: Sitting> BoardJudge<'a, P, K> {
     }
 }
 
-/// Whether deciding it costs a digest. A text of another length than the key's signatures is refused without one.
+/// Whether deciding it costs a digest. A text of another length than the key's signatures is
+/// refused without one.
 fn is_dear(ask: &Ask) -> bool {
     match *ask {
         Ask::Signature { public, sig, .. } => sig.len() / 2 == public.signature_len(),

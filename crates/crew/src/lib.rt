@@ -4,7 +4,8 @@
 //! - [`work`] is what a worker does with the questions of its [`Hand`].
 //! - [`BoardJudge`] answers from the board, and decides by itself what the board hasn't.
 //!
-//! Nothing here starts a thread or waits. What is planned bears on no answer, only on how soon it is there.
+//! Nothing here starts a thread or waits. What is planned bears on no answer, only on how soon it
+//! is there.
 #![tactic(auto)]
 
 mod ahead;

@@ -38,8 +38,9 @@ pub(crate) enum Planned<'a> {
     },
 }
 
-/// Questions that a run is likely to ask, at most 4,096, each once. Contracts see the list of questions. An index
-/// finds a question by a digest of its names, and so at the price of one digest.
+/// Questions that a run is likely to ask, at most 4,096, each once. Contracts see the list of
+/// questions. An index finds a question by a digest of its names, and so at the price of one
+/// digest.
 pub struct Plan<'a> {
     documents: Vec<Document>,
     questions: Vec<Planned<'a>>,
@@ -71,17 +72,17 @@ impl<'a> Model for Plan<'a> {
 }
 
 impl<'a> Plan<'a> {
-    /// The questions that a run from this state on is likely to ask about the repository and the wanted
-    /// paths: at most `most`, none of them twice. `roles` is the number of roles that a search visits at
-    /// most; as many targets files are read as the searches for all wanted paths could visit. The
-    /// metadata is read as it stands, each file at most once, and nobody has verified it; a file that
-    /// can't be read is passed over, and so is what it would lead to.
+    /// The questions that a run from this state on is likely to ask about the repository and the
+    /// wanted paths: at most `most`, none of them twice. `roles` is the number of roles that a
+    /// search visits at most; as many targets files are read as the searches for all wanted paths
+    /// could visit. The metadata is read as it stands, each file at most once, and nobody has
+    /// verified it; a file that can't be read is passed over, and so is what it would lead to.
     ///
-    /// First come the signatures: of each successive root, by the keys of the root before it and by its
-    /// own; of timestamp, snapshot and top-level targets, by the last root's keys; of each delegated
-    /// role, by the keys of each delegation that leads to it. For each key that the role lists, each
-    /// entry under its id is a question, whatever its text looks like. Then come the listed digests of
-    /// the wanted targets whose files are there with the listed length.
+    /// First come the signatures: of each successive root, by the keys of the root before it and by
+    /// its own; of timestamp, snapshot and top-level targets, by the last root's keys; of each
+    /// delegated role, by the keys of each delegation that leads to it. For each key that the role
+    /// lists, each entry under its id is a question, whatever its text looks like. Then come the
+    /// listed digests of the wanted targets whose files are there with the listed length.
     ///
     /// Where `most` is 0, nothing is read. It refuses for want of memory alone.
     pub fn of(
@@ -160,8 +161,9 @@ impl<'a> Plan<'a> {
         Direct.valid(&self.ask(j))
     }
 
-    /// The number of the question all of whose parts are equal, and None exactly where the plan hasn't
-    /// it. It costs one digest of the question's names, and the comparison with one question at most.
+    /// The number of the question all of whose parts are equal, and None exactly where the plan
+    /// hasn't it. It costs one digest of the question's names, and the comparison with one question
+    /// at most.
     pub fn place_of(&self, ask: &Ask) -> Option<usize>
         ensures some { IfSome result (λ j. slice_get self.now j ≡ Some (question_of ask.now)) }
         ensures none { IfNone result ((j : ℕ) → slice_get self.now j ≢ Some (question_of ask.now)) }

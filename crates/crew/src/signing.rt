@@ -23,8 +23,8 @@ pub(crate) struct Signers<'a> {
     role: &'a RoleKeys,
 }
 
-/// Who has to sign the files that were read: a root by the keys before it and by its own, the others by
-/// the last root's, and a delegated role by those of each delegation that reaches it.
+/// Who has to sign the files that were read: a root by the keys before it and by its own, the
+/// others by the last root's, and a delegated role by those of each delegation that reaches it.
 pub(crate) fn lists<'b>(scope: &Scope<'b>, ahead: &'b Ahead) -> Result<Vec<Signers<'b>>, NoMemory> {
     let mut all = Vec::new(scope.alloc);
     add_roots(scope.trusted, ahead.roots.as_slice(), &mut all)?;
@@ -166,8 +166,8 @@ fn document_of(roles: &Roles, role: &str) -> Option<usize> {
     Some(roles.files.get(place)?.document)
 }
 
-/// Plans the questions about the signatures of these signers. Those of a document under one id are planned
-/// once, however many list the id.
+/// Plans the questions about the signatures of these signers. Those of a document under one id are
+/// planned once, however many list the id.
 #[tactic(auto, using(crate::proofs::Drafting::grows_none, crate::proofs::Drafting::grows_on))]
 pub(crate) fn sign_all<'a>(
     alloc: Global,
@@ -200,7 +200,8 @@ fn sign<'a, 'b>(
     Ok(())
 }
 
-/// Plans a question for each entry under the id, if the ring has its key and they weren't planned yet.
+/// Plans a question for each entry under the id, if the ring has its key and they weren't planned
+/// yet.
 #[tactic(auto, using(crate::proofs::Drafting::grows_none))]
 fn sign_under<'a, 'b>(
     draft: &mut Draft<'a>,

@@ -11,8 +11,8 @@ use meta::{Delegation, Delegations, Repo, Roles, Target, Targets};
 use std::alloc::Global;
 use std::collections::BTreeSet;
 
-/// Which delegations of a file are followed for some wanted path: those that match it, in order, up to
-/// the first that is terminating; none for a path that the file itself lists.
+/// Which delegations of a file are followed for some wanted path: those that match it, in order, up
+/// to the first that is terminating; none for a path that the file itself lists.
 pub(crate) fn followed(
     alloc: Global,
     targets: &Targets,

@@ -6,8 +6,9 @@ use crate::gate::Gate;
 use board::{Board, Checks, Seat};
 use hands::Hand;
 
-/// Decides the check that the seat has the right to, and publishes the verdict. Where the work was stopped, or the check
-/// can't be decided for want of memory, the right is given back. Either way the seat has none after it.
+/// Decides the check that the seat has the right to, and publishes the verdict. Where the work was
+/// stopped, or the check can't be decided for want of memory, the right is given back. Either way
+/// the seat has none after it.
 #[tactic(auto, using(board::proofs::SeatLemmas::keeps_trans, board::proofs::SeatLemmas::sits_kept))]
 pub fn settle<C: Checks, G: Gate>(board: &Board, seat: &mut Seat, checks: &C, j: usize, gate: &G)
     requires seat { IsSeatOf board.now seat.old }
@@ -61,8 +62,8 @@ fn step<C: Checks, G: Gate>(
     true
 }
 
-/// Claims and decides the checks whose numbers the hand gives, until the work is stopped or no number is left. The seat
-/// comes back with all that it had seen and done, and without a right.
+/// Claims and decides the checks whose numbers the hand gives, until the work is stopped or no
+/// number is left. The seat comes back with all that it had seen and done, and without a right.
 #[tactic(auto, using(board::proofs::SeatLemmas::keeps_trans))]
 pub fn work<C: Checks, G: Gate>(
     board: &Board,

@@ -10,9 +10,9 @@ use meta::Bins;
 use sha2::{Digest, Sha256};
 use std::alloc::{AllocError, Global};
 
-/// The name of the role of the path's bin: the prefix, `-`, and the first bits of the path's SHA-256
-/// digest as a number in lower-case hexadecimal, with zeros in front up to the width of the greatest
-/// bin's number. Two bins have two names. It refuses for want of memory alone.
+/// The name of the role of the path's bin: the prefix, `-`, and the first bits of the path's
+/// SHA-256 digest as a number in lower-case hexadecimal, with zeros in front up to the width of the
+/// greatest bin's number. Two bins have two names. It refuses for want of memory alone.
 #[tactic(auto, using(crate::proofs::Bins::apart))]
 pub fn bin_name(alloc: Global, bins: &Bins, path: &str) -> Result<String, NoMemory>
     ensures name { IfOk result (λ name. string_bytes name ≡ spec.bin_name bins.now path.now) }

@@ -33,8 +33,8 @@ pub(crate) struct Edge<'a> {
     pub paths: Option<&'a Paths>,
 }
 
-/// The delegation at a place of a targets file. Where the file has bins, that to the bin of this name
-/// is the only one.
+/// The delegation at a place of a targets file. Where the file has bins, that to the bin of this
+/// name is the only one.
 pub(crate) fn edge_at<'a>(targets: &'a Targets, bin: &'a str, place: usize) -> Option<Edge<'a>>
     ensures { option_map edge_of result ≡ slice_get (edges_by bin.now targets.now) place }
 {
@@ -102,7 +102,8 @@ pub(crate) fn bin_of(alloc: Global, targets: &Targets, path: &str) -> Result<Tex
 }
 
 fn bin_in(alloc: Global, roles: &Roles, path: &str) -> Result<String, NoMemory>
-    ensures { IfOk result (λ name. string_bytes name ≡ delegator.bin_in path.now (roles_in roles.now)) }
+    ensures { IfOk result (λ name.
+        string_bytes name ≡ delegator.bin_in path.now (roles_in roles.now)) }
 {
     match roles {
         Roles::Listed(_) => Ok(String::new(alloc)),

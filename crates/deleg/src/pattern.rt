@@ -58,8 +58,8 @@ fn compare<'a>(pattern: &'a str, path: &'a str) -> Compared<'a>
     }
 }
 
-/// Whether the pattern matches the path behind some run without `/`. Where the path fails before the
-/// next `*`, the run takes one more character; at the next `*` this one is settled.
+/// Whether the pattern matches the path behind some run without `/`. Where the path fails before
+/// the next `*`, the run takes one more character; at the next `*` this one is settled.
 fn matches_behind_run(pattern: &str, path: &str) -> bool
     ensures { result ≡ spec.behind_run (spec.is_match (chars pattern.now)) (chars path.now) }
 {

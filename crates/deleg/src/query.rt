@@ -16,8 +16,8 @@ use rolechain::place_of;
 use std::alloc::Global;
 use std::collections::BTreeMap;
 
-/// What a search looks for, and where: a path, in the repository's metadata files by their names, at
-/// a moment, below a trusted root and snapshot; it visits at most so many roles.
+/// What a search looks for, and where: a path, in the repository's metadata files by their names,
+/// at a moment, below a trusted root and snapshot; it visits at most so many roles.
 #[derive(Clone, Copy)]
 pub(crate) struct Query<'a> {
     pub alloc: Global,
@@ -29,8 +29,8 @@ pub(crate) struct Query<'a> {
     pub limit: usize,
 }
 
-/// The file of the role that is delegated to, or its first fault: it must be listed by the snapshot,
-/// and signed by the keys that this delegation asks for.
+/// The file of the role that is delegated to, or its first fault: it must be listed by the
+/// snapshot, and signed by the keys that this delegation asks for.
 pub(crate) fn examine<J: Judge>(
     query: &Query,
     edge: &Edge,

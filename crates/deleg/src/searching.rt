@@ -21,13 +21,13 @@ use std::alloc::Global;
 
 /// Searches for a path from the trusted top-level targets file on (TUF 1.0 section 5.6.7).
 ///
-/// Roles are visited in preorder, at most `limit` of them (a search of this project has a limit of 1
-/// to 256), the top-level role among them. A delegated role's file must be listed by the trusted
+/// Roles are visited in preorder, at most `limit` of them (a search of this project has a limit of
+/// 1 to 256), the top-level role among them. A delegated role's file must be listed by the trusted
 /// snapshot and signed as the delegation asks by which the search comes to it. Where the role lists
-/// the path, the search ends. Else its delegations that are for the path are followed in order; one to
-/// a role that was visited is skipped. After a terminating one nothing else is tried, whether it was
-/// followed or skipped. The search also ends with the first role that is refused, and where one more
-/// role would be visited than the limit allows.
+/// the path, the search ends. Else its delegations that are for the path are followed in order; one
+/// to a role that was visited is skipped. After a terminating one nothing else is tried, whether it
+/// was followed or skipped. The search also ends with the first role that is refused, and where one
+/// more role would be visited than the limit allows.
 pub fn search<J: Judge>(
     alloc: Global,
     trusted: &Trusted,

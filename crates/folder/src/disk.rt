@@ -19,8 +19,9 @@ pub enum Depth {
     Below,
 }
 
-/// The plain files of a folder of the file system. The folder itself may be a link; links, pipes and devices in it are
-/// passed over, and a name that isn't UTF-8 is a fault. Any list and any bytes may be given, since others write there too.
+/// The plain files of a folder of the file system. The folder itself may be a link; links, pipes
+/// and devices in it are passed over, and a name that isn't UTF-8 is a fault. Any list and any
+/// bytes may be given, since others write there too.
 #[derive(Drop)]
 pub struct Disk<'a, R> {
     rt: &'a R,

@@ -69,8 +69,9 @@ pub trait Folder {
         ensures count { result ≡ failures self.now };
 }
 
-/// All files of a folder, by name: each name of one list that `names` may give, with bytes that `read` may give for it.
-/// The names come from the folder alone. `Folder` is answered only where a call of the folder failed.
+/// All files of a folder, by name: each name of one list that `names` may give, with bytes that
+/// `read` may give for it. The names come from the folder alone. `Folder` is answered only where a
+/// call of the folder failed.
 #[tactic(auto, using(crate::proofs::Loading::one_more))]
 pub fn load<F: Folder>(
     alloc: Global,

@@ -46,7 +46,8 @@ pub fn another(deck: &mut Deck) -> Pass<usize, Took>
 pub fn pop(deck: &mut Deck) -> Option<usize>
     requires fifo { worker_flavor deck.old ≡ 0 }
     ensures same { SameWorker deck.old deck.new }
-    ensures some { IfSome result (λ n. Takes (worker_view deck.old) (n ∷ []) (worker_view deck.new)) }
+    ensures some { IfSome result (λ n.
+        Takes (worker_view deck.old) (n ∷ []) (worker_view deck.new)) }
     ensures none { IfNone result (worker_view deck.new ≡ worker_view deck.old) }
 {
     deck.pop_as::<Taken>()

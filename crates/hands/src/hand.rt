@@ -49,6 +49,8 @@ pub struct Hand {
     end: usize,
     own: Deck,
     others: Vec<Other>,
+    // The deque that is tried first next: 0 for its own, and then the others' in order.
+    first: usize,
 }
 
 impl Model for Hand {
@@ -82,6 +84,7 @@ impl Hand {
             end,
             own: filled_below(alloc, count, from, end)?,
             others: Vec::new(alloc),
+            first: 0,
         })
     }
 
@@ -107,22 +110,40 @@ impl Hand {
         Ok(())
     }
 
-    /// The next number: one of its own, or else one that it steals, with one try at each of the
-    /// other hands, from the next one upwards and round. None where no try gave a number, so
-    /// another hand may have some left. It waits for nobody and takes no memory.
+    /// The next number: one of its own, then one of each other hand's from the next one upwards and
+    /// round, and then again one of its own, so that all parts shrink evenly. There is one try at
+    /// each. None where no try gave a number, so another hand may have some left. It waits for
+    /// nobody and takes no memory.
     pub fn next(&mut self) -> Option<usize>
         ensures same { self.new ≡ self.old }
         ensures below { IfSome result (λ n. n < self.old.count) }
     {
-        if let Some(n) = pop_below(&mut self.own, self.count, self.from, self.end) {
-            return Some(n);
-        }
-        for k in 0..self.others.len() {
-            if let Some(n) = self.others[k].steal() {
+        for _ in 0..=self.others.len() {
+            let place = self.first;
+            self.first = if place < self.others.len() {
+                place + 1
+            } else {
+                0
+            };
+            if let Some(n) = self.take(place) {
                 return Some(n);
             }
         }
         None
+    }
+
+    // Tries one deque: its own at place 0, and the others' behind it.
+    fn take(&mut self, place: usize) -> Option<usize>
+        ensures same { self.new ≡ self.old }
+        ensures below { IfSome result (λ n. n < self.old.count) }
+    {
+        if place == 0 {
+            return pop_below(&mut self.own, self.count, self.from, self.end);
+        }
+        match self.others.get_mut(place - 1) {
+            Some(other) => other.steal(),
+            None => None,
+        }
     }
 
     /// Where a number comes if the parts of all hands are taken in turns: the first number of each

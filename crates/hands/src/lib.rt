@@ -2,7 +2,8 @@
 //! may steal.
 //!
 //! - [`deal`] makes a [`Hand`] for each worker.
-//! - [`Hand::next`] gives a worker its next number: one of its own, or else one that it steals.
+//! - [`Hand::next`] gives a worker its next number: one of its own, and then one of each other
+//!   hand.
 //! - [`Hand::turn`] says where a number comes if the parts are taken in turns.
 #![tactic(auto)]
 

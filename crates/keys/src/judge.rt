@@ -15,8 +15,9 @@ pub enum Algorithm {
     Sha512,
 }
 
-/// A question about a metadata file or a target. Its answer is a matter of computing: no role, version
-/// or date bears on it. The names and the place say where the question comes from, and not what is true.
+/// A question about a metadata file or a target. Its answer is a matter of computing: no role,
+/// version or date bears on it. The names and the place say where the question comes from, and not
+/// what is true.
 #[derive(Clone, Copy)]
 pub enum Ask<'a> {
     /// Whether the entry's text is the hexadecimal, in either case, of a valid signature of the
@@ -102,8 +103,8 @@ impl Ask<'_> {
 
 /// What answers questions, and only with the truth: by computing at once, or by what it remembers.
 pub trait Judge {
-    /// Whether the answer is yes. The only refusal is want of memory, after which the question may be
-    /// asked again.
+    /// Whether the answer is yes. The only refusal is want of memory, after which the question may
+    /// be asked again.
     fn valid(&mut self, ask: &Ask) -> Result<bool, NoMemory>
         ensures truth { IfOk result (λ b. b ≡ truth ask.now) };
 }

@@ -28,8 +28,9 @@ impl Drop for Key {
     }
 }
 
-/// The id of a key object as it stands: the SHA-256 of its canonical text, in 64 lower-case hexadecimal
-/// digits (TUF 1.0 section 4.2). An object with a number that isn't whole has no canonical text, so no id.
+/// The id of a key object as it stands: the SHA-256 of its canonical text, in 64 lower-case
+/// hexadecimal digits (TUF 1.0 section 4.2). An object with a number that isn't whole has no
+/// canonical text, so no id.
 pub fn key_id(alloc: Global, key: &Value) -> Result<String, CanonicalFault>
     ensures digest { GivesText (spec.key_id (view key.now)) result string_bytes }
 {

@@ -14,9 +14,10 @@ use serde_json::Value;
 use std::alloc::Global;
 use std::marker::Model;
 
-/// The usable keys of an object of keys (TUF 1.0 section 4.3), in the order of their ids: those of type
-/// `lms` and scheme `lms-sha256` whose `keyval.public` is the hexadecimal, in either case, of 56 bytes of
-/// a supported kind, each under its own id. Any other key stays in the file and counts for no threshold.
+/// The usable keys of an object of keys (TUF 1.0 section 4.3), in the order of their ids: those of
+/// type `lms` and scheme `lms-sha256` whose `keyval.public` is the hexadecimal, in either case, of
+/// 56 bytes of a supported kind, each under its own id. Any other key stays in the file and counts
+/// for no threshold.
 pub struct KeyRing {
     keys: Vec<Key>,
 }
@@ -37,8 +38,8 @@ impl Model for KeyRing {
 }
 
 impl KeyRing {
-    /// The ring of an object of keys, or None where the value isn't an object or one of its members isn't
-    /// one.
+    /// The ring of an object of keys, or None where the value isn't an object or one of its members
+    /// isn't one.
     pub fn read(alloc: Global, value: &Value) -> Result<Option<KeyRing>, NoMemory>
         ensures read { IfOk result (λ o. o ≡ spec.ring (view value.now)) }
     {

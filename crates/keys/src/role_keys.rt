@@ -30,8 +30,8 @@ impl Drop for RoleKeys {
 }
 
 impl RoleKeys {
-    /// The role of an object, or None where `keyids` isn't a list of texts or `threshold` isn't a whole
-    /// number of 1 to 9223372036854775807. Other members are ignored.
+    /// The role of an object, or None where `keyids` isn't a list of texts or `threshold` isn't a
+    /// whole number of 1 to 9223372036854775807. Other members are ignored.
     pub fn read(alloc: Global, value: &Value) -> Result<Option<RoleKeys>, NoMemory>
         ensures read { IfOk result (λ o. o ≡ spec.role_keys (view value.now)) }
     {

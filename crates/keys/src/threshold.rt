@@ -15,13 +15,14 @@ use cjson::{Doc, NoMemory};
 use std::alloc::Global;
 use std::collections::BTreeSet;
 
-/// Whether as many keys signed the document as the role asks for (TUF 1.0 section 4.3): keys of
-/// the ring that the role lists, each with an entry under its id that is valid on the canonical
-/// text of `signed`. Keys with one public value count once, however many ids or entries they have.
+/// Whether as many keys signed the document as the role asks for (TUF 1.0 section 4.3): keys of the
+/// ring that the role lists, each with an entry under its id that is valid on the canonical text of
+/// `signed`. Keys with one public value count once, however many ids or entries they have.
 ///
 /// The judge is told `file` as the name of the document's file. It is asked no more once there are
-/// enough keys, nor about a key that has a valid entry. Listed ids and entries are looked up by id, so
-/// that many keys over many entries cost no more than their number. Want of memory is the only refusal.
+/// enough keys, nor about a key that has a valid entry. Listed ids and entries are looked up by id,
+/// so that many keys over many entries cost no more than their number. Want of memory is the only
+/// refusal.
 pub fn enough<J: Judge>(
     alloc: Global,
     doc: &Doc,

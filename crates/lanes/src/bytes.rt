@@ -65,7 +65,8 @@ pub fn digest_words(digests: &[[u8; 32]; 4]) -> [u32x4; 8]
     )
 }
 
-/// The row of four prefixes: lane `i` has the words of prefix `i`, whose last word ends in two bytes 0.
+/// The row of four prefixes: lane `i` has the words of prefix `i`, whose last word ends in two
+/// bytes 0.
 pub fn prefix_words(texts: &[[u8; 22]; 4]) -> [u32x4; 6]
     ensures row { IsRow 6 result }
     ensures lanes { (i : ℕ) → i < 4 → IsPrefix (lane i result) (slice_index_or texts.now i []) }

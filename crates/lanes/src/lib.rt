@@ -4,7 +4,8 @@
 //! - [`step4`] is the digest of four messages of 55 bytes: a prefix, a counter and a digest.
 //! - [`prefix_words`], [`digest_words`] and [`digest`] go between bytes and rows of vectors.
 //!
-//! A vector has four lanes, one for each message, and a row is an array of vectors. Nothing here takes memory.
+//! A vector has four lanes, one for each message, and a row is an array of vectors. Nothing here
+//! takes memory.
 #![tactic(auto)]
 
 mod block;

@@ -80,8 +80,8 @@ pub(crate) fn initial() -> [u32x4; 8]
     ]
 }
 
-/// The digests of four messages (FIPS 180-4 section 6.2), each a prefix of 22 bytes, a byte `j` and a digest, as a row of
-/// digests. Between two steps no bytes are made.
+/// The digests of four messages (FIPS 180-4 section 6.2), each a prefix of 22 bytes, a byte `j` and
+/// a digest, as a row of digests. Between two steps no bytes are made.
 pub fn step4(prefix: &[u32x4; 6], j: u32x4, value: &[u32x4; 8]) -> [u32x4; 8]
     requires prefix { IsRow 6 prefix.now }
     requires value { IsRow 8 value.now }

@@ -22,8 +22,8 @@ pub(crate) fn maj(x: u32x4, y: u32x4, z: u32x4) -> u32x4
     y ^ ((x ^ y) & (y ^ z))
 }
 
-// The four functions below are three rotations or shifts under `^`. Their shifts stand inside one another, which takes
-// fewer copies of `x`, and the machine has no rotation of lanes.
+// The four functions below are three rotations or shifts under `^`. Their shifts stand inside one
+// another, which takes fewer copies of `x`, and the machine has no rotation of lanes.
 #[inline(always)]
 pub(crate) fn big_sigma0(x: u32x4) -> u32x4
     ensures { (i : ℕ) → i < 4 → IsAt i result (big_sigma0 (slice_index x i)) }

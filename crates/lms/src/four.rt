@@ -13,7 +13,8 @@ use std::simd::prelude::*;
 // The most chains that a leaf has, which is of W4.
 pub(crate) const MOST_CHAINS: usize = 67;
 
-// The most steps that four chains go on before others are chosen, which shares out the chains evenly.
+// The most steps that four chains go on before others are chosen, which shares out the chains
+// evenly.
 const MOST_STEPS: u8 = 128;
 
 // How often four chains are chosen. Twenty times is usual.
@@ -195,7 +196,8 @@ fn carry_each(
     }
 }
 
-// Carries each chain of a leaf from its digit on to its end: four at a time, and then what is left one after the other.
+// Carries each chain of a leaf from its digit on to its end: four at a time, and then what is left
+// one after the other.
 pub(crate) fn carry_to_ends(
     id: &[u8; 16],
     q: u32,

@@ -32,8 +32,8 @@ pub(crate) fn u32str(n: u32) -> [u8; 4]
     n.to_be_bytes()
 }
 
-// A hasher that was given the identifier, a number and the tag of what is hashed, with which all but
-// the chains' messages begin.
+// A hasher that was given the identifier, a number and the tag of what is hashed, with which all
+// but the chains' messages begin.
 pub(crate) fn hasher_of(id: &[u8; 16], number: u32, tag: u16) -> Sha256
     ensures { Holds256 result (id.now ++ u32str number ++ u16str tag) }
 {

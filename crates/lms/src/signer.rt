@@ -159,8 +159,8 @@ fn push_path(sig: &mut Vec<u8>, nodes: &[Node], height: Height, q: u32) -> Resul
 }
 
 impl Secret {
-    /// The key of W8 and height `h` whose identifier is `i` and whose one-time keys are made from `secret` (RFC 8554
-    /// sections 4.2, 5.2 and appendix A).
+    /// The key of W8 and height `h` whose identifier is `i` and whose one-time keys are made from
+    /// `secret` (RFC 8554 sections 4.2, 5.2 and appendix A).
     pub fn new(alloc: Global, i: [u8; 16], secret: [u8; 32], h: Height) -> Result<Secret, NoMemory>
         ensures key { IfOk result (λ s. s ≡ record {
           kind = record { width = Width.W8; height = h };
@@ -172,10 +172,11 @@ impl Secret {
         Secret::of(alloc, i, secret, Width::W8, h)
     }
 
-    /// The key of width `w` and height `h` whose identifier is `i` and whose one-time keys are made from `secret` (RFC
-    /// 8554 sections 4.2, 5.2 and appendix A).
+    /// The key of width `w` and height `h` whose identifier is `i` and whose one-time keys are made
+    /// from `secret` (RFC 8554 sections 4.2, 5.2 and appendix A).
     ///
-    /// It makes 2^h one-time keys of some 8,700 hashes (W8) or 1,100 (W4) each, and keeps 64 bytes for each of them.
+    /// It makes 2^h one-time keys of some 8,700 hashes (W8) or 1,100 (W4) each, and keeps 64 bytes
+    /// for each of them.
     pub fn of(
         alloc: Global,
         i: [u8; 16],
@@ -232,10 +233,11 @@ impl Secret {
         Ok(sig)
     }
 
-    /// Signs a message with the next leaf (RFC 8554 sections 4.5 and 5.4.1): the n-th message takes leaf n - 1.
+    /// Signs a message with the next leaf (RFC 8554 sections 4.5 and 5.4.1): the n-th message takes
+    /// leaf n - 1.
     ///
-    /// A key of height 5, 10 or 15 gives 32, 1,024 or 32,768 signatures. `C` is made as the start of a chain 0xfffd would
-    /// be, so the key, the leaf and the message determine the signature.
+    /// A key of height 5, 10 or 15 gives 32, 1,024 or 32,768 signatures. `C` is made as the start
+    /// of a chain 0xfffd would be, so the key, the leaf and the message determine the signature.
     #[tactic(auto, using(crate::proofs::Valid::signature_is_valid))]
     pub fn sign(&mut self, msg: &[u8]) -> Result<Vec<u8>, SignFault>
         ensures ok { IfOk result (λ sig. sig.items ≡ signature_by self.old self.old.used msg.now) }

@@ -35,8 +35,9 @@ impl Drop for Verdict {
     }
 }
 
-/// A file's name and signed bytes, and verdicts by the signature's place and the key's public value. Each is
-/// the truth of what is kept with it. The name is for finding the file, and bears on no truth.
+/// A file's name and signed bytes, and verdicts by the signature's place and the key's public
+/// value. Each is the truth of what is kept with it. The name is for finding the file, and bears on
+/// no truth.
 struct Remembered {
     name: String,
     message: Vec<u8>,
@@ -115,8 +116,9 @@ fn verdict_on(alloc: Global, question: &Question, valid: bool) -> Result<Verdict
     })
 }
 
-/// Verdicts on the signatures of the files that were used last, found by a digest of a file's name and signed bytes.
-/// Each is the truth, and none is used unless the signed bytes themselves are equal.
+/// Verdicts on the signatures of the files that were used last, found by a digest of a file's name
+/// and signed bytes. Each is the truth, and none is used unless the signed bytes themselves are
+/// equal.
 pub struct Cache {
     alloc: Global,
     files: LruCache<[u8; 32], Remembered>,
@@ -129,7 +131,8 @@ impl Drop for Cache {
 }
 
 impl Cache {
-    /// A cache for so many files, 1 to 4,096. Where one more is kept, the one that was used least recently goes.
+    /// A cache for so many files, 1 to 4,096. Where one more is kept, the one that was used least
+    /// recently goes.
     pub fn new(alloc: Global, capacity: usize) -> Result<Cache, NoMemory>
         requires least { 1 ≤ capacity }
         requires most { capacity ≤ 4096 }
@@ -144,8 +147,8 @@ impl Cache {
         })
     }
 
-    /// The digest by which the question's file is found. It isn't computed again where the file that
-    /// was used last has this name and this very message.
+    /// The digest by which the question's file is found. It isn't computed again where the file
+    /// that was used last has this name and this very message.
     pub(crate) fn digest_of(&self, question: &Question) -> [u8; 32] {
         if let Some((digest, file)) = self.files.peek_mru() {
             if file.name.as_str() == question.file && file.message.as_slice() == question.message {

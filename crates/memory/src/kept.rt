@@ -4,9 +4,9 @@ use crate::cache::{Cache, Question};
 use cjson::NoMemory;
 use keys::{Ask, Judge};
 
-/// Answers questions about signatures from a cache, where message, public value and the signature's text equal the kept
-/// ones. It asks another judge what the cache hasn't, and lets the cache keep the answer. Digests are always asked of
-/// the other judge.
+/// Answers questions about signatures from a cache, where message, public value and the signature's
+/// text equal the kept ones. It asks another judge what the cache hasn't, and lets the cache keep
+/// the answer. Digests are always asked of the other judge.
 ///
 /// A verdict that finds no memory isn't kept, and that's no refusal: only the other judge refuses.
 pub struct Kept<'a, J: Judge> {
@@ -53,7 +53,8 @@ impl<J: Judge> Judge for Kept<'_, J> {
         else {
             return self.inner.valid(ask);
         };
-        // A text of another length than the key's signatures is refused without a hash, so it isn't looked up either.
+        // A text of another length than the key's signatures is refused without a hash, so it isn't
+        // looked up either.
         if sig.len() / 2 != public.signature_len() {
             return self.inner.valid(ask);
         }

@@ -1,5 +1,5 @@
-//! The four kinds of metadata file (TUF 1.0 section 4), names of files, and a file with what is read
-//! from it.
+//! The four kinds of metadata file (TUF 1.0 section 4), names of files, and a file with what is
+//! read from it.
 #![tactic(auto)]
 
 mod bins;

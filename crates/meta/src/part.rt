@@ -125,7 +125,8 @@ impl<A: Reading + Drop> Part<A> {
         Part { bytes, reading }
     }
 
-    /// The file of these bytes: `TooLong` over the limit of its kind, else what its reading answers.
+    /// The file of these bytes: `TooLong` over the limit of its kind, else what its reading
+    /// answers.
     pub fn read(alloc: Global, bytes: Vec<u8>) -> Result<Part<A>, Stop>
         ensures answer { Answers (spec.part_of A.of_document A.limit bytes.items) result (λ p. p) }
     {

@@ -58,8 +58,8 @@ impl Target {
         })
     }
 
-    /// Whether the bytes of a file of that name are within the limit, and have the listed length and
-    /// digests: the first of these checks that fails (TUF 1.0 section 5.7).
+    /// Whether the bytes of a file of that name are within the limit, and have the listed length
+    /// and digests: the first of these checks that fails (TUF 1.0 section 5.7).
     pub fn check<J: Judge>(
         &self,
         file: &str,

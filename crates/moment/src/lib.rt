@@ -32,8 +32,8 @@ impl Model for Moment {
 
 impl Moment {
     /// The moment that a text of the form `YYYY-MM-DDTHH:MM:SSZ` spells, for a real date from year
-    /// 0000 to 9999, hours 00 to 23, and minutes and seconds 00 to 59 (TUF 1.0 section 4.2.1). `None`
-    /// for any other text.
+    /// 0000 to 9999, hours 00 to 23, and minutes and seconds 00 to 59 (TUF 1.0 section 4.2.1).
+    /// `None` for any other text.
     #[tactic(auto, using(crate::proofs::Stamps::no_moment, crate::proofs::Stamps::the_moment))]
     pub fn read(text: &str) -> Option<Moment>
         ensures value { result ≡ spec.moment_of text.now }

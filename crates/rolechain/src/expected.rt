@@ -69,8 +69,8 @@ pub(crate) fn due_snapshot<'a>(
     }
 }
 
-/// How the snapshot lists a role's targets file, and the name under which the file lies: where it is
-/// listed and the root asks for consistent snapshots, with its listed version in front (TUF 1.0
+/// How the snapshot lists a role's targets file, and the name under which the file lies: where it
+/// is listed and the root asks for consistent snapshots, with its listed version in front (TUF 1.0
 /// sections 5.6 and 5.6.7). Only memory can be refused.
 pub fn place_of<'a>(
     alloc: Global,

@@ -199,7 +199,7 @@ fn last_hand(hands: &mut Vec<Hand>, count: usize) -> Option<Hand>
     hands.pop()
 }
 
-/// The turns of all numbers, as the last hand takes its own and steals those of the others.
+/// The turns of all numbers, as the last hand takes them.
 fn turns(alloc: Global, count: usize, workers: usize) -> Result<String> {
     ensure!(workers > 0, "no worker");
     let mut hands = hands_for(alloc, count, workers)?;

@@ -20,8 +20,8 @@ struct Report {
 
 /// Runs the sessions of the files `cases/NAME.t` in order of their names, prints a report of each,
 /// and answers how many differ. Each begins with nothing beside the folder `cases`, and what it
-/// made is removed after it. `perform` does the steps whose commands this crate hasn't; an error of it
-/// says why a step can't be done.
+/// made is removed after it. `perform` does the steps whose commands this crate hasn't; an error of
+/// it says why a step can't be done.
 pub fn run_all<R: Files + AllocGlobal + Clone + Drop, F: Fn(&Step) -> Result<Told>, W: Write>(
     rt: &R,
     alloc: Global,

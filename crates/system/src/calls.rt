@@ -3,7 +3,8 @@ ghost use Rattle.std.specs.Prelude.{◌≡◌, List, ℕ, Bool, true, IfOk, IfSo
 
 use std::io;
 
-/// Single files, and the clock. What may be read and shown, and what was stored, is the system's meaning.
+/// Single files, and the clock. What may be read and shown, and what was stored, is the system's
+/// meaning.
 pub trait System {
     /// Whether `read` may give the bytes for the path.
     ghost gives: { Self → List ℕ → List ℕ → Bool };
@@ -18,12 +19,14 @@ pub trait System {
     fn read(&self, path: &str) -> io::Result<Vec<u8>>
         ensures given { IfOk result (λ bytes. gives self.now path.now bytes.items ≡ true) };
 
-    /// Stores the bytes as the file of that path, in place of what it held. After a refusal it is what it was.
+    /// Stores the bytes as the file of that path, in place of what it held. After a refusal it is
+    /// what it was.
     fn store(&mut self, path: &str, bytes: &[u8]) -> io::Result<()>
         ensures kept { OnOk result (keeps self.new path.now bytes.now ≡ true) }
         ensures refused { OnErr result (keeps self.new ≡ keeps self.old) };
 
-    /// The whole seconds since 1970-01-01T00:00:00Z, or None where the clock can't be read or is before that.
+    /// The whole seconds since 1970-01-01T00:00:00Z, or None where the clock can't be read or is
+    /// before that.
     fn seconds(&self) -> Option<u64>
         ensures shown { IfSome result (λ seconds. shows self.now seconds ≡ true) };
 }

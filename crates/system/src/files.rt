@@ -78,9 +78,10 @@ fn sync_folder<R: Files>(rt: &R, path: &str) -> io::Result<()> {
     File::open(rt, folder)?.sync_all()
 }
 
-/// Stores the bytes as the file of that path. A plain file, or a new one, is replaced as a whole: at each moment it has
-/// either what it had or the bytes, and after a refusal what it had. It keeps its rights, and a file that may not be
-/// written is refused. A link is followed to its file. What is no plain file is written in place.
+/// Stores the bytes as the file of that path. A plain file, or a new one, is replaced as a whole:
+/// at each moment it has either what it had or the bytes, and after a refusal what it had. It keeps
+/// its rights, and a file that may not be written is refused. A link is followed to its file. What
+/// is no plain file is written in place.
 pub fn store<R: Files + AllocGlobal>(rt: &R, path: &str, bytes: &[u8]) -> io::Result<()> {
     match fs::symlink_metadata(rt, path) {
         Ok(found) if found.is_symlink() => store_linked(rt, path, bytes),

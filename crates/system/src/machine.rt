@@ -7,8 +7,8 @@ use std::rt::{Clock, Files};
 use std::time::SystemTime;
 use std::{fs, io};
 
-/// The files and the clock of the operating system. Any bytes may be read and any time shown, since others write and
-/// set them too.
+/// The files and the clock of the operating system. Any bytes may be read and any time shown, since
+/// others write and set them too.
 #[derive(Clone, Copy, Drop)]
 pub struct Machine<'a, R> {
     rt: &'a R,
@@ -41,7 +41,8 @@ impl<'a, R: Files + Clock + AllocGlobal> System for Machine<'a, R> {
     }
 }
 
-/// The whole seconds that the clock shows since 1970-01-01T00:00:00Z, or None where it can't be read or is before that.
+/// The whole seconds that the clock shows since 1970-01-01T00:00:00Z, or None where it can't be
+/// read or is before that.
 pub fn whole_seconds<R: Clock>(rt: &R) -> Option<u64> {
     let Ok(time) = SystemTime::now(rt) else {
         return None;

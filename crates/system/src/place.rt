@@ -3,7 +3,8 @@ ghost use Rattle.std.specs.Prelude.{◌≡◌, List, ℕ, Bool, true, OnErr, OnO
 
 use std::io;
 
-/// The place of a file, and a file beside it that may take its place. What each may hold is the place's meaning.
+/// The place of a file, and a file beside it that may take its place. What each may hold is the
+/// place's meaning.
 pub trait Place {
     /// Whether the place may hold the bytes.
     ghost holds: { Self → List ℕ → Bool };
@@ -26,7 +27,8 @@ pub trait Place {
         ensures place { holds self.new ≡ holds self.old };
 }
 
-/// Replaces what the place holds by the bytes. After a refusal it holds what it held, and nothing new stands beside it.
+/// Replaces what the place holds by the bytes. After a refusal it holds what it held, and nothing
+/// new stands beside it.
 pub fn replace<P: Place>(place: &mut P, bytes: &[u8]) -> io::Result<()>
     ensures kept { OnOk result (P.holds place.new bytes.now ≡ true) }
     ensures refused { OnErr result (P.holds place.new ≡ P.holds place.old) }

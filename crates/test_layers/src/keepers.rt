@@ -37,11 +37,20 @@ write timestamp 2 1
 
 /// What a cycle gave: the text of its state, none where memory was refused, and how many questions
 /// were answered from the cache and put to the other judge.
-#[derive(Drop)]
 struct Cycle {
     text: Option<Vec<u8>>,
     remembered: u64,
     asked: u32,
+}
+
+impl Drop for Cycle {
+    fn drop(self) {
+        let Cycle {
+            text,
+            remembered,
+            asked,
+        } = self;
+    }
 }
 
 /// The repository of a script that makes no target.

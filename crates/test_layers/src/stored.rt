@@ -12,12 +12,22 @@ use std::alloc::{AllocError, Global};
 use std::collections::BTreeMap;
 
 /// A folder that gives one list and one text a name, and fails after some calls.
-#[derive(Drop)]
 pub struct Memory {
     names: Vec<String>,
     files: BTreeMap<String, Vec<u8>>,
     calls: u64,
     faults: u64,
+}
+
+impl Drop for Memory {
+    fn drop(self) {
+        let Memory {
+            names,
+            files,
+            calls,
+            faults,
+        } = self;
+    }
 }
 
 impl Memory {

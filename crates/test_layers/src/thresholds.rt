@@ -12,11 +12,16 @@ use std::test::Fail;
 const SIGNED: &[u8] = b"{\"a\":1,\"b\":[]}";
 
 /// The id of a key, the member of it in an object of keys, and an entry by it.
-#[derive(Drop)]
 struct Signer {
     id: String,
     member: String,
     entry: String,
+}
+
+impl Drop for Signer {
+    fn drop(self) {
+        let Signer { id, member, entry } = self;
+    }
 }
 
 impl Signer {

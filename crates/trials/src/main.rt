@@ -1,5 +1,6 @@
-//! Runs sessions of the command line with what a keeper or an updater does, gets wrong or is
-//! refused, and prints what [`run_sessions`] does. It takes no word.
+//! Runs sessions of the command line, with what a keeper or an updater does, gets wrong or is
+//! refused, and with mirrors that serve one repository after another: newer, older, changed, cut
+//! off or made to cost. It prints what [`run_sessions`] does, and takes no word.
 #![tactic(auto)]
 
 use shell::run_sessions;

@@ -1,6 +1,6 @@
-//! Runs rows of worked values through the crates of one file and one key: canonical texts, signatures,
-//! keys, moments and what files say. It prints a line for each file of rows, with those that gave
-//! something else than is written.
+//! Runs rows of worked values through the crates of one file and one key: canonical texts,
+//! signatures, keys, moments and what files say. It prints a line for each file of rows, with those
+//! that gave something else than is written.
 //!
 //! It takes no word. It is run in a folder that holds the folder `cases` and nothing else. The
 //! status is 0 where all was as written, else 1, and 2 where the cases couldn't be run.

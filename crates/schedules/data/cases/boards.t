@@ -27,9 +27,9 @@ A worker that is refused memory at a check gives its right back, so the check is
   $ worker refused refused
   done 0: Open Open, won 2
 
-The numbers that are dealt to hands, in the order in which the last hand has them: its own, and then those that it steals, from the first hand on. Three hands have the numbers 0 to 2, 3 and 4, and 5 and 6 of seven. In turns the first numbers of the hands come first, 0, 3 and 5, then 1, 4 and 6, and then 2. Three hands have one, one and none of two.
+The numbers that are dealt to hands, in the order in which the last hand has them: one of its own, then one of each other hand from the first one on, and then again one of its own. Three hands have the numbers 0 to 2, 3 and 4, and 5 and 6 of seven. In turns the first numbers of the hands come first, 0, 3 and 5, then 1, 4 and 6, and then 2. The last hand takes 5, 0, 3, 6, 1, 4 and 2. Three hands have one, one and none of two.
   $ turns 7 3
-  turns: 2 5 0 3 6 1 4
+  turns: 2 0 1 5 3 4 6
   $ turns 2 3
   turns: 0 1
   $ turns 4 1

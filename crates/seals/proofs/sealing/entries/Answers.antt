@@ -2,6 +2,7 @@ use Rattle.std.proofs.Common.{◌<◌, length, map, slice_index_or, Err, inr, sy
 use Rattle.seals.specs.Sealed.{holder}
 use Rattle.seals.proofs.Seals.{holders_kept, overspent_at, holder_at, entries_more, leaves_more, spent_or_not}
 use Rattle.seals.proofs.sealing.entries.Goals as goal
+use Rattle.std.proofs.lemmas.Grind.{common_steps}
 
 pub returns-in_err-entry-clause-kept : goal.returns-in_err-entry-clause-kept
 returns-in_err-entry-clause-kept c =
@@ -54,3 +55,6 @@ loop-place-preserved c =
       leaves = leaves_more c.args.signers.now c.loop-place.signers c.args.by.now c.loop-place.place-index before
           c.entry.new.signer c.loop-place-test.true there c.in_ok-entry.ensures.leaf c.loop-place.invariant.leaves;
     }
+
+pub returns-clause-entries : goal.returns-clause-entries
+returns-clause-entries = grind (arith, common_steps)

@@ -3,6 +3,7 @@ use Rattle.board.specs.Steps.{Sat}
 use Rattle.board.proofs.Keeps.{joins, counts}
 use Rattle.board.proofs.Calls.{same_table, same_truths, right_of}
 use Rattle.board.proofs.board.Board.join.Goals as goal
+use Rattle.std.proofs.lemmas.Grind.{common_steps}
 
 pub join_seat-requires : goal.join_seat-requires
 join_seat-requires c =
@@ -22,3 +23,6 @@ load-requires c =
       omega arith,
       counts _ _ _ _ (ap (λ (m : Sat). m.0.truths) c.join_seat.ensures.2 ∙ of),
     )
+
+pub invariant_of-result : goal.invariant_of-result
+invariant_of-result = grind (arith, common_steps)

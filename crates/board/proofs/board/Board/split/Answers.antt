@@ -1,4 +1,4 @@
-use Rattle.std.proofs.Common.{arith}
+use Rattle.std.proofs.Common.{arith, rules}
 use Rattle.board.proofs.Keeps.{splits}
 use Rattle.board.proofs.Calls.{same_table, kept_new}
 use Rattle.board.proofs.board.Board.split.Goals as goal
@@ -8,3 +8,9 @@ split_seat-other-requires c = let size = c.self.invariant.0 in (same_table _ _ _
 
 pub invariant_of-second : goal.invariant_of-second
 invariant_of-second c = kept_new _ _ c.split_seat-other.ensures.4
+
+pub returns-clause-first : goal.returns-clause-first
+returns-clause-first = search rules
+
+pub returns-clause-fresh : goal.returns-clause-fresh
+returns-clause-fresh = search rules

@@ -1,0 +1,8 @@
+use Rattle.std.proofs.Common.{rules}
+use Rattle.examine.proofs.examine.examine_snapshot.Goals as goal
+
+pub returns-in_err-check_snapshot : goal.returns-in_err-check_snapshot
+returns-in_err-check_snapshot = search rules
+
+pub returns : goal.returns
+returns = search rules

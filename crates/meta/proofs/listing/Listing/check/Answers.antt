@@ -1,0 +1,5 @@
+use Rattle.std.proofs.Common.{rules}
+use Rattle.meta.proofs.listing.Listing.check.Goals as goal
+
+pub returns : goal.returns
+returns = search rules
