@@ -114,89 +114,120 @@ pub fn parse<'a>(alloc: Global, words: &'a [String]) -> Result<ArgMatches<'a>, E
 }
 
 fn tufcheck<'a>(alloc: Global) -> Result<Command<'a>, AllocError> {
-    Command::new(alloc, "tufcheck")
+    let program = Command::new(alloc, "tufcheck")
         .about("Verifies an update repository of TUF 1.0 with LMS signatures")
         .after_help(HELP_END)
         .bin_name("tufcheck")?
         .no_binary_name(true)
-        .subcommand_required(true)
-        .subcommand(init_command(alloc)?)?
-        .subcommand(verify_command(alloc)?)?
-        .subcommand(replay_command(alloc)?)?
-        .subcommand(make_command(alloc)?)
+        .subcommand_required(true);
+    let commands = [
+        init_command(alloc),
+        verify_command(alloc),
+        replay_command(alloc),
+        make_command(alloc),
+    ];
+    with_commands(program, commands)
+}
+
+fn with_commands<'a>(
+    program: Command<'a>,
+    commands: [Result<Command<'a>, AllocError>; 4],
+) -> Result<Command<'a>, AllocError> {
+    let mut program = program;
+    for command in commands {
+        program = program.subcommand(command?)?;
+    }
+    Ok(program)
+}
+
+fn with_arguments<'a>(
+    command: Command<'a>,
+    arguments: [Arg<'a>; 8],
+) -> Result<Command<'a>, AllocError> {
+    let mut command = command;
+    for argument in arguments {
+        command = command.arg(argument)?;
+    }
+    Ok(command)
 }
 
 fn init_command<'a>(alloc: Global) -> Result<Command<'a>, AllocError> {
     Command::new(alloc, "init")
         .about("Trusts a root file and writes the first state")
         .after_help(INIT_END)
-        .arg(Arg::new(alloc, "ROOT").required(true).help("The root file"))?
+        .arg(file(alloc, "ROOT", "The root file"))?
         .arg(option(alloc, "out", "STATE", "Where the state is written"))
 }
 
 fn verify_command<'a>(alloc: Global) -> Result<Command<'a>, AllocError> {
-    Command::new(alloc, "verify")
+    let command = Command::new(alloc, "verify")
         .about("Brings the trusted state up to date and checks wanted targets")
-        .after_help(VERIFY_END)
-        .arg(option(alloc, "state", "STATE", "The trusted state"))?
-        .arg(option(
-            alloc,
-            "metadata",
-            "DIR",
-            "The folder of metadata files, which stand directly in it",
-        ))?
-        .arg(option(
-            alloc,
-            "targets",
-            "DIR",
-            "The folder of target files, with those of the folders below it",
-        ))?
-        .arg(now_option(alloc))?
-        .arg(limit_option(alloc))?
-        .arg(workers_option(alloc))?
-        .arg(option(alloc, "out", "STATE", "Where the new state is written"))?
-        .arg(
-            Arg::new(alloc, "PATH")
-                .action(ArgAction::Append)
-                .num_args(0..)
-                .help("The wanted targets"),
-        )
+        .after_help(VERIFY_END);
+    let arguments = [
+        option(alloc, "state", "STATE", "The trusted state"),
+        metadata_option(alloc),
+        targets_option(alloc),
+        now_option(alloc),
+        limit_option(alloc),
+        workers_option(alloc),
+        option(alloc, "out", "STATE", "Where the new state is written"),
+        several(alloc, "PATH", "The wanted targets").num_args(0..),
+    ];
+    with_arguments(command, arguments)
 }
 
 fn replay_command<'a>(alloc: Global) -> Result<Command<'a>, AllocError> {
-    Command::new(alloc, "replay")
+    let command = Command::new(alloc, "replay")
         .about("Verifies repositories one after another, as `verify` does")
-        .after_help(REPLAY_END)
-        .arg(option(alloc, "state", "STATE", "The trusted state"))?
-        .arg(now_option(alloc))?
-        .arg(limit_option(alloc))?
-        .arg(workers_option(alloc))?
-        .arg(keep_option(alloc))?
-        .arg(option(alloc, "out", "STATE", "Where the last state is written"))?
-        .arg(
-            Arg::new(alloc, "PATH")
-                .required(true)
-                .help("The wanted target"),
-        )?
-        .arg(
-            Arg::new(alloc, "DIR")
-                .action(ArgAction::Append)
-                .required(true)
-                .num_args(1..)
-                .help("The repositories, in order"),
-        )
+        .after_help(REPLAY_END);
+    let repositories = several(alloc, "DIR", "The repositories, in order");
+    let arguments = [
+        option(alloc, "state", "STATE", "The trusted state"),
+        now_option(alloc),
+        limit_option(alloc),
+        workers_option(alloc),
+        keep_option(alloc),
+        option(alloc, "out", "STATE", "Where the last state is written"),
+        file(alloc, "PATH", "The wanted target"),
+        repositories.required(true).num_args(1..),
+    ];
+    with_arguments(command, arguments)
 }
 
 fn make_command<'a>(alloc: Global) -> Result<Command<'a>, AllocError> {
     Command::new(alloc, "make")
         .about("Makes a repository for tests from a script")
         .after_help(MAKE_END)
-        .arg(Arg::new(alloc, "SCRIPT").required(true).help("The script"))?
-        .arg(
-            Arg::new(alloc, "DIR")
-                .required(true)
-                .help("The folder below which the files are written"),
-        )
+        .arg(file(alloc, "SCRIPT", "The script"))?
+        .arg(file(alloc, "DIR", "The folder below which the files are written"))
+}
+
+/// An argument that has to be there, and stands once.
+fn file<'a>(alloc: Global, name: &'a str, help: &'a str) -> Arg<'a> {
+    Arg::new(alloc, name).required(true).help(help)
+}
+
+/// An argument that may stand several times.
+fn several<'a>(alloc: Global, name: &'a str, help: &'a str) -> Arg<'a> {
+    Arg::new(alloc, name).action(ArgAction::Append).help(help)
+}
+
+fn metadata_option<'a>(alloc: Global) -> Arg<'a> {
+    option(
+        alloc,
+        "metadata",
+        "DIR",
+        "The folder of metadata files, which stand directly in it",
+    )
+}
+
+fn targets_option<'a>(alloc: Global) -> Arg<'a> {
+    option(
+        alloc,
+        "targets",
+        "DIR",
+        "The folder of target files, with those of the folders below it",
+    )
 }
 
 fn now_option<'a>(alloc: Global) -> Arg<'a> {

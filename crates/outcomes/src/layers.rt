@@ -1,7 +1,7 @@
 //! The commands of the rows.
 
-use crate::{names, states};
-use anyhow::{Context, Result};
+use crate::{names, searches, states, verdicts};
+use anyhow::{Result, bail};
 use sessions::{Step, Told};
 use std::alloc::Global;
 use std::fs;
@@ -26,10 +26,35 @@ impl<'a, R: Files + AllocGlobal + Clone + Drop> Layers<'a, R> {
 
     /// Does a step, and gives what its command told. An error says why the step can't be done.
     pub fn perform(&self, step: &Step) -> Result<Told> {
-        let text = match names::given(self.alloc, step)? {
-            Some(text) => text,
-            None => states::given(self, step)?.context("no such command")?,
-        };
-        Ok(Told::printed(self.alloc, text))
+        Ok(Told::printed(self.alloc, self.of_cycles(step)?))
+    }
+
+    /// What a step prints of states, searches and lines.
+    fn of_cycles(&self, step: &Step) -> Result<String> {
+        match step.name()? {
+            "trust" => states::trust(self, step),
+            "state" => states::state(self, step),
+            "state-text" => states::state_text(self.alloc, step),
+            "search" => searches::told(self.alloc, step),
+            "verdict" => verdicts::verdict(self.alloc, step),
+            "end" => verdicts::end(self.alloc, step),
+            _ => of_names(self.alloc, step),
+        }
+    }
+}
+
+/// What a step prints of patterns, and of names of bins and files.
+fn of_names(alloc: Global, step: &Step) -> Result<String> {
+    match step.name()? {
+        "matches" => names::pattern(alloc, step),
+        "prefix" => names::prefix(alloc, step),
+        "bin" => names::bin(alloc, step),
+        "stars" => names::stars(alloc, step),
+        "root-name" => names::root(alloc, step),
+        "role-name" => names::role(alloc, step),
+        "versioned" => names::versioned_name(alloc, step),
+        "hashed" => names::hashed_name(alloc, step),
+        "joined" => names::below(alloc, step),
+        _ => bail!("no such command"),
     }
 }

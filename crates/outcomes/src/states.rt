@@ -3,46 +3,35 @@
 use crate::layers::Layers;
 use crate::plain::yes_or_no;
 use anyhow::{Context, Result};
+use meta::Header;
 use rolechain::{StateFault, Trusted};
 use sessions::Step;
 use std::alloc::Global;
 use std::rt::Files;
 
-/// What the step prints, if it is of these commands.
-pub fn given<R: Files + AllocGlobal + Clone + Drop>(
+/// The state that a root makes, whether the root has the file's bytes, and the state's text.
+pub fn trust<R: Files + AllocGlobal + Clone + Drop>(
     layers: &Layers<'_, R>,
     step: &Step,
-) -> Result<Option<String>> {
-    let text = match step.name()? {
-        "trust" => trust(layers, step.word(0)?)?,
-        "state" => state(layers, step)?,
-        "state-text" => read(layers.alloc, step.text_behind(0))?,
-        _ => return Ok(None),
-    };
-    Ok(Some(text))
-}
-
-/// The state that a root makes, whether the root has the file's bytes, and the state's text.
-fn trust<R: Files + AllocGlobal + Clone + Drop>(
-    layers: &Layers<'_, R>,
-    name: &str,
 ) -> Result<String> {
-    let bytes = layers.bytes(name)?;
+    let bytes = layers.bytes(step.word(0)?)?;
     match Trusted::from_root(layers.alloc, &bytes) {
-        Ok(trusted) => {
-            let mut text = about(layers.alloc, &trusted)?;
-            let is_same = trusted.root().bytes() == bytes.as_slice();
-            let written = trusted.to_text(layers.alloc)?;
-            let written = std::str::from_utf8(&written)?;
-            writeln!(text, "same bytes: {}\n{written}", yes_or_no(is_same))?;
-            Ok(text)
-        }
+        Ok(trusted) => begun(layers.alloc, &trusted, &bytes),
         Err(fault) => refused(layers.alloc, fault),
     }
 }
 
+fn begun(alloc: Global, trusted: &Trusted, root: &[u8]) -> Result<String> {
+    let mut text = about(alloc, trusted)?;
+    let same = yes_or_no(trusted.root().bytes() == root);
+    let written = trusted.to_text(alloc)?;
+    let written = std::str::from_utf8(&written)?;
+    writeln!(text, "same bytes: {same}\n{written}")?;
+    Ok(text)
+}
+
 /// The state whose text has the members, each given as `NAME=FILE`.
-fn state<R: Files + AllocGlobal + Clone + Drop>(
+pub fn state<R: Files + AllocGlobal + Clone + Drop>(
     layers: &Layers<'_, R>,
     step: &Step,
 ) -> Result<String> {
@@ -76,6 +65,11 @@ fn digits<R: Files + AllocGlobal + Clone + Drop>(
     Ok(hex::encode(layers.alloc, bytes.as_slice())?)
 }
 
+/// The state of the text behind the command's name.
+pub fn state_text(alloc: Global, step: &Step) -> Result<String> {
+    read(alloc, step.text_behind(0))
+}
+
 /// The state of a text.
 fn read(alloc: Global, text: &str) -> Result<String> {
     match Trusted::from_text(alloc, text.as_bytes()) {
@@ -101,15 +95,19 @@ fn refused(alloc: Global, fault: StateFault) -> Result<String> {
 /// The versions of the files that are trusted, and whether they are ready for a search.
 fn about(alloc: Global, trusted: &Trusted) -> Result<String> {
     let mut text = format!(in alloc; "root {}\n", trusted.root_version())?;
-    if let Some(file) = trusted.timestamp() {
-        writeln!(text, "timestamp {}", file.reading().header().version.get())?;
-    }
-    if let Some(file) = trusted.snapshot() {
-        writeln!(text, "snapshot {}", file.reading().header().version.get())?;
-    }
-    if let Some(file) = trusted.targets() {
-        writeln!(text, "targets {}", file.reading().header().version.get())?;
-    }
+    let timestamp = trusted.timestamp().map(|file| file.reading().header());
+    push_version(&mut text, "timestamp", timestamp)?;
+    let snapshot = trusted.snapshot().map(|file| file.reading().header());
+    push_version(&mut text, "snapshot", snapshot)?;
+    let targets = trusted.targets().map(|file| file.reading().header());
+    push_version(&mut text, "targets", targets)?;
     writeln!(text, "ready: {}", yes_or_no(trusted.is_ready()))?;
     Ok(text)
+}
+
+fn push_version(text: &mut String, kind: &str, header: Option<&Header>) -> Result<()> {
+    match header {
+        Some(header) => Ok(writeln!(text, "{kind} {}", header.version.get())?),
+        None => Ok(()),
+    }
 }

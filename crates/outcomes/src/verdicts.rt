@@ -17,20 +17,26 @@ pub fn verdict(alloc: Global, step: &Step) -> Result<String> {
 }
 
 fn verdict_of(alloc: Global, step: &Step) -> Result<Verdict> {
-    Ok(match step.word(1)? {
-        "Good" => Verdict::Good {
-            role: role(alloc, step.word(3)?)?,
-            length: step.word(2)?.parse::<u64>()?,
-        },
-        "RoleRefused" => Verdict::RoleRefused {
-            role: role(alloc, step.word(3)?)?,
-            fault: fault_of(step.word(2)?)?,
-        },
-        "NotFound" => Verdict::NotFound,
-        "LimitReached" => Verdict::LimitReached,
-        "NotSearched" => Verdict::NotSearched,
-        fault => Verdict::FileRefused(fault_of(fault)?),
-    })
+    match step.word(1)? {
+        "Good" => good(alloc, step),
+        "RoleRefused" => role_refused(alloc, step),
+        "NotFound" => Ok(Verdict::NotFound),
+        "LimitReached" => Ok(Verdict::LimitReached),
+        "NotSearched" => Ok(Verdict::NotSearched),
+        fault => Ok(Verdict::FileRefused(fault_of(fault)?)),
+    }
+}
+
+fn good(alloc: Global, step: &Step) -> Result<Verdict> {
+    let length = step.word(2)?.parse::<u64>()?;
+    let role = role(alloc, step.word(3)?)?;
+    Ok(Verdict::Good { role, length })
+}
+
+fn role_refused(alloc: Global, step: &Step) -> Result<Verdict> {
+    let fault = fault_of(step.word(2)?)?;
+    let role = role(alloc, step.word(3)?)?;
+    Ok(Verdict::RoleRefused { role, fault })
 }
 
 fn role(alloc: Global, name: &str) -> Result<Text> {
@@ -38,15 +44,22 @@ fn role(alloc: Global, name: &str) -> Result<Text> {
 }
 
 /// The line of a cycle that is ready, or that stopped at a step by a fault.
-pub fn end(alloc: Global, words: &[String]) -> Result<String> {
-    let end = match words {
-        [] => End::Ready,
-        [stage, fault] => End::Stopped(stage_of(stage.as_str())?, fault_of(fault.as_str())?),
-        _ => bail!("no such end"),
-    };
+pub fn end(alloc: Global, step: &Step) -> Result<String> {
+    let end = end_of(step.words())?;
     let mut text = String::new(alloc);
     push_end(&mut text, end)?;
     Ok(text)
+}
+
+fn end_of(words: &[String]) -> Result<End> {
+    match words {
+        [] => Ok(End::Ready),
+        [stage, fault] => {
+            let stage = stage_of(stage.as_str())?;
+            Ok(End::Stopped(stage, fault_of(fault.as_str())?))
+        }
+        _ => bail!("no such end"),
+    }
 }
 
 fn stage_of(name: &str) -> Result<Stage> {

@@ -27,8 +27,3 @@ impl Asked {
         })
     }
 }
-
-/// The wanted paths: the words behind so many.
-pub fn paths_behind(step: &Step, words: usize) -> &[String] {
-    step.words().get(words..).unwrap_or(&[])
-}

@@ -4,7 +4,7 @@ ghost use Rattle.board.specs.Seats.{IsSeatOf, IsFree};
 
 use crate::gates::{Rule, Schedule};
 use crate::given::Given;
-use anyhow::{Context, Result, ensure};
+use anyhow::{Context, Result, bail, ensure};
 use board::{Board, Checks, Look, Seat, done, retire};
 use cjson::NoMemory;
 use crew::{Gate, Hand, Open, deal, work};
@@ -14,25 +14,16 @@ use std::sync::Wait;
 use std::thread;
 use std::thread::Threads;
 
-/// What the step prints, if it is of these commands.
-pub fn given<R: Threads + Wait + Sync>(
-    rt: &R,
-    alloc: Global,
-    step: &Step,
-) -> Result<Option<String>> {
-    let text = match step.name()? {
-        "two-seats" => two_seats(alloc)?,
-        "two-threads" => two_threads(rt, alloc, &Given::of_words(alloc, step.words())?)?,
-        "worker" => one_worker(alloc, &Given::of_words(alloc, step.words())?)?,
-        "stealing" => stealing(rt, alloc, &Given::of_words(alloc, step.words())?)?,
-        "turns" => turns(
-            alloc,
-            step.word(0)?.parse::<usize>()?,
-            step.word(1)?.parse::<usize>()?,
-        )?,
-        _ => return Ok(None),
-    };
-    Ok(Some(text))
+/// What a step of a board or of hands prints.
+pub fn printed<R: Threads + Wait + Sync>(rt: &R, alloc: Global, step: &Step) -> Result<String> {
+    match step.name()? {
+        "two-seats" => two_seats(alloc),
+        "two-threads" => two_threads(rt, alloc, step),
+        "worker" => one_worker(alloc, step),
+        "stealing" => stealing(rt, alloc, step),
+        "turns" => turns(alloc, step),
+        _ => bail!("no such command"),
+    }
 }
 
 /// What the second of two seats finds at one true check: before the first one's verdict, after it,
@@ -89,11 +80,12 @@ fn push_found(text: &mut String, board: &Board, seat: &mut Seat) -> Result<()>
 }
 
 /// Two threads, each of which claims all checks in order and publishes those that it won.
-fn two_threads<R: Threads>(rt: &R, alloc: Global, checks: &Given) -> Result<String> {
-    let (board, seat) = Board::new(alloc, checks)?;
+fn two_threads<R: Threads>(rt: &R, alloc: Global, step: &Step) -> Result<String> {
+    let checks = Given::of_words(alloc, step.words())?;
+    let (board, seat) = Board::new(alloc, &checks)?;
     let (first, second) = board.split(seat);
-    let seat = both_claim(rt, &board, checks, first, second);
-    told(alloc, &board, checks, seat)
+    let seat = both_claim(rt, &board, &checks, first, second);
+    told(alloc, &board, &checks, seat)
 }
 
 fn both_claim<R: Threads>(rt: &R, board: &Board, checks: &Given, first: Seat, second: Seat) -> Seat
@@ -146,11 +138,12 @@ fn decide(board: &Board, checks: &Given, seat: &mut Seat, j: usize)
 }
 
 /// One worker with all checks.
-fn one_worker(alloc: Global, checks: &Given) -> Result<String> {
-    let (board, seat) = Board::new(alloc, checks)?;
+fn one_worker(alloc: Global, step: &Step) -> Result<String> {
+    let checks = Given::of_words(alloc, step.words())?;
+    let (board, seat) = Board::new(alloc, &checks)?;
     let hands = hands_for(alloc, checks.count(), 1)?;
-    let seat = work_all(&board, seat, checks, hands, &Open);
-    told(alloc, &board, checks, seat)
+    let seat = work_all(&board, seat, &checks, hands, &Open);
+    told(alloc, &board, &checks, seat)
 }
 
 /// A hand for each worker.
@@ -177,17 +170,26 @@ fn work_all<G: Gate>(board: &Board, seat: Seat, checks: &Given, hands: Vec<Hand>
 }
 
 /// Two workers with half of the checks each, of whom one has to steal from the other.
-fn stealing<R: Threads>(rt: &R, alloc: Global, checks: &Given) -> Result<String> {
-    let (board, seat) = Board::new(alloc, checks)?;
-    let mut hands = hands_for(alloc, checks.count(), 2)?;
-    let second = last_hand(&mut hands, checks.count()).context("no second hand")?;
-    let first = last_hand(&mut hands, checks.count()).context("no first hand")?;
+fn stealing<R: Threads>(rt: &R, alloc: Global, step: &Step) -> Result<String> {
+    let checks = Given::of_words(alloc, step.words())?;
+    let (board, seat) = Board::new(alloc, &checks)?;
+    let (first, second) = two_hands(alloc, checks.count())?;
     let gate = Schedule::new(Rule::Stealing);
     let (mine, theirs) = board.split(seat);
-    let seat = both_work(rt, &board, checks, (mine, first), (theirs, second), &gate);
+    let seat = both_work(rt, &board, &checks, (mine, first), (theirs, second), &gate);
     let (done, late) = (done(&seat), gate.late());
     retire(seat);
     Ok(format!(in alloc; "done {done}, late {late}\n")?)
+}
+
+/// The hands of two workers.
+fn two_hands(alloc: Global, count: usize) -> Result<(Hand, Hand)>
+    ensures { IfOk result (λ h. (h.0.count ≡ count) × (h.1.count ≡ count)) }
+{
+    let mut hands = hands_for(alloc, count, 2)?;
+    let second = last_hand(&mut hands, count).context("no second hand")?;
+    let first = last_hand(&mut hands, count).context("no first hand")?;
+    Ok((first, second))
 }
 
 /// Takes the last hand.
@@ -200,7 +202,9 @@ fn last_hand(hands: &mut Vec<Hand>, count: usize) -> Option<Hand>
 }
 
 /// The turns of all numbers, as the last hand takes them.
-fn turns(alloc: Global, count: usize, workers: usize) -> Result<String> {
+fn turns(alloc: Global, step: &Step) -> Result<String> {
+    let count = step.word(0)?.parse::<usize>()?;
+    let workers = step.word(1)?.parse::<usize>()?;
     ensure!(workers > 0, "no worker");
     let mut hands = hands_for(alloc, count, workers)?;
     let hand = last_hand(&mut hands, count).context("no hand")?;

@@ -34,15 +34,16 @@ impl Given {
     pub fn of_words(alloc: Global, words: &[String]) -> Result<Given> {
         let mut truths = Vec::new(alloc);
         let mut refused = Vec::new(alloc);
-        for word in words {
-            match word.as_str() {
-                "valid" => truths.push(true)?,
-                "invalid" => truths.push(false)?,
-                "refused" => {
-                    refused.push(truths.len())?;
-                    truths.push(true)?;
-                }
+        for (place, word) in words.iter().enumerate() {
+            let (truth, is_refused) = match word.as_str() {
+                "valid" => (true, false),
+                "invalid" => (false, false),
+                "refused" => (true, true),
                 _ => bail!("no such check"),
+            };
+            truths.push(truth)?;
+            if is_refused {
+                refused.push(place)?;
             }
         }
         ensure!(truths.len() <= MOST_CHECKS, "too many checks");

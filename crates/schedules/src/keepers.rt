@@ -1,7 +1,7 @@
 //! Cycles of a keeper, each from the state that the one before led to.
 ghost use Rattle.std.specs.Prelude.{◌≤◌, IfSome};
 
-use crate::asked::{Asked, paths_behind};
+use crate::asked::Asked;
 use crate::gates::Schedule;
 use crate::repositories::{Made, read};
 use crate::runs::{MOMENT, ROLES};
@@ -27,7 +27,7 @@ pub fn cycles<F: Files + AllocGlobal + Clone + Drop, T: Threads + Wait + Sync>(
 ) -> Result<Told> {
     let gate = Schedule::new(Asked::of_step(step)?.rule);
     let all = outcomes(files, rt, alloc, step, &gate)?;
-    told(alloc, all.as_slice(), paths_behind(step, 5))
+    told(alloc, all.as_slice(), step.words_behind(5))
 }
 
 /// How each of a keeper's cycles over repositories came by its answers, and how many waits of the
@@ -86,7 +86,7 @@ fn outcomes<F: Files + AllocGlobal + Clone + Drop, T: Threads + Wait + Sync>(
 ) -> Result<Vec<Outcome>> {
     let asked = Asked::of_step(step)?;
     let made = all_read(files, alloc, step.word(0)?)?;
-    let rounds = rounds_of(alloc, made.as_slice(), paths_behind(step, 5))?;
+    let rounds = rounds_of(alloc, made.as_slice(), step.words_behind(5))?;
     let mut keeper = keeper_of(alloc, made.as_slice(), step.word(4)?)?;
     all_run(rt, &mut keeper, rounds.as_slice(), asked, gate)
 }

@@ -1,7 +1,6 @@
 //! Plans of questions, with no worker.
 ghost use Rattle.std.specs.Prelude.{◌≤◌};
 
-use crate::asked::paths_behind;
 use crate::repositories::{Made, read};
 use crate::runs::ROLES;
 use anyhow::{Result, ensure};
@@ -20,7 +19,7 @@ pub fn plan<R: Files + AllocGlobal + Clone + Drop>(
     let most = step.word(1)?.parse::<usize>()?;
     ensure!(most <= MOST_CHECKS, "too many questions");
     let made = read(rt, alloc, step.word(0)?)?;
-    let text = counted(alloc, &made, paths_behind(step, 2), most)?;
+    let text = counted(alloc, &made, step.words_behind(2), most)?;
     Ok(Told::printed(alloc, text))
 }
 

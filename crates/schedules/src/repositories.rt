@@ -3,7 +3,7 @@
 use anyhow::{Context, Result};
 use cycle::{Repo, Trusted};
 use folder::{Depth, Disk, load};
-use sessions::Told;
+use sessions::{Step, Told};
 use std::alloc::Global;
 use std::collections::BTreeMap;
 use std::fs;
@@ -22,7 +22,8 @@ impl Drop for Made {
 }
 
 /// Makes what the script `cases/NAME.script` says in the folder of that name.
-pub fn make<R: Files + AllocGlobal>(rt: &R, alloc: Global, name: &str) -> Result<Told> {
+pub fn make<R: Files + AllocGlobal>(rt: &R, alloc: Global, step: &Step) -> Result<Told> {
+    let name = step.word(0)?;
     let path = format!(in alloc; "cases/{name}.script")?;
     let script = fs::read_to_string(rt, path.as_str())?;
     for (file, bytes) in maker::make(alloc, script.as_str())? {

@@ -1,6 +1,6 @@
 //! Cycles with workers, beside cycles on one thread.
 
-use crate::asked::{Asked, paths_behind};
+use crate::asked::Asked;
 use crate::gates::Schedule;
 use crate::repositories::{Made, read};
 use anyhow::{Context, Result};
@@ -28,7 +28,7 @@ pub fn lines<F: Files + AllocGlobal + Clone + Drop, T: Threads + Wait + Sync>(
     let asked = Asked::of_step(step)?;
     let made = read(files, alloc, step.word(0)?)?;
     let gate = Schedule::new(asked.rule);
-    told_by_run(rt, alloc, &made, asked, paths_behind(step, 4), &gate)
+    told_by_run(rt, alloc, &made, asked, step.words_behind(4), &gate)
 }
 
 /// The lines and the status of a cycle on one thread.
@@ -38,7 +38,7 @@ pub fn alone<R: Files + AllocGlobal + Clone + Drop>(
     step: &Step,
 ) -> Result<Told> {
     let made = read(rt, alloc, step.word(0)?)?;
-    told_alone(alloc, &made, paths_behind(step, 1))
+    told_alone(alloc, &made, step.words_behind(1))
 }
 
 /// How a run came by its answers, and how many waits of its gate met their limit.
@@ -84,7 +84,7 @@ fn stats_of<F: Files + AllocGlobal + Clone + Drop, T: Threads + Wait + Sync>(
     gate: &Schedule,
 ) -> Result<Stats> {
     let made = read(files, alloc, step.word(0)?)?;
-    let outcome = ran(rt, alloc, &made, asked, paths_behind(step, 4), gate)?;
+    let outcome = ran(rt, alloc, &made, asked, step.words_behind(4), gate)?;
     Ok(outcome.stats())
 }
 
@@ -98,7 +98,7 @@ pub fn agrees<F: Files + AllocGlobal + Clone + Drop, T: Threads + Wait + Sync>(
 ) -> Result<Told> {
     let asked = Asked::of_step(step)?;
     let made = read(files, alloc, step.word(0)?)?;
-    let wanted = paths_behind(step, 4);
+    let wanted = step.words_behind(4);
     let gate = Schedule::new(asked.rule);
     let alone = told_alone(alloc, &made, wanted)?;
     let is_same = tells(rt, alloc, &made, asked, wanted, &gate, &alone)?;

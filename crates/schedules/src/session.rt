@@ -1,13 +1,13 @@
 //! The commands of a case.
 
-use crate::boards;
+use crate::boards::printed;
 use crate::keepers::{cycles, kept};
 use crate::plans::plan;
 use crate::repositories::make;
 use crate::runs::{agrees, alone, counts, entered, lines};
 use crate::stress::stress;
 use crate::walks::walk;
-use anyhow::{Context, Result};
+use anyhow::Result;
 use sessions::{Step, Told};
 use std::alloc::Global;
 use std::rt::Files;
@@ -23,7 +23,7 @@ pub fn perform<F: Files + AllocGlobal + Clone + Drop, T: Threads + Wait + Sync>(
     step: &Step,
 ) -> Result<Told> {
     match step.name()? {
-        "make" => make(files, alloc, step.word(0)?),
+        "make" => make(files, alloc, step),
         "plan" => plan(files, alloc, step),
         "alone" => alone(files, alloc, step),
         "lines" => lines(files, threads, alloc, step),
@@ -40,6 +40,5 @@ pub fn perform<F: Files + AllocGlobal + Clone + Drop, T: Threads + Wait + Sync>(
 
 /// Does a step of a board, which reads no file.
 fn share<R: Threads + Wait + Sync>(rt: &R, alloc: Global, step: &Step) -> Result<Told> {
-    let text = boards::given(rt, alloc, step)?.context("no such command")?;
-    Ok(Told::printed(alloc, text))
+    Ok(Told::printed(alloc, printed(rt, alloc, step)?))
 }

@@ -1,6 +1,6 @@
 //! Many runs under drawn schedules.
 
-use crate::asked::{Asked, paths_behind};
+use crate::asked::Asked;
 use crate::gates::{Rule, Schedule, mixed};
 use crate::repositories::{Made, read};
 use crate::runs::{tells, told_alone};
@@ -21,7 +21,7 @@ pub fn stress<F: Files + AllocGlobal + Clone + Drop, T: Threads + Wait + Sync>(
     let runs = step.word(1)?.parse::<u64>()?;
     let seed = mixed(step.word(2)?.parse::<u64>()?);
     let made = read(files, alloc, step.word(0)?)?;
-    let differing = differing(rt, alloc, &made, paths_behind(step, 3), runs, seed)?;
+    let differing = differing(rt, alloc, &made, step.words_behind(3), runs, seed)?;
     let text = format!(in alloc; "{runs} runs, {differing} differ\n")?;
     Ok(Told::printed(alloc, text))
 }

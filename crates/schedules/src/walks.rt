@@ -1,6 +1,6 @@
 //! Cycles of a keeper over repositories that a seed draws, beside cycles on one thread.
 
-use crate::asked::{Asked, paths_behind};
+use crate::asked::Asked;
 use crate::gates::{Schedule, mixed};
 use crate::keepers::{all_read, keeper_of};
 use crate::repositories::Made;
@@ -37,7 +37,7 @@ pub fn walk<F: Files + AllocGlobal + Clone + Drop, T: Threads + Wait + Sync>(
     let made = all_read(files, alloc, step.word(0)?)?;
     let course = Course {
         made: made.as_slice(),
-        wanted: paths_behind(step, 4),
+        wanted: step.words_behind(4),
         cycles,
         seed,
     };

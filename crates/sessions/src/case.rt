@@ -47,7 +47,12 @@ impl Step {
 
     /// The words behind the name.
     pub fn words(&self) -> &[String] {
-        self.words.get(1..).unwrap_or(&[])
+        self.words_behind(0)
+    }
+
+    /// The words behind the name and so many more.
+    pub fn words_behind(&self, words: usize) -> &[String] {
+        self.words.get(words.saturating_add(1)..).unwrap_or(&[])
     }
 
     /// The word at a place behind the name, from 0.
@@ -79,20 +84,29 @@ pub fn steps_of(alloc: Global, text: &str) -> Result<Vec<Step>> {
     let mut number: usize = 0;
     for line in text.lines() {
         number = number.saturating_add(1);
-        match Line::of(line) {
-            Line::Prose => {}
-            Line::Command(words) => steps.push(Step::new(alloc, number, words)?)?,
-            Line::Script(text) => {
-                let text = String::from_str(alloc, text)?;
-                last(&mut steps)?.script.push(text)?;
-            }
-            Line::Expected(text) => {
-                let text = String::from_str(alloc, text)?;
-                last(&mut steps)?.expected.push(text)?;
-            }
-        }
+        push_line(alloc, &mut steps, number, line)?;
     }
     Ok(steps)
+}
+
+/// Adds what the line of that number is, to the steps or to the last of them.
+fn push_line(alloc: Global, steps: &mut Vec<Step>, number: usize, line: &str) -> Result<()> {
+    match Line::of(line) {
+        Line::Prose => Ok(()),
+        Line::Command(words) => push_step(alloc, steps, number, words),
+        Line::Script(text) => push_text(alloc, &mut last(steps)?.script, text),
+        Line::Expected(text) => push_text(alloc, &mut last(steps)?.expected, text),
+    }
+}
+
+fn push_step(alloc: Global, steps: &mut Vec<Step>, number: usize, command: &str) -> Result<()> {
+    steps.push(Step::new(alloc, number, command)?)?;
+    Ok(())
+}
+
+fn push_text(alloc: Global, lines: &mut Vec<String>, text: &str) -> Result<()> {
+    lines.push(String::from_str(alloc, text)?)?;
+    Ok(())
 }
 
 fn last(steps: &mut Vec<Step>) -> Result<&mut Step> {

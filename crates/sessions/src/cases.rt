@@ -34,17 +34,30 @@ pub fn run_all<R: Files + AllocGlobal + Clone + Drop, F: Fn(&Step) -> Result<Tol
     let mut differing: u32 = 0;
     let names = room::names(rt, alloc, ".t")?;
     for name in names.iter() {
-        let report = report_of(rt, alloc, &perform, name.as_str())?;
-        room::clear(rt, alloc)?;
-        if !report.differences.is_empty() {
+        if differs(rt, alloc, out, &perform, name.as_str())? {
             differing = differing.saturating_add(1);
         }
-        let steps = report.steps;
-        let differences = report.differences.as_str();
-        write!(out, "{name}: {steps} steps\n{differences}")?;
     }
     writeln!(out, "{} cases, differing: {differing}", names.len())?;
     Ok(differing)
+}
+
+/// Runs the session of that file, prints its report, and removes what it made. The answer is
+/// whether a step gave something else than is written.
+fn differs<R: Files + AllocGlobal + Clone + Drop, F: Fn(&Step) -> Result<Told>, W: Write>(
+    rt: &R,
+    alloc: Global,
+    out: &mut W,
+    perform: &F,
+    name: &str,
+) -> Result<bool>
+    requires { F.IsAlwaysCallable perform.now }
+{
+    let report = report_of(rt, alloc, perform, name)?;
+    room::clear(rt, alloc)?;
+    let (steps, differences) = (report.steps, report.differences.as_str());
+    write!(out, "{name}: {steps} steps\n{differences}")?;
+    Ok(!differences.is_empty())
 }
 
 fn report_of<R: Files + AllocGlobal + Clone + Drop, F: Fn(&Step) -> Result<Told>>(
@@ -55,15 +68,10 @@ fn report_of<R: Files + AllocGlobal + Clone + Drop, F: Fn(&Step) -> Result<Told>
 ) -> Result<Report>
     requires { F.IsAlwaysCallable perform.now }
 {
-    let path = format!(in alloc; "{}/{name}", room::CASES)?;
-    let text = fs::read_to_string(rt, path.as_str())?;
-    let steps = steps_of(alloc, text.as_str()).context(format_args!("{name}"))?;
+    let steps = steps_in(rt, alloc, name)?;
     let mut differences = String::new(alloc);
     for step in steps.iter() {
-        let given = given_by(rt, alloc, perform, step)?;
-        if !is_as_expected(alloc, step.expected.as_slice(), given.as_slice())? {
-            push_difference(&mut differences, step, given.as_slice())?;
-        }
+        compare(rt, alloc, perform, step, &mut differences)?;
     }
     Ok(Report {
         steps: steps.len(),
@@ -71,13 +79,35 @@ fn report_of<R: Files + AllocGlobal + Clone + Drop, F: Fn(&Step) -> Result<Told>
     })
 }
 
-fn push_difference(text: &mut String, step: &Step, given: &[String]) -> Result<()> {
-    writeln!(text, "line {}: {}", step.line, step.command)?;
-    for line in step.expected.iter() {
-        writeln!(text, "- {line}")?;
+/// The steps of the session of that file.
+fn steps_in<R: Files + AllocGlobal>(rt: &R, alloc: Global, name: &str) -> Result<Vec<Step>> {
+    let path = format!(in alloc; "{}/{name}", room::CASES)?;
+    let text = fs::read_to_string(rt, path.as_str())?;
+    steps_of(alloc, text.as_str()).context(format_args!("{name}"))
+}
+
+/// Does a step, and adds what it gave where that is something else than is written.
+fn compare<R: Files + AllocGlobal + Clone + Drop, F: Fn(&Step) -> Result<Told>>(
+    rt: &R,
+    alloc: Global,
+    perform: &F,
+    step: &Step,
+    differences: &mut String,
+) -> Result<()>
+    requires { F.IsAlwaysCallable perform.now }
+{
+    let given = given_by(rt, alloc, perform, step)?;
+    if !is_as_expected(alloc, step.expected.as_slice(), given.as_slice())? {
+        writeln!(differences, "line {}: {}", step.line, step.command)?;
+        push_marked(differences, "-", step.expected.as_slice())?;
+        push_marked(differences, "+", given.as_slice())?;
     }
-    for line in given {
-        writeln!(text, "+ {line}")?;
+    Ok(())
+}
+
+fn push_marked(text: &mut String, mark: &str, lines: &[String]) -> Result<()> {
+    for line in lines {
+        writeln!(text, "{mark} {line}")?;
     }
     Ok(())
 }

@@ -1,9 +1,9 @@
 //! What a step gives.
 
 use crate::case::Step;
-use crate::files;
+use crate::files::{copy, folder, has, pad, put, remove, same};
 use crate::told::Told;
-use anyhow::Result;
+use anyhow::{Error, Result};
 use std::alloc::Global;
 use std::rt::Files;
 
@@ -18,12 +18,14 @@ pub fn given_by<R: Files + AllocGlobal + Clone + Drop, F: Fn(&Step) -> Result<To
 {
     match done(rt, alloc, perform, step) {
         Ok(told) => told.lines(alloc),
-        Err(error) => {
-            let mut lines = Vec::new(alloc);
-            lines.push(format!(in alloc; "the step can't be done: {error}")?)?;
-            Ok(lines)
-        }
+        Err(error) => undone(alloc, error),
     }
+}
+
+fn undone(alloc: Global, error: Error) -> Result<Vec<String>> {
+    let mut lines = Vec::new(alloc);
+    lines.push(format!(in alloc; "the step can't be done: {error}")?)?;
+    Ok(lines)
 }
 
 fn done<R: Files + AllocGlobal + Clone + Drop, F: Fn(&Step) -> Result<Told>>(
@@ -34,8 +36,14 @@ fn done<R: Files + AllocGlobal + Clone + Drop, F: Fn(&Step) -> Result<Told>>(
 ) -> Result<Told>
     requires { F.IsAlwaysCallable perform.now }
 {
-    match files::perform(rt, alloc, step)? {
-        Some(told) => Ok(told),
-        None => perform(step),
+    match step.name()? {
+        "put" => put(rt, alloc, step),
+        "copy" => copy(rt, alloc, step),
+        "folder" => folder(rt, alloc, step),
+        "remove" => remove(rt, alloc, step),
+        "pad" => pad(rt, alloc, step),
+        "has" => has(rt, alloc, step),
+        "same" => same(rt, alloc, step),
+        _ => perform(step),
     }
 }

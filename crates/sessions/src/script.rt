@@ -16,15 +16,25 @@ pub fn script_of<R: Files + AllocGlobal>(
 ) -> Result<String> {
     let mut script = String::new(alloc);
     for line in lines {
-        match line.as_str().strip_prefix("@") {
-            None => push_line(&mut script, line.as_str())?,
-            Some(short) => match short.split_once(" ") {
-                None => script.push_str(prologue(rt, alloc, short)?.as_str())?,
-                Some((range, line)) => push_repeats(alloc, &mut script, range, line)?,
-            },
-        }
+        push_spelled(rt, alloc, &mut script, line.as_str())?;
     }
     Ok(script)
+}
+
+/// Adds what the line spells.
+fn push_spelled<R: Files + AllocGlobal>(
+    rt: &R,
+    alloc: Global,
+    script: &mut String,
+    line: &str,
+) -> Result<()> {
+    let Some(short) = line.strip_prefix("@") else {
+        return push_line(script, line);
+    };
+    match short.split_once(" ") {
+        None => push_prologue(rt, alloc, script, short),
+        Some((range, line)) => push_repeats(alloc, script, range, line),
+    }
 }
 
 fn push_line(script: &mut String, line: &str) -> Result<()> {
@@ -33,9 +43,16 @@ fn push_line(script: &mut String, line: &str) -> Result<()> {
     Ok(())
 }
 
-fn prologue<R: Files + AllocGlobal>(rt: &R, alloc: Global, name: &str) -> Result<String> {
+fn push_prologue<R: Files + AllocGlobal>(
+    rt: &R,
+    alloc: Global,
+    script: &mut String,
+    name: &str,
+) -> Result<()> {
     let path = format!(in alloc; "{CASES}/{name}.script")?;
-    fs::read_to_string(rt, path.as_str()).context("no file of that name and .script")
+    let lines = fs::read_to_string(rt, path.as_str()).context("no file of that name and .script")?;
+    script.push_str(lines.as_str())?;
+    Ok(())
 }
 
 fn push_repeats(alloc: Global, script: &mut String, range: &str, line: &str) -> Result<()> {
@@ -43,12 +60,15 @@ fn push_repeats(alloc: Global, script: &mut String, range: &str, line: &str) -> 
     let first = first.parse::<u32>()?;
     let last = last.parse::<u32>()?;
     for number in first..=last {
-        let next = number.saturating_add(1);
-        let number = format!(in alloc; "{number}")?;
-        let next = format!(in alloc; "{next}")?;
-        let line = line.replace(alloc, "{}", number.as_str())?;
-        let line = line.as_str().replace(alloc, "{+}", next.as_str())?;
-        push_line(script, line.as_str())?;
+        push_numbered(alloc, script, number, line)?;
     }
     Ok(())
+}
+
+fn push_numbered(alloc: Global, script: &mut String, number: u32, line: &str) -> Result<()> {
+    let next = format!(in alloc; "{}", number.saturating_add(1))?;
+    let number = format!(in alloc; "{number}")?;
+    let line = line.replace(alloc, "{}", number.as_str())?;
+    let line = line.as_str().replace(alloc, "{+}", next.as_str())?;
+    push_line(script, line.as_str())
 }

@@ -6,7 +6,7 @@ use cjson::{Doc, canonical, read_tree, signed_bytes};
 use lms::Height;
 use seals::{Signer, seal, secret};
 use serde_json::Value;
-use sessions::{Told, script_of};
+use sessions::{Step, Told, script_of};
 use std::alloc::Global;
 use std::fs;
 use std::rt::{Clock, Files};
@@ -17,23 +17,32 @@ use std::rt::{Clock, Files};
 /// key signs it under the id that signed it before.
 pub fn change<R: Files + Clock + AllocGlobal + Clone + Drop, T>(
     shell: &Shell<'_, R, T>,
-    name: &str,
-    key: Option<&String>,
-    lines: &[String],
+    step: &Step,
 ) -> Result<Told> {
-    let alloc = shell.alloc;
-    let (old, new) = lines
+    let (name, key) = (step.word(0)?, step.words().get(1));
+    let (old, new) = step
+        .script
         .split_first()
         .context("no text that is to be changed")?;
-    let new = script_of(shell.rt, alloc, new)?;
+    let new = script_of(shell.rt, shell.alloc, new)?;
     let new = new.as_str().strip_suffix("\n").unwrap_or("");
     let file = fs::read(shell.rt, name)?;
-    let bytes = match key {
-        None => changed(alloc, file.as_slice(), old.as_str(), new)?,
-        Some(key) => signed_anew(alloc, file.as_slice(), key.as_str(), old.as_str(), new)?,
-    };
+    let bytes = with_change(shell.alloc, file.as_slice(), key, old.as_str(), new)?;
     fs::write(shell.rt, name, bytes.as_slice())?;
-    Ok(Told::nothing(alloc))
+    Ok(Told::nothing(shell.alloc))
+}
+
+fn with_change(
+    alloc: Global,
+    file: &[u8],
+    key: Option<&String>,
+    old: &str,
+    new: &str,
+) -> Result<Vec<u8>> {
+    match key {
+        None => changed(alloc, file, old, new),
+        Some(key) => signed_anew(alloc, file, key.as_str(), old, new),
+    }
 }
 
 /// The file with the new part in place of the old in what it signs, signed by the key.

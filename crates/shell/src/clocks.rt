@@ -7,7 +7,7 @@ use anyhow::{Context, Result};
 use cycle::{Moment, Trusted};
 use failure::{Failure, tell_failure};
 use folder::{Folder, LoadFault};
-use sessions::Told;
+use sessions::{Step, Told};
 use std::alloc::Global;
 use std::rt::{Clock, Files};
 use std::sync::Wait;
@@ -151,10 +151,12 @@ impl Folder for FailingFolder {
 /// stores the state under that name.
 pub fn failing<R: Files + AllocGlobal, T: Threads + Wait + Sync>(
     shell: &Shell<'_, R, T>,
-    metadata: &str,
-    targets: &str,
-    state: &str,
+    step: &Step,
 ) -> Result<Told> {
+    let folders = Folders {
+        metadata: FailingFolder::after(step.word(0)?.parse::<u64>()?),
+        targets: FailingFolder::after(step.word(1)?.parse::<u64>()?),
+    };
     let root = fs::read(shell.rt, "metadata/1.root.json")?;
     let wanted = [String::from_str(shell.alloc, "a")?];
     let start = Start {
@@ -163,11 +165,7 @@ pub fn failing<R: Files + AllocGlobal, T: Threads + Wait + Sync>(
         wanted: &wanted,
         limit: 32,
         workers: 2,
-        state,
-    };
-    let folders = Folders {
-        metadata: FailingFolder::after(metadata.parse::<u64>()?),
-        targets: FailingFolder::after(targets.parse::<u64>()?),
+        state: step.word(2)?,
     };
     verified(shell, &start, folders)
 }

@@ -24,30 +24,43 @@ struct Answer {
 pub fn cuts<R: Files + Clock + AllocGlobal + Clone + Drop, T: Threads + Wait + Sync>(
     shell: &Shell<'_, R, T>,
     step: &Step,
-    more: &[String],
 ) -> Result<Told> {
     let size = step.word(0)?.parse::<usize>()?;
-    ensure!(size > 0, "no step");
     let name = step.word(1)?;
     let whole = fs::read(shell.rt, name)?;
-    let mut cut: Vec<u8> = Vec::new(shell.alloc);
-    let mut answers: Vec<Answer> = Vec::new(shell.alloc);
-    for part in whole.as_slice().chunks(size) {
-        fs::write(shell.rt, name, cut.as_slice())?;
-        count(&mut answers, verified(shell, step, more)?)?;
-        cut.extend_from_slice(part)?;
-    }
+    let answers = answers_of(shell, step, size, whole.as_slice())?;
     fs::write(shell.rt, name, whole.as_slice())?;
     all_told(shell.alloc, answers.as_slice())
 }
 
-/// What a verification of the step's states tells, by each of its numbers of workers.
+/// The answers for the beginnings of a file, whose lengths are the multiples of a step.
+fn answers_of<R: Files + Clock + AllocGlobal + Clone + Drop, T: Threads + Wait + Sync>(
+    shell: &Shell<'_, R, T>,
+    step: &Step,
+    size: usize,
+    whole: &[u8],
+) -> Result<Vec<Answer>> {
+    ensure!(size > 0, "no step");
+    let mut cut: Vec<u8> = Vec::new(shell.alloc);
+    let mut answers: Vec<Answer> = Vec::new(shell.alloc);
+    for part in whole.chunks(size) {
+        let told = verified(shell, step, cut.as_slice())?;
+        count(&mut answers, told)?;
+        cut.extend_from_slice(part)?;
+    }
+    Ok(answers)
+}
+
+/// What a verification of the step's states tells where its file has these bytes, by each of its
+/// numbers of workers.
 fn verified<R: Files + Clock + AllocGlobal + Clone + Drop, T: Threads + Wait + Sync>(
     shell: &Shell<'_, R, T>,
     step: &Step,
-    more: &[String],
+    bytes: &[u8],
 ) -> Result<Told> {
-    by(shell, step.word(2)?, step.word(3)?, step.word(4)?, more)
+    fs::write(shell.rt, step.word(1)?, bytes)?;
+    let (old, new) = (step.word(3)?, step.word(4)?);
+    by(shell, step.word(2)?, old, new, step.words_behind(5))
 }
 
 /// Counts one length more that gave this.

@@ -3,7 +3,7 @@
 use crate::shell::Shell;
 use anyhow::{Context, Result};
 use folder::{Depth, Disk, load};
-use sessions::Told;
+use sessions::{Step, Told};
 use sha2::{Digest, Sha256};
 use std::alloc::Global;
 use std::collections::BTreeMap;
@@ -13,29 +13,37 @@ use std::rt::{Clock, Files};
 /// Writes a state file with members `NAME=FILE`, in the order in which they are given.
 pub fn state<R: Files + Clock + AllocGlobal + Clone + Drop, T>(
     shell: &Shell<'_, R, T>,
-    name: &str,
-    members: &[String],
+    step: &Step,
 ) -> Result<Told> {
     let mut text = String::from_str(shell.alloc, "{")?;
     let mut comma = "";
-    for member in members {
-        let (key, file) = member.as_str().split_once("=").context("no member")?;
-        let bytes = fs::read(shell.rt, file)?;
-        let digits = hex::encode(shell.alloc, bytes.as_slice())?;
-        write!(text, "{comma}\"{key}\":\"{digits}\"")?;
+    for member in step.words_behind(1) {
+        push_member(shell, &mut text, comma, member.as_str())?;
         comma = ",";
     }
     text.push('}')?;
-    fs::write(shell.rt, name, text.as_str())?;
+    fs::write(shell.rt, step.word(0)?, text.as_str())?;
     Ok(Told::nothing(shell.alloc))
+}
+
+fn push_member<R: Files + Clock + AllocGlobal + Clone + Drop, T>(
+    shell: &Shell<'_, R, T>,
+    text: &mut String,
+    comma: &str,
+    member: &str,
+) -> Result<()> {
+    let (key, file) = member.split_once("=").context("no member")?;
+    let bytes = fs::read(shell.rt, file)?;
+    let digits = hex::encode(shell.alloc, bytes.as_slice())?;
+    Ok(write!(text, "{comma}\"{key}\":\"{digits}\"")?)
 }
 
 /// Tells the names of the members that a state file has, in its order.
 pub fn keeps<R: Files + Clock + AllocGlobal + Clone + Drop, T>(
     shell: &Shell<'_, R, T>,
-    name: &str,
+    step: &Step,
 ) -> Result<Told> {
-    let text = fs::read_to_string(shell.rt, name)?;
+    let text = fs::read_to_string(shell.rt, step.word(0)?)?;
     let mut line = String::new(shell.alloc);
     for (place, part) in text.as_str().split("\"").enumerate() {
         if place % 4 == 1 {

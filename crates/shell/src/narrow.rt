@@ -3,7 +3,7 @@
 use crate::shell::Shell;
 use anyhow::Result;
 use command::perform;
-use sessions::Told;
+use sessions::{Step, Told};
 use std::io::{self, ErrorKind, Write};
 use std::rt::{Clock, Files};
 use std::sync::Wait;
@@ -34,18 +34,17 @@ impl Write for Narrow {
 /// Runs the command line where standard output takes so many bytes.
 pub fn with_narrow_output<R: Files + Clock + AllocGlobal + Clone + Drop, T: Threads + Wait + Sync>(
     shell: &Shell<'_, R, T>,
-    room: &str,
-    words: &[String],
+    step: &Step,
 ) -> Result<Told> {
     let mut out = Narrow {
-        room: room.parse::<usize>()?,
+        room: step.word(0)?.parse::<usize>()?,
     };
     let mut told = Told::nothing(shell.alloc);
     told.status = perform(
         shell.rt,
         shell.threads,
         shell.alloc,
-        words,
+        step.words_behind(1),
         &mut out,
         &mut told.err,
     );
@@ -55,18 +54,17 @@ pub fn with_narrow_output<R: Files + Clock + AllocGlobal + Clone + Drop, T: Thre
 /// Runs the command line where standard error takes so many bytes.
 pub fn with_narrow_error<R: Files + Clock + AllocGlobal + Clone + Drop, T: Threads + Wait + Sync>(
     shell: &Shell<'_, R, T>,
-    room: &str,
-    words: &[String],
+    step: &Step,
 ) -> Result<Told> {
     let mut err = Narrow {
-        room: room.parse::<usize>()?,
+        room: step.word(0)?.parse::<usize>()?,
     };
     let mut told = Told::nothing(shell.alloc);
     told.status = perform(
         shell.rt,
         shell.threads,
         shell.alloc,
-        words,
+        step.words_behind(1),
         &mut told.out,
         &mut err,
     );

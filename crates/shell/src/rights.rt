@@ -2,7 +2,7 @@
 
 use crate::shell::Shell;
 use anyhow::Result;
-use sessions::Told;
+use sessions::{Step, Told};
 use std::fs;
 use std::fs::Permissions;
 use std::os::unix::fs::{PermissionsExt, symlink};
@@ -11,19 +11,15 @@ use std::rt::Files;
 /// Gives a file or folder these rights, as `chmod` does.
 pub fn allow<R: Files + AllocGlobal, T>(
     shell: &Shell<'_, R, T>,
-    name: &str,
+    step: &Step,
     mode: u32,
 ) -> Result<Told> {
-    fs::set_permissions(shell.rt, name, Permissions::from_mode(mode))?;
+    fs::set_permissions(shell.rt, step.word(0)?, Permissions::from_mode(mode))?;
     Ok(Told::nothing(shell.alloc))
 }
 
-/// Makes a link with that name to the file.
-pub fn link<R: Files + AllocGlobal, T>(
-    shell: &Shell<'_, R, T>,
-    file: &str,
-    name: &str,
-) -> Result<Told> {
-    symlink(shell.rt, file, name)?;
+/// Makes a link to the file of the first word, with the name of the second.
+pub fn link<R: Files + AllocGlobal, T>(shell: &Shell<'_, R, T>, step: &Step) -> Result<Told> {
+    symlink(shell.rt, step.word(0)?, step.word(1)?)?;
     Ok(Told::nothing(shell.alloc))
 }

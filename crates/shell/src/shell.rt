@@ -2,7 +2,7 @@
 
 use anyhow::Result;
 use command::perform;
-use sessions::{Told, script_of, words_of};
+use sessions::{Step, Told, script_of, words_of};
 use std::alloc::Global;
 use std::fs;
 use std::rt::{Clock, Files};
@@ -47,19 +47,24 @@ impl<'a, R: Files + Clock + AllocGlobal + Clone + Drop, T: Threads + Wait + Sync
 
     /// Makes what the script says in place of the folders `metadata` and `targets`.
     pub fn make(&self, lines: &[String]) -> Result<Told> {
-        for folder in ["metadata", "targets"] {
-            if fs::exists(self.rt, folder)? {
-                fs::remove_dir_all(self.rt, folder)?;
-            }
-            fs::create_dir(self.rt, folder)?;
-        }
+        self.empty("metadata")?;
+        self.empty("targets")?;
         let script = script_of(self.rt, self.alloc, lines)?;
         fs::write(self.rt, "script", script.as_str())?;
         self.run_line("make script .")
     }
 
+    /// Makes an empty folder in place of what is there.
+    fn empty(&self, folder: &str) -> Result<()> {
+        if fs::exists(self.rt, folder)? {
+            fs::remove_dir_all(self.rt, folder)?;
+        }
+        Ok(fs::create_dir(self.rt, folder)?)
+    }
+
     /// Trusts the root of version 1.
-    pub fn init(&self, state: &str) -> Result<Told> {
+    pub fn init(&self, step: &Step) -> Result<Told> {
+        let state = step.word(0)?;
         let line = format!(in self.alloc; "init metadata/1.root.json --out {state}")?;
         self.run_line(line.as_str())
     }

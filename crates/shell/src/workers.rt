@@ -2,7 +2,7 @@
 
 use crate::shell::Shell;
 use anyhow::{Context, Result, bail};
-use sessions::Told;
+use sessions::{Step, Told};
 use std::fs;
 use std::rt::{Clock, Files};
 use std::sync::Wait;
@@ -19,6 +19,23 @@ impl Ran {
     fn is(&self, other: &Ran) -> bool {
         self.state == other.state && self.told.is(&other.told)
     }
+}
+
+/// Verifies as the step says: from one state to another, with further words.
+pub fn verify<R: Files + Clock + AllocGlobal + Clone + Drop, T: Threads + Wait + Sync>(
+    shell: &Shell<'_, R, T>,
+    step: &Step,
+) -> Result<Told> {
+    shell.verify(step.word(0)?, step.word(1)?, step.words_behind(2))
+}
+
+/// Verifies as the step says by each of the numbers of workers that its first word lists.
+pub fn verify_by<R: Files + Clock + AllocGlobal + Clone + Drop, T: Threads + Wait + Sync>(
+    shell: &Shell<'_, R, T>,
+    step: &Step,
+) -> Result<Told> {
+    let (old, new) = (step.word(1)?, step.word(2)?);
+    by(shell, step.word(0)?, old, new, step.words_behind(3))
 }
 
 /// Verifies by each of the numbers of workers, which commas part, and gives what the first run

@@ -1,7 +1,7 @@
 //! Folders on the disk and in memory.
 
 use crate::stored::Memory;
-use folder::{Depth, Disk, Folder, LoadFault, load};
+use folder::{Depth, Disk, Folder, LoadFault, joined, load};
 use std::os::unix::fs::symlink;
 use std::rt::Files;
 use std::test::Fail;
@@ -13,22 +13,42 @@ fn fresh<R: Files + AllocGlobal>(rt: &R, folder: &str) -> io::Result<()> {
     fs::create_dir(rt, folder)
 }
 
+/// Makes a folder with a file in it and one two folders below, links beside them, and a link to it.
+fn tree<R: Files + AllocGlobal>(rt: &R, folder: &str) -> Result<(), Fail> {
+    fresh(rt, folder)?;
+    fs::create_dir_all(rt, joined(rt.alloc(), folder, "top/d/e")?.as_str())?;
+    write(rt, folder, "top/f", "1")?;
+    write(rt, folder, "top/d/e/f", "22")?;
+    link(rt, folder, "top/link", "f")?;
+    link(rt, folder, "top/links", "d")?;
+    link(rt, folder, "linked", "top")
+}
+
+fn write<R: Files + AllocGlobal>(rt: &R, folder: &str, name: &str, text: &str) -> Result<(), Fail> {
+    let path = joined(rt.alloc(), folder, name)?;
+    Ok(fs::write(rt, path.as_str(), text)?)
+}
+
+fn link<R: Files + AllocGlobal>(rt: &R, folder: &str, name: &str, to: &str) -> Result<(), Fail> {
+    let path = joined(rt.alloc(), folder, name)?;
+    Ok(symlink(rt, to, path.as_str())?)
+}
+
 #[test]
-fn folders_on_disk_are_loaded(rt: HostRuntime) -> Result<(), Fail> {
-    let alloc = rt.alloc();
-    fresh(&rt, "folders_on_disk_are_loaded")?;
-    fs::create_dir_all(&rt, "folders_on_disk_are_loaded/top/d/e")?;
-    fs::write(&rt, "folders_on_disk_are_loaded/top/f", "1")?;
-    fs::write(&rt, "folders_on_disk_are_loaded/top/d/e/f", "22")?;
-    symlink(&rt, "f", "folders_on_disk_are_loaded/top/link")?;
-    symlink(&rt, "d", "folders_on_disk_are_loaded/top/links")?;
-    symlink(&rt, "top", "folders_on_disk_are_loaded/linked")?;
-    let mut here = Disk::new(&rt, "folders_on_disk_are_loaded/linked", Depth::Here);
-    let files = load(alloc, &mut here)?;
+fn a_linked_folder_is_loaded(rt: HostRuntime) -> Result<(), Fail> {
+    tree(&rt, "a_linked_folder_is_loaded")?;
+    let mut here = Disk::new(&rt, "a_linked_folder_is_loaded/linked", Depth::Here);
+    let files = load(rt.alloc(), &mut here)?;
     assert_eq!(rt; files.len(), 1);
     assert_eq!(rt; files.get("f").ok_or("f")?.as_slice(), b"1".as_slice());
-    let mut below = Disk::new(&rt, "folders_on_disk_are_loaded/top", Depth::Below);
-    let files = load(alloc, &mut below)?;
+    Ok(fs::remove_dir_all(&rt, "a_linked_folder_is_loaded")?)
+}
+
+#[test]
+fn folders_below_are_loaded(rt: HostRuntime) -> Result<(), Fail> {
+    tree(&rt, "folders_below_are_loaded")?;
+    let mut below = Disk::new(&rt, "folders_below_are_loaded/top", Depth::Below);
+    let files = load(rt.alloc(), &mut below)?;
     assert_eq!(rt; files.len(), 2);
     assert_eq!(rt; files.get("f").ok_or("f")?.as_slice(), b"1".as_slice());
     assert_eq!(rt;
@@ -36,7 +56,7 @@ fn folders_on_disk_are_loaded(rt: HostRuntime) -> Result<(), Fail> {
         b"22".as_slice()
     );
     assert_eq!(rt; below.failed(), 0);
-    Ok(fs::remove_dir_all(&rt, "folders_on_disk_are_loaded")?)
+    Ok(fs::remove_dir_all(&rt, "folders_below_are_loaded")?)
 }
 
 #[test]
@@ -73,12 +93,20 @@ fn a_folder_in_memory_fails_at_each_call(rt: HostRuntime) -> Result<(), Fail> {
         );
         assert_eq!(rt; folder.failed(), 1);
     }
-    let mut folder = Memory::of(alloc, &files, 3)?;
+    Ok(())
+}
+
+#[test]
+fn a_folder_in_memory_is_loaded(rt: HostRuntime) -> Result<(), Fail> {
+    let alloc = rt.alloc();
+    let mut folder = Memory::of(alloc, &[("a", "1"), ("b/c", "22")], 3)?;
     let loaded = load(alloc, &mut folder)?;
     assert_eq!(rt; loaded.len(), 2);
-    for (name, text) in files {
-        assert_eq!(rt; loaded.get(name).ok_or(name)?.as_slice(), text.as_bytes());
-    }
+    assert_eq!(rt; loaded.get("a").ok_or("a")?.as_slice(), b"1".as_slice());
+    assert_eq!(rt;
+        loaded.get("b/c").ok_or("b/c")?.as_slice(),
+        b"22".as_slice()
+    );
     assert_eq!(rt; folder.failed(), 0);
     Ok(())
 }

@@ -8,36 +8,38 @@ use sha2::{Digest, Sha256};
 use std::alloc::Global;
 use std::simd::prelude::*;
 
-/// What the step prints, if it is of these commands.
-pub fn given(alloc: Global, step: &Step) -> Result<Option<String>> {
-    match step.name()? {
-        "lanes" => Ok(Some(digests(alloc, step)?)),
-        _ => Ok(None),
-    }
-}
-
 /// The digests of four messages, each with whether the plain program gives the same.
-fn digests(alloc: Global, step: &Step) -> Result<String> {
+pub fn digests(alloc: Global, step: &Step) -> Result<String> {
     let messages = [
-        message(alloc, step.word(0)?)?,
-        message(alloc, step.word(1)?)?,
-        message(alloc, step.word(2)?)?,
-        message(alloc, step.word(3)?)?,
+        message(alloc, step, 0)?,
+        message(alloc, step, 1)?,
+        message(alloc, step, 2)?,
+        message(alloc, step, 3)?,
     ];
     let digests = in_lanes(&messages);
     let mut text = String::new(alloc);
     for (message, digest) in messages.iter().zip(digests.iter()) {
-        let plain: [u8; 32] = Sha256::digest(message);
-        let same = yes_or_no(plain == *digest);
-        let digest = hex::encode(alloc, digest)?;
-        writeln!(text, "{digest} {same}")?;
+        push_digest(alloc, &mut text, message, digest)?;
     }
     Ok(text)
 }
 
-/// A message of 55 bytes in hexadecimal digits.
-fn message(alloc: Global, digits: &str) -> Result<[u8; 55]> {
-    let bytes = hex::decode(alloc, digits)?;
+fn push_digest(
+    alloc: Global,
+    text: &mut String,
+    message: &[u8; 55],
+    digest: &[u8; 32],
+) -> Result<()> {
+    let plain: [u8; 32] = Sha256::digest(message);
+    let same = yes_or_no(plain == *digest);
+    let digest = hex::encode(alloc, digest)?;
+    writeln!(text, "{digest} {same}")?;
+    Ok(())
+}
+
+/// The message of 55 bytes that the word of that place spells in hexadecimal digits.
+fn message(alloc: Global, step: &Step, place: usize) -> Result<[u8; 55]> {
+    let bytes = hex::decode(alloc, step.word(place)?)?;
     if bytes.len() != 55 {
         bail!("no message of 55 bytes");
     }

@@ -4,23 +4,10 @@ use crate::layers::Layers;
 use crate::signed::{changed, file, good};
 use anyhow::{Context, Result, bail};
 use keys::Direct;
-use meta::{Part, Stop, Targets, Timestamp};
+use meta::{Part, Reading, Stop, Targets, Timestamp};
 use sessions::Step;
 use std::alloc::Global;
 use std::rt::Files;
-
-/// What the step prints, if it is of these commands.
-pub fn given<R: Files + AllocGlobal + Clone + Drop>(
-    layers: &Layers<'_, R>,
-    step: &Step,
-) -> Result<Option<String>> {
-    let answer = match step.name()? {
-        "listing" => check_listing(layers, step)?,
-        "target" => check_target(layers, step)?,
-        _ => return Ok(None),
-    };
-    Ok(Some(told(layers.alloc, answer)?))
-}
 
 fn told(alloc: Global, answer: Result<(), Stop>) -> Result<String> {
     match answer {
@@ -38,32 +25,45 @@ fn limit_of(step: &Step) -> Result<Option<u64>> {
     }
 }
 
+/// The good file of a kind with the new part in place of the old.
+fn file_with<A: Reading + Drop, R: Files + AllocGlobal + Clone + Drop>(
+    layers: &Layers<'_, R>,
+    kind: &str,
+    old: &str,
+    new: &str,
+) -> Result<Part<A>> {
+    let signed = good(layers, kind)?;
+    let signed = changed(layers.alloc, signed.as_str(), old, new)?;
+    Ok(Part::read(layers.alloc, file(layers.alloc, signed.as_str())?)?)
+}
+
 /// What the check of a listing with the members answers.
-fn check_listing<R: Files + AllocGlobal + Clone + Drop>(
+pub fn check_listing<R: Files + AllocGlobal + Clone + Drop>(
     layers: &Layers<'_, R>,
     step: &Step,
-) -> Result<Result<(), Stop>> {
-    let alloc = layers.alloc;
+) -> Result<String> {
     let members = step.text_behind(1);
-    let new = format!(in alloc; "\"snapshot.json\":{{\"version\":1,{members}}},\"x\":{{")?;
-    let signed = good(layers, "timestamp")?;
-    let signed = changed(alloc, signed.as_str(), "\"snapshot.json\":{", new.as_str())?;
-    let part: Part<Timestamp> = Part::read(alloc, file(alloc, signed.as_str())?)?;
+    let new = format!(in layers.alloc; "\"snapshot.json\":{{\"version\":1,{members}}},\"x\":{{")?;
+    let part: Part<Timestamp> = file_with(
+        layers,
+        "timestamp",
+        "\"snapshot.json\":{",
+        new.as_str(),
+    )?;
     let listing = part.reading().snapshot();
-    Ok(listing.check("snapshot.json", b"abc", limit_of(step)?, &mut Direct))
+    let answer = listing.check("snapshot.json", b"abc", limit_of(step)?, &mut Direct);
+    told(layers.alloc, answer)
 }
 
 /// What the check of a target with the members answers.
-fn check_target<R: Files + AllocGlobal + Clone + Drop>(
+pub fn check_target<R: Files + AllocGlobal + Clone + Drop>(
     layers: &Layers<'_, R>,
     step: &Step,
-) -> Result<Result<(), Stop>> {
-    let alloc = layers.alloc;
+) -> Result<String> {
     let members = step.text_behind(1);
-    let new = format!(in alloc; "\"a\":{{{members}}},\"c/abc.txt\":{{")?;
-    let signed = good(layers, "targets")?;
-    let signed = changed(alloc, signed.as_str(), "\"c/abc.txt\":{", new.as_str())?;
-    let part: Part<Targets> = Part::read(alloc, file(alloc, signed.as_str())?)?;
+    let new = format!(in layers.alloc; "\"a\":{{{members}}},\"c/abc.txt\":{{")?;
+    let part: Part<Targets> = file_with(layers, "targets", "\"c/abc.txt\":{", new.as_str())?;
     let target = part.reading().targets().first().context("no target")?;
-    Ok(target.check("abc.txt", b"abc", limit_of(step)?, &mut Direct))
+    let answer = target.check("abc.txt", b"abc", limit_of(step)?, &mut Direct);
+    told(layers.alloc, answer)
 }

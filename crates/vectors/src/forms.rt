@@ -10,40 +10,32 @@ use serde_json::Value;
 use sessions::Step;
 use std::alloc::Global;
 
-/// What the step prints, if it is of these commands.
-pub fn given(alloc: Global, step: &Step) -> Result<Option<String>> {
-    let text = match step.name()? {
-        "at-least" => at_least(alloc, step.word(0)?, step.text_behind(1))?,
-        "digits" => digits(alloc, step.word(0)?, step.text_behind(1))?,
-        "needed" => needed_truth(alloc, step.word(0)?, step.text_behind(1))?,
-        "optional" => optional_truth(alloc, step.word(0)?, step.text_behind(1))?,
-        "needed-text" => needed_text(alloc, step.word(0)?, step.text_behind(1))?,
-        "list" => list(alloc, step.text_behind(0))?,
-        _ => return Ok(None),
-    };
-    Ok(Some(text))
+/// A whole number of at least so much.
+pub fn at_least(alloc: Global, step: &Step) -> Result<String> {
+    let value = Value::from_str(alloc, step.text_behind(1))?;
+    match step.word(0)? {
+        "0" => number(alloc, Length::from_json(alloc, &value)),
+        "1" => number(alloc, Positive::from_json(alloc, &value)),
+        "7" => number(alloc, AtLeast::<7>::from_json(alloc, &value)),
+        "8" => number(alloc, AtLeast::<8>::from_json(alloc, &value)),
+        _ => bail!("no such bound"),
+    }
 }
 
-/// A whole number of at least so much.
-fn at_least(alloc: Global, least: &str, json: &str) -> Result<String> {
-    let value = Value::from_str(alloc, json)?;
-    let number = match least {
-        "0" => Length::from_json(alloc, &value).map(|number| number.get()),
-        "1" => Positive::from_json(alloc, &value).map(|number| number.get()),
-        "7" => AtLeast::<7>::from_json(alloc, &value).map(|number| number.get()),
-        "8" => AtLeast::<8>::from_json(alloc, &value).map(|number| number.get()),
-        _ => bail!("no such bound"),
-    };
-    Ok(match number {
-        Ok(number) => format!(in alloc; "{number}\n")?,
-        Err(fault) => misread(alloc, fault)?,
-    })
+fn number<const LEAST: u64>(
+    alloc: Global,
+    number: Result<AtLeast<LEAST>, Misread>,
+) -> Result<String> {
+    match number {
+        Ok(number) => Ok(format!(in alloc; "{}\n", number.get())?),
+        Err(fault) => misread(alloc, fault),
+    }
 }
 
 /// So many bytes that a text spells in hexadecimal digits.
-fn digits(alloc: Global, count: &str, json: &str) -> Result<String> {
-    let value = Value::from_str(alloc, json)?;
-    match count {
+pub fn digits(alloc: Global, step: &Step) -> Result<String> {
+    let value = Value::from_str(alloc, step.text_behind(1))?;
+    match step.word(0)? {
         "0" => spelled(alloc, <[u8; 0]>::from_json(alloc, &value)),
         "3" => spelled(alloc, <[u8; 3]>::from_json(alloc, &value)),
         _ => bail!("no such count"),
@@ -58,18 +50,18 @@ fn spelled<const N: usize>(alloc: Global, bytes: Result<[u8; N], Misread>) -> Re
 }
 
 /// A member that has to be there, and is a truth.
-fn needed_truth(alloc: Global, name: &str, json: &str) -> Result<String> {
-    let value = Value::from_str(alloc, json)?;
-    match needed::<bool>(alloc, &value, name) {
+pub fn needed_truth(alloc: Global, step: &Step) -> Result<String> {
+    let value = Value::from_str(alloc, step.text_behind(1))?;
+    match needed::<bool>(alloc, &value, step.word(0)?) {
         Ok(truth) => Ok(format!(in alloc; "{truth}\n")?),
         Err(fault) => misread(alloc, fault),
     }
 }
 
 /// A member that may be there, and then is a truth.
-fn optional_truth(alloc: Global, name: &str, json: &str) -> Result<String> {
-    let value = Value::from_str(alloc, json)?;
-    match optional::<bool>(alloc, &value, name) {
+pub fn optional_truth(alloc: Global, step: &Step) -> Result<String> {
+    let value = Value::from_str(alloc, step.text_behind(1))?;
+    match optional::<bool>(alloc, &value, step.word(0)?) {
         Ok(Some(truth)) => Ok(format!(in alloc; "{truth}\n")?),
         Ok(None) => Ok(String::from_str(alloc, "none\n")?),
         Err(fault) => misread(alloc, fault),
@@ -77,9 +69,9 @@ fn optional_truth(alloc: Global, name: &str, json: &str) -> Result<String> {
 }
 
 /// A member that has to be there, and is a text.
-fn needed_text(alloc: Global, name: &str, json: &str) -> Result<String> {
-    let value = Value::from_str(alloc, json)?;
-    match needed::<Text>(alloc, &value, name) {
+pub fn needed_text(alloc: Global, step: &Step) -> Result<String> {
+    let value = Value::from_str(alloc, step.text_behind(1))?;
+    match needed::<Text>(alloc, &value, step.word(0)?) {
         Ok(text) => {
             let given = text.into_string();
             Ok(format!(in alloc; "{:?}\n", given.as_str())?)
@@ -89,8 +81,8 @@ fn needed_text(alloc: Global, name: &str, json: &str) -> Result<String> {
 }
 
 /// A list of truths, as it is lent and as it is given away.
-fn list(alloc: Global, json: &str) -> Result<String> {
-    let value = Value::from_str(alloc, json)?;
+pub fn list(alloc: Global, step: &Step) -> Result<String> {
+    let value = Value::from_str(alloc, step.text_behind(0))?;
     match Items::<bool>::from_json(alloc, &value) {
         Ok(items) => listed(alloc, items),
         Err(fault) => misread(alloc, fault),

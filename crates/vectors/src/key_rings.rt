@@ -8,21 +8,9 @@ use serde_json::Value;
 use sessions::Step;
 use std::alloc::Global;
 
-/// What the step prints, if it is of these commands.
-pub fn given(alloc: Global, step: &Step) -> Result<Option<String>> {
-    let text = match step.name()? {
-        "key-id" => id(alloc, step.text_behind(0))?,
-        "ring" => ring(alloc, step.text_behind(0))?,
-        "role" => role(alloc, step.text_behind(0))?,
-        "public-key" => public_key(alloc, step.word(0)?)?,
-        _ => return Ok(None),
-    };
-    Ok(Some(text))
-}
-
 /// The id of a key object, or why it has none.
-fn id(alloc: Global, json: &str) -> Result<String> {
-    let value = Value::from_str(alloc, json)?;
+pub fn id(alloc: Global, step: &Step) -> Result<String> {
+    let value = Value::from_str(alloc, step.text_behind(0))?;
     Ok(match key_id(alloc, &value) {
         Ok(id) => format!(in alloc; "{id}\n")?,
         Err(fault) => format!(in alloc; "{fault:?}\n")?,
@@ -30,8 +18,8 @@ fn id(alloc: Global, json: &str) -> Result<String> {
 }
 
 /// The usable keys of an object of keys.
-fn ring(alloc: Global, json: &str) -> Result<String> {
-    let value = Value::from_str(alloc, json)?;
+pub fn ring(alloc: Global, step: &Step) -> Result<String> {
+    let value = Value::from_str(alloc, step.text_behind(0))?;
     match KeyRing::read(alloc, &value)? {
         Some(ring) => keys_of(alloc, &ring),
         None => Ok(String::from_str(alloc, "none\n")?),
@@ -49,8 +37,8 @@ pub fn keys_of(alloc: Global, ring: &KeyRing) -> Result<String> {
 }
 
 /// The threshold and the ids of a role.
-fn role(alloc: Global, json: &str) -> Result<String> {
-    let value = Value::from_str(alloc, json)?;
+pub fn role(alloc: Global, step: &Step) -> Result<String> {
+    let value = Value::from_str(alloc, step.text_behind(0))?;
     let mut text = String::new(alloc);
     match RoleKeys::read(alloc, &value)? {
         Some(role) => push_role(&mut text, &role)?,
@@ -70,8 +58,8 @@ pub fn push_role(text: &mut String, role: &RoleKeys) -> Result<()> {
 }
 
 /// The bytes of a public key that is supported, and whether they are read as the same key.
-fn public_key(alloc: Global, digits: &str) -> Result<String> {
-    let bytes = hex::decode(alloc, digits)?;
+pub fn public_key(alloc: Global, step: &Step) -> Result<String> {
+    let bytes = hex::decode(alloc, step.word(0)?)?;
     let Some(public) = Public::read(&bytes) else {
         return Ok(String::from_str(alloc, "none\n")?);
     };

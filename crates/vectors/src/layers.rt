@@ -3,7 +3,7 @@
 use crate::{
     blocks, contents, forms, key_rings, moments, questions, readings, signatures, texts, thresholds,
 };
-use anyhow::{Context, Result};
+use anyhow::{Result, bail};
 use sessions::{Step, Told};
 use std::alloc::Global;
 use std::fs;
@@ -38,44 +38,57 @@ impl<'a, R: Files + AllocGlobal + Clone + Drop> Layers<'a, R> {
 
     /// Does a step, and gives what its command told. An error says why the step can't be done.
     pub fn perform(&self, step: &Step) -> Result<Told> {
-        let text = match self.computed(step)? {
-            Some(text) => text,
-            None => self.filed(step)?.context("no such command")?,
-        };
-        Ok(Told::printed(self.alloc, text))
-    }
-
-    /// What a step prints that asks for no file.
-    fn computed(&self, step: &Step) -> Result<Option<String>> {
-        if let Some(text) = texts::given(self.alloc, step)? {
-            return Ok(Some(text));
-        }
-        if let Some(text) = forms::given(self.alloc, step)? {
-            return Ok(Some(text));
-        }
-        if let Some(text) = key_rings::given(self.alloc, step)? {
-            return Ok(Some(text));
-        }
-        if let Some(text) = moments::given(self.alloc, step)? {
-            return Ok(Some(text));
-        }
-        if let Some(text) = questions::given(self.alloc, step)? {
-            return Ok(Some(text));
-        }
-        blocks::given(self.alloc, step)
+        Ok(Told::printed(self.alloc, self.of_files(step)?))
     }
 
     /// What a step prints that reads files or writes them.
-    fn filed(&self, step: &Step) -> Result<Option<String>> {
-        if let Some(text) = signatures::given(self, step)? {
-            return Ok(Some(text));
+    fn of_files(&self, step: &Step) -> Result<String> {
+        match step.name()? {
+            "verify" => signatures::verified(self, step),
+            "about" => signatures::about(self, step),
+            "sign" => signatures::sign(self, step),
+            "signer" => thresholds::signer(self, step),
+            "enough" => thresholds::is_enough(self, step),
+            "asks" => thresholds::asks(self, step),
+            "read" => readings::read(self, step),
+            "listing" => contents::check_listing(self, step),
+            "target" => contents::check_target(self, step),
+            _ => of_texts(self.alloc, step),
         }
-        if let Some(text) = thresholds::given(self, step)? {
-            return Ok(Some(text));
-        }
-        if let Some(text) = readings::given(self, step)? {
-            return Ok(Some(text));
-        }
-        contents::given(self, step)
+    }
+}
+
+/// What a step prints of texts and JSON.
+fn of_texts(alloc: Global, step: &Step) -> Result<String> {
+    match step.name()? {
+        "canonical" => texts::canonical_text(alloc, step),
+        "document" => texts::document(alloc, step),
+        "document-hex" => texts::document_hex(alloc, step),
+        "nests" => texts::nests(alloc, step),
+        "at-least" => forms::at_least(alloc, step),
+        "digits" => forms::digits(alloc, step),
+        "needed" => forms::needed_truth(alloc, step),
+        "optional" => forms::optional_truth(alloc, step),
+        "needed-text" => forms::needed_text(alloc, step),
+        "list" => forms::list(alloc, step),
+        _ => of_values(alloc, step),
+    }
+}
+
+/// What a step prints of keys, moments and digests.
+fn of_values(alloc: Global, step: &Step) -> Result<String> {
+    match step.name()? {
+        "key-id" => key_rings::id(alloc, step),
+        "ring" => key_rings::ring(alloc, step),
+        "role" => key_rings::role(alloc, step),
+        "public-key" => key_rings::public_key(alloc, step),
+        "moment" => moments::read(alloc, step),
+        "at" => moments::at(alloc, step),
+        "before" => moments::before(alloc, step),
+        "digest" => questions::digest(alloc, step),
+        "alike" => questions::alike(alloc, step),
+        "lanes" => blocks::digests(alloc, step),
+        "leaves" => signatures::leaves(alloc, step),
+        _ => bail!("no such command"),
     }
 }

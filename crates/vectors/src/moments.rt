@@ -6,26 +6,24 @@ use moment::Moment;
 use sessions::Step;
 use std::alloc::Global;
 
-/// What the step prints, if it is of these commands.
-pub fn given(alloc: Global, step: &Step) -> Result<Option<String>> {
-    let text = match step.name()? {
-        "moment" => shown(alloc, Moment::read(step.text_behind(0)))?,
-        "at" => shown(alloc, at(step.word(0)?)?)?,
-        "before" => told(alloc, is_before(step)?)?,
-        _ => return Ok(None),
-    };
-    Ok(Some(text))
+/// The moment that a text spells.
+pub fn read(alloc: Global, step: &Step) -> Result<String> {
+    shown(alloc, Moment::read(step.text_behind(0)))
 }
 
 /// The moment so many seconds after 1970-01-01T00:00:00Z.
-fn at(seconds: &str) -> Result<Option<Moment>> {
-    Ok(Moment::at(seconds.parse::<u64>()?))
+pub fn at(alloc: Global, step: &Step) -> Result<String> {
+    shown(alloc, Moment::at(step.word(0)?.parse::<u64>()?))
 }
 
-fn is_before(step: &Step) -> Result<bool> {
-    let one = at(step.word(0)?)?.context("no moment")?;
-    let other = at(step.word(1)?)?.context("no moment")?;
-    Ok(one.is_before(other))
+/// Whether the moment of the first seconds is before that of the second ones.
+pub fn before(alloc: Global, step: &Step) -> Result<String> {
+    let (one, other) = (moment(step, 0)?, moment(step, 1)?);
+    told(alloc, one.is_before(other))
+}
+
+fn moment(step: &Step, place: usize) -> Result<Moment> {
+    Moment::at(step.word(place)?.parse::<u64>()?).context("no moment")
 }
 
 fn shown(alloc: Global, moment: Option<Moment>) -> Result<String> {

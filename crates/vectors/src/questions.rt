@@ -13,18 +13,8 @@ const PUBLIC: [u8; 56] = [
     2, 2, 2, 2, 2, 2, 2, 2, 2, 2, 2, 2, 2, 2, 2, 2, 2, 2, 2, 2, 2, 2, 2, 2,
 ];
 
-/// What the step prints, if it is of these commands.
-pub fn given(alloc: Global, step: &Step) -> Result<Option<String>> {
-    let is_so = match step.name()? {
-        "digest" => is_digest(alloc, step)?,
-        "alike" => is_alike(step)?,
-        _ => return Ok(None),
-    };
-    Ok(Some(told(alloc, is_so)?))
-}
-
 /// Whether the digest is that of the text.
-fn is_digest(alloc: Global, step: &Step) -> Result<bool> {
+pub fn digest(alloc: Global, step: &Step) -> Result<String> {
     let algorithm = match step.word(0)? {
         "sha256" => Algorithm::Sha256,
         "sha512" => Algorithm::Sha512,
@@ -37,15 +27,15 @@ fn is_digest(alloc: Global, step: &Step) -> Result<bool> {
         bytes: step.word(2)?.as_bytes(),
         digest: &digest,
     };
-    Ok(Direct.valid(&ask)?)
+    told(alloc, Direct.valid(&ask)?)
 }
 
 /// Whether two questions are the same.
-fn is_alike(step: &Step) -> Result<bool> {
+pub fn alike(alloc: Global, step: &Step) -> Result<String> {
     let public = Public::read(&PUBLIC).context("no public key")?;
     let one = ask_of(step.word(0)?, &public)?;
     let other = ask_of(step.word(1)?, &public)?;
-    Ok(one.same(&other))
+    told(alloc, one.same(&other))
 }
 
 /// The question of a signature in a file at a place, as `a:0`, or of a file's digest, as `a`.

@@ -15,35 +15,27 @@ use sessions::Step;
 use std::alloc::Global;
 use std::rt::Files;
 
-/// What the step prints, if it is of these commands.
-pub fn given<R: Files + AllocGlobal + Clone + Drop>(
-    layers: &Layers<'_, R>,
-    step: &Step,
-) -> Result<Option<String>> {
-    match step.name()? {
-        "read" => Ok(Some(read(layers, step)?)),
-        _ => Ok(None),
-    }
-}
-
 /// What the good file of a kind is read as, after the change that the lines make: the first one is
 /// the old text, and the second the new one.
-fn read<R: Files + AllocGlobal + Clone + Drop>(
+pub fn read<R: Files + AllocGlobal + Clone + Drop>(
     layers: &Layers<'_, R>,
     step: &Step,
 ) -> Result<String> {
-    let alloc = layers.alloc;
     let kind = step.word(0)?;
     let good = good(layers, kind)?;
-    let bytes = match step.script.as_slice() {
-        [] => file(alloc, good.as_str())?,
+    let bytes = file_after(layers.alloc, good.as_str(), step.script.as_slice())?;
+    read_as(layers.alloc, kind, bytes)
+}
+
+fn file_after(alloc: Global, good: &str, lines: &[String]) -> Result<Vec<u8>> {
+    match lines {
+        [] => file(alloc, good),
         [old, new] => {
-            let signed = changed(alloc, good.as_str(), old.as_str(), new.as_str())?;
-            file(alloc, signed.as_str())?
+            let signed = changed(alloc, good, old.as_str(), new.as_str())?;
+            file(alloc, signed.as_str())
         }
         _ => bail!("a change has two lines"),
-    };
-    read_as(alloc, kind, bytes)
+    }
 }
 
 fn read_as(alloc: Global, kind: &str, bytes: Vec<u8>) -> Result<String> {
@@ -59,20 +51,23 @@ fn read_as(alloc: Global, kind: &str, bytes: Vec<u8>) -> Result<String> {
 /// What the file says, after a copy, and whether the copy has its bytes.
 fn told<A: Reading + Shown + Drop>(alloc: Global, bytes: Vec<u8>) -> Result<String> {
     let given = bytes.clone()?;
-    let mut text = String::new(alloc);
     match Part::<A>::read(alloc, bytes) {
-        Ok(part) => {
-            let copy = part.copy(alloc)?;
-            copy.reading().push(alloc, &mut text)?;
-            writeln!(
-                text,
-                "same bytes: {}",
-                yes_or_no(copy.bytes() == given.as_slice())
-            )?;
-        }
-        Err(Stop::Refused(fault)) => writeln!(text, "{fault:?}")?,
+        Ok(part) => copied(alloc, &part, given.as_slice()),
+        Err(Stop::Refused(fault)) => Ok(format!(in alloc; "{fault:?}\n")?),
         Err(Stop::NoMemory) => bail!("out of memory"),
     }
+}
+
+fn copied<A: Reading + Shown + Drop>(
+    alloc: Global,
+    part: &Part<A>,
+    given: &[u8],
+) -> Result<String> {
+    let copy = part.copy(alloc)?;
+    let mut text = String::new(alloc);
+    copy.reading().push(alloc, &mut text)?;
+    let same = yes_or_no(copy.bytes() == given);
+    writeln!(text, "same bytes: {same}")?;
     Ok(text)
 }
 

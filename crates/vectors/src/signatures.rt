@@ -9,21 +9,6 @@ use sha2::{Digest, Sha256};
 use std::alloc::Global;
 use std::rt::Files;
 
-/// What the step prints, if it is of these commands.
-pub fn given<R: Files + AllocGlobal + Clone + Drop>(
-    layers: &Layers<'_, R>,
-    step: &Step,
-) -> Result<Option<String>> {
-    let text = match step.name()? {
-        "verify" => verified(layers, step)?,
-        "about" => about(layers.alloc, &vector_in(layers, step.word(0)?)?)?,
-        "sign" => sign(layers, step)?,
-        "leaves" => leaves(layers.alloc, step)?,
-        _ => return Ok(None),
-    };
-    Ok(Some(text))
-}
-
 /// A public key, a message, and a signature. A file of them has a line of hexadecimal digits for
 /// each.
 struct Vector {
@@ -63,18 +48,21 @@ impl Vector {
     /// turned in a byte of a part.
     fn change(&mut self, words: &[String]) -> Result<()> {
         match words {
-            [] => {}
-            [how] if how.as_str() == "longer" => self.signature.push(0)?,
-            [how] if how.as_str() == "shorter" => self
-                .signature
-                .truncate(self.signature.len().saturating_sub(1)),
-            [part, at, bits] => {
-                let at = at.as_str().parse::<usize>()?;
-                let bits = bits.as_str().parse::<u8>()?;
-                turn(self.part(part.as_str())?, at, bits)?;
-            }
+            [] => Ok(()),
+            [how] => self.resize(how.as_str()),
+            [part, at, bits] => turn(self.part(part.as_str())?, at.as_str(), bits.as_str()),
             _ => bail!("no such change"),
         }
+    }
+
+    fn resize(&mut self, how: &str) -> Result<()> {
+        let length = self.signature.len();
+        let length = match how {
+            "longer" => length.saturating_add(1),
+            "shorter" => length.saturating_sub(1),
+            _ => bail!("no such change"),
+        };
+        self.signature.resize(length, 0)?;
         Ok(())
     }
 
@@ -93,9 +81,9 @@ impl Vector {
     }
 }
 
-fn turn(bytes: &mut Vec<u8>, at: usize, bits: u8) -> Result<()> {
-    let byte = bytes.get_mut(at).context("no such byte")?;
-    *byte ^= bits;
+fn turn(bytes: &mut Vec<u8>, at: &str, bits: &str) -> Result<()> {
+    let byte = bytes.get_mut(at.parse::<usize>()?).context("no such byte")?;
+    *byte ^= bits.parse::<u8>()?;
     Ok(())
 }
 
@@ -109,12 +97,12 @@ fn vector_in<R: Files + AllocGlobal + Clone + Drop>(
 }
 
 /// Whether the signature in a file is valid, after a change.
-fn verified<R: Files + AllocGlobal + Clone + Drop>(
+pub fn verified<R: Files + AllocGlobal + Clone + Drop>(
     layers: &Layers<'_, R>,
     step: &Step,
 ) -> Result<String> {
     let mut vector = vector_in(layers, step.word(0)?)?;
-    vector.change(step.words().get(1..).unwrap_or(&[]))?;
+    vector.change(step.words_behind(1))?;
     told(layers.alloc, vector.is_valid()?)
 }
 
@@ -136,17 +124,22 @@ fn secret(alloc: Global, width: &str, height: &str) -> Result<Secret> {
 
 /// Signs a message six times, leaves the first signature and the sixth in files, and tells of the
 /// first.
-fn sign<R: Files + AllocGlobal + Clone + Drop>(
+pub fn sign<R: Files + AllocGlobal + Clone + Drop>(
     layers: &Layers<'_, R>,
     step: &Step,
 ) -> Result<String> {
-    let mut secret = secret(layers.alloc, step.word(0)?, step.word(1)?)?;
-    let message = step.word(2)?.as_bytes();
-    let first = signed(layers.alloc, &mut secret, message)?;
-    let sixth = fifth_from_here(layers.alloc, &mut secret, message)?;
+    let (first, sixth) = first_and_sixth(layers.alloc, step)?;
     leave(layers, step.word(3)?, &first)?;
     leave(layers, step.word(4)?, &sixth)?;
-    about(layers.alloc, &first)
+    tell(layers.alloc, &first)
+}
+
+fn first_and_sixth(alloc: Global, step: &Step) -> Result<(Vector, Vector)> {
+    let mut secret = secret(alloc, step.word(0)?, step.word(1)?)?;
+    let message = step.word(2)?.as_bytes();
+    let first = signed(alloc, &mut secret, message)?;
+    let sixth = fifth_from_here(alloc, &mut secret, message)?;
+    Ok((first, sixth))
 }
 
 fn leave<R: Files + AllocGlobal + Clone + Drop>(
@@ -175,8 +168,17 @@ fn signed(alloc: Global, secret: &mut Secret, message: &[u8]) -> Result<Vector> 
     })
 }
 
+/// What is told of the signature in a file.
+pub fn about<R: Files + AllocGlobal + Clone + Drop>(
+    layers: &Layers<'_, R>,
+    step: &Step,
+) -> Result<String> {
+    let vector = vector_in(layers, step.word(0)?)?;
+    tell(layers.alloc, &vector)
+}
+
 /// The root of the key, and the length and the SHA-256 of the signature.
-fn about(alloc: Global, vector: &Vector) -> Result<String> {
+fn tell(alloc: Global, vector: &Vector) -> Result<String> {
     let root = hex::encode(alloc, vector.public.get(24..).context("no root")?)?;
     let digest: [u8; 32] = Sha256::digest(vector.signature.as_slice());
     let digest = hex::encode(alloc, digest)?;
@@ -185,7 +187,7 @@ fn about(alloc: Global, vector: &Vector) -> Result<String> {
 }
 
 /// Signs a message with so many leaves of a key of W8 and height 5, and twice more.
-fn leaves(alloc: Global, step: &Step) -> Result<String> {
+pub fn leaves(alloc: Global, step: &Step) -> Result<String> {
     let count = step.word(0)?.parse::<u32>()?;
     let message = step.word(1)?.as_bytes();
     let mut secret = secret(alloc, "8", "5")?;
@@ -202,16 +204,20 @@ fn leaves(alloc: Global, step: &Step) -> Result<String> {
 /// none.
 fn push_leaf(alloc: Global, text: &mut String, secret: &mut Secret, message: &[u8]) -> Result<()> {
     match secret.sign(message) {
-        Ok(signature) => {
-            let leaf = hex::encode(alloc, signature.get(..4).unwrap_or(&[]))?;
-            let valid = yes_or_no(verify(&secret.public(), message, &signature));
-            writeln!(
-                text,
-                "leaf {leaf}, {} bytes, valid: {valid}",
-                signature.len()
-            )?;
-        }
-        Err(fault) => writeln!(text, "{fault:?}")?,
+        Ok(signature) => push_valid(alloc, text, &secret.public(), message, &signature),
+        Err(fault) => Ok(writeln!(text, "{fault:?}")?),
     }
-    Ok(())
+}
+
+fn push_valid(
+    alloc: Global,
+    text: &mut String,
+    public: &Public,
+    message: &[u8],
+    signature: &[u8],
+) -> Result<()> {
+    let leaf = hex::encode(alloc, signature.get(..4).unwrap_or(&[]))?;
+    let valid = yes_or_no(verify(public, message, signature));
+    let length = signature.len();
+    Ok(writeln!(text, "leaf {leaf}, {length} bytes, valid: {valid}")?)
 }

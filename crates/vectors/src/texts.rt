@@ -7,21 +7,9 @@ use serde_json::Value;
 use sessions::{Step, joined};
 use std::alloc::Global;
 
-/// What the step prints, if it is of these commands.
-pub fn given(alloc: Global, step: &Step) -> Result<Option<String>> {
-    let text = match step.name()? {
-        "canonical" => canonical_text(alloc, step.text_behind(0))?,
-        "document" => document(alloc, joined(alloc, step.script.as_slice())?.as_bytes())?,
-        "document-hex" => document(alloc, &hex::decode(alloc, step.word(0)?)?)?,
-        "nests" => nests(alloc, step.word(0)?.parse::<u32>()?)?,
-        _ => return Ok(None),
-    };
-    Ok(Some(text))
-}
-
 /// The canonical text of a tree, or why it has none.
-fn canonical_text(alloc: Global, json: &str) -> Result<String> {
-    let tree = Value::from_str(alloc, json)?;
+pub fn canonical_text(alloc: Global, step: &Step) -> Result<String> {
+    let tree = Value::from_str(alloc, step.text_behind(0))?;
     let mut text = String::new(alloc);
     match canonical(alloc, &tree) {
         Ok(bytes) => push_plain(&mut text, &bytes)?,
@@ -31,8 +19,19 @@ fn canonical_text(alloc: Global, json: &str) -> Result<String> {
     Ok(text)
 }
 
-/// What a file is as a document, or its first fault.
-fn document(alloc: Global, file: &[u8]) -> Result<String> {
+/// What the lines are as a document, or their first fault.
+pub fn document(alloc: Global, step: &Step) -> Result<String> {
+    let file = joined(alloc, step.script.as_slice())?;
+    read(alloc, file.as_bytes())
+}
+
+/// What the bytes are as a document that are spelled in hexadecimal digits, or their first fault.
+pub fn document_hex(alloc: Global, step: &Step) -> Result<String> {
+    let file = hex::decode(alloc, step.word(0)?)?;
+    read(alloc, &file)
+}
+
+fn read(alloc: Global, file: &[u8]) -> Result<String> {
     let mut text = String::new(alloc);
     match signed_bytes(alloc, file) {
         Ok(doc) => push_document(alloc, &mut text, &doc)?,
@@ -59,8 +58,8 @@ fn push_document(alloc: Global, text: &mut String, doc: &Doc) -> Result<()> {
 }
 
 /// How many bytes are signed of a file in which so many lists stand in one another.
-fn nests(alloc: Global, lists: u32) -> Result<String> {
-    let file = nested(alloc, lists)?;
+pub fn nests(alloc: Global, step: &Step) -> Result<String> {
+    let file = nested(alloc, step.word(0)?.parse::<u32>()?)?;
     Ok(match signed_bytes(alloc, file.as_bytes()) {
         Ok(doc) => format!(in alloc; "{} bytes\n", doc.bytes().len())?,
         Err(fault) => format!(in alloc; "{fault:?}\n")?,

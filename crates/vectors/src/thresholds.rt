@@ -17,37 +17,28 @@ const SIGNED: &[u8] = b"{\"a\":1,\"b\":[]}";
 /// The file of the members of the object of keys.
 const RING: &str = "ring";
 
-/// What the step prints, if it is of these commands.
-pub fn given<R: Files + AllocGlobal + Clone + Drop>(
-    layers: &Layers<'_, R>,
-    step: &Step,
-) -> Result<Option<String>> {
-    let text = match step.name()? {
-        "signer" => signer(layers, step)?,
-        "enough" => told(layers.alloc, asked(layers, step, &mut Direct)?)?,
-        "asks" => asks(layers, step)?,
-        _ => return Ok(None),
-    };
-    Ok(Some(text))
-}
-
 /// Makes a key of a byte, with a type and further members, which signs once. It stands in the ring
 /// under its own id, or under that of the line.
-fn signer<R: Files + AllocGlobal + Clone + Drop>(
+pub fn signer<R: Files + AllocGlobal + Clone + Drop>(
     layers: &Layers<'_, R>,
     step: &Step,
 ) -> Result<String> {
     let alloc = layers.alloc;
     let name = step.word(0)?;
     let (public, sig) = signed_once(alloc, step.word(1)?)?;
-    let key = key_text(alloc, &public, step.word(2)?, step.text_behind(3))?;
     add(layers, name, "sig", sig.as_str())?;
-    let id = match step.script.first() {
-        Some(id) => id.clone()?,
-        None => own_id(alloc, key.as_str())?,
-    };
+    let key = key_text(alloc, &public, step.word(2)?, step.text_behind(3))?;
+    let id = id_for(alloc, step, key.as_str())?;
     add_key(layers, name, id.as_str(), key.as_str())?;
     Ok(String::new(alloc))
+}
+
+/// The id of the line, or the key's own where there is no line.
+fn id_for(alloc: Global, step: &Step, key: &str) -> Result<String> {
+    match step.script.first() {
+        Some(id) => Ok(id.clone()?),
+        None => own_id(alloc, key),
+    }
 }
 
 /// The public key of a byte, and a signature.
@@ -137,13 +128,21 @@ fn role<R: Files + AllocGlobal + Clone + Drop>(
 ) -> Result<RoleKeys> {
     let mut ids = String::new(layers.alloc);
     for name in names.split(",") {
-        let id = id_of(layers, name)?;
-        push_comma(&mut ids)?;
-        write!(ids, "\"{id}\"")?;
+        push_id(layers, &mut ids, name)?;
     }
     let json = format!(in layers.alloc; "{{\"keyids\":[{ids}],\"threshold\":{threshold}}}")?;
     let value = Value::from_str(layers.alloc, json.as_str())?;
     Ok(RoleKeys::read(layers.alloc, &value)?.context("no role")?)
+}
+
+fn push_id<R: Files + AllocGlobal + Clone + Drop>(
+    layers: &Layers<'_, R>,
+    ids: &mut String,
+    name: &str,
+) -> Result<()> {
+    let id = id_of(layers, name)?;
+    push_comma(ids)?;
+    Ok(write!(ids, "\"{id}\"")?)
 }
 
 fn push_comma(text: &mut String) -> Result<()> {
@@ -207,6 +206,14 @@ fn signature<R: Files + AllocGlobal + Clone + Drop>(
     Ok(text)
 }
 
+/// Whether enough keys signed the file.
+pub fn is_enough<R: Files + AllocGlobal + Clone + Drop>(
+    layers: &Layers<'_, R>,
+    step: &Step,
+) -> Result<String> {
+    told(layers.alloc, asked(layers, step, &mut Direct)?)
+}
+
 /// Whether enough keys signed the file that is named `root.json`.
 fn asked<R: Files + AllocGlobal + Clone + Drop, J: Judge>(
     layers: &Layers<'_, R>,
@@ -214,7 +221,7 @@ fn asked<R: Files + AllocGlobal + Clone + Drop, J: Judge>(
     judge: &mut J,
 ) -> Result<bool> {
     let role = role(layers, step.word(0)?, step.word(1)?)?;
-    let file = file(layers, step.words().get(2..).unwrap_or(&[]))?;
+    let file = file(layers, step.words_behind(2))?;
     let doc = signed_bytes(layers.alloc, file.as_bytes())?;
     let ring = ring(layers)?;
     Ok(enough(layers.alloc, &doc, "root.json", &ring, &role, judge)?)
@@ -243,7 +250,7 @@ impl Judge for Witness {
 }
 
 /// The same answer, with what the judge was asked.
-fn asks<R: Files + AllocGlobal + Clone + Drop>(
+pub fn asks<R: Files + AllocGlobal + Clone + Drop>(
     layers: &Layers<'_, R>,
     step: &Step,
 ) -> Result<String> {
