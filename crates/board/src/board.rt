@@ -1,8 +1,10 @@
 //! The board. Each call on it but [`Board::new`] is one step on one word; a join is two.
-ghost use Rattle.std.specs.Prelude.{◌≡◌, ◌<◌, ◌≤◌, true, false, Some, None, length, nat_eq, IsTrue, IsSome, IfSome, IfOk};
+ghost use Rattle.std.specs.Prelude.{◌≡◌, ◌<◌, ◌≤◌, true, false, Some, None, length, nat_eq, IsTrue};
+ghost use Rattle.std.specs.Prelude.{IsSome, IfSome, IfOk};
 ghost use Rattle.std.specs.List.{IsDistinct};
 ghost use Rattle.board.specs.Moment.{truth, Knows};
-ghost use Rattle.board.specs.Steps.{newcomer, holding, released, having_seen, having_done, halting, joined};
+ghost use Rattle.board.specs.Steps.{newcomer, holding, released, having_seen, having_done, halting};
+ghost use Rattle.board.specs.Steps.{joined};
 ghost use Rattle.board.specs.Seats.{IsSeatOf, IsFree, HasAll, Keeps};
 ghost use Rattle.board.specs.Looks.{IsVerdict};
 

@@ -1,10 +1,14 @@
 //! The canonical text of a tree.
 
-ghost use Rattle.std.specs.Prelude.{◌≡◌, ◌≢◌, [], ◌∷◌, ◌++◌, Some, None, true, false, decimal, OnOk, IfOk, IsUtf8};
+ghost use Rattle.std.specs.Prelude.{◌≡◌, ◌≢◌, [], ◌∷◌, ◌++◌, Some, None, true, false, decimal};
+ghost use Rattle.std.specs.Prelude.{OnOk, IfOk, IsUtf8};
 ghost use Rattle.std.specs.Fmt.{signed_decimal};
 ghost use Rattle.serde_json.specs.Data.{Data, boolean};
 ghost use Rattle.serde_json.specs.View.{view, number_view, items_view, members_view};
-ghost use Rattle.cjson.specs.Canon.{canon, text, number_text, escaped, quoted, comma_if, items_text, members_text, is_whole, has_whole_numbers, items_are_whole, members_are_whole, is_ordered, items_are_ordered, members_are_ordered};
+ghost use Rattle.cjson.specs.Canon.{canon, text, number_text, escaped, quoted, comma_if};
+ghost use Rattle.cjson.specs.Canon.{items_text, members_text, is_whole, has_whole_numbers};
+ghost use Rattle.cjson.specs.Canon.{items_are_whole, members_are_whole, is_ordered};
+ghost use Rattle.cjson.specs.Canon.{items_are_ordered, members_are_ordered};
 
 use crate::fault::CanonicalFault;
 use serde_json::{Map, Number, Value};

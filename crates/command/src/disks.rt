@@ -1,7 +1,7 @@
 //! Repositories in folders of the file system.
 ghost use Rattle.std.specs.Prelude.{◌≤◌, IfOk};
 
-use crate::words::{Replay, Verify};
+use crate::tasks::{Replay, Verify};
 use failure::Failure;
 use folder::{Depth, Disk, joined};
 use std::alloc::{AllocError, Global};

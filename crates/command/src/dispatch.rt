@@ -4,8 +4,7 @@ ghost use Rattle.failure.specs.Failures.{is_callers};
 
 use crate::disks::{replay_on_disk, verify_on_disk};
 use crate::making::make;
-use crate::sample;
-use crate::words::{self, Task};
+use crate::tasks::{Task, task_of};
 use clap::ArgMatches;
 use clap::error::ErrorKind;
 use failure::{Failure, tell_failure};
@@ -69,7 +68,7 @@ fn perform_task<R: Files + Clock + AllocGlobal + Clone + Drop, T: Threads + Wait
 ) -> Result<u8, Failure>
     ensures known { IfOk result (λ status. status ≤ 2) }
 {
-    match words::task_of(alloc, matches)? {
+    match task_of(alloc, matches)? {
         None => Err(Failure::Words),
         Some(Task::Init { root, out: state }) => {
             init(alloc, &mut Machine::new(rt), root, state, out)

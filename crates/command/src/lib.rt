@@ -7,8 +7,7 @@ mod disks;
 mod dispatch;
 mod making;
 mod process;
-mod sample;
-mod words;
+mod tasks;
 
 pub use dispatch::perform;
 pub use process::run;

@@ -11,7 +11,7 @@ use Rattle.crew.specs.Questions.{IsIndex, at, mark}
 use Rattle.crew.specs.PlanFields.{IsWhole, question_in, questions_in}
 use Rattle.crew.specs.Drafts.{IsDraft, Grows}
 use Rattle.crew.specs.declared.draft.Draft.{Draft}
-use Rattle.crew.specs.declared.document.Document.{Document}
+use Rattle.ahead.specs.declared.document.Document.{Document}
 use Rattle.crew.specs.declared.plan.Planned.{Planned}
 use Rattle.crew.proofs.Indexes.{index_more}
 

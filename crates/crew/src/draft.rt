@@ -6,9 +6,9 @@ ghost use Rattle.crew.specs.Questions.{at};
 ghost use Rattle.crew.specs.PlanFields.{IsWhole};
 ghost use Rattle.crew.specs.Drafts.{IsDraft, Grows};
 
-use crate::document::Document;
 use crate::mark::mark;
 use crate::plan::{Planned, ask_of};
+use ahead::Document;
 use cjson::NoMemory;
 use std::alloc::Global;
 use std::collections::BTreeMap;

@@ -1,20 +1,18 @@
 //! The questions that are likely to be asked.
 
-ghost use Rattle.std.specs.Prelude.{◌≡◌, ◌≢◌, ◌≤◌, ◌<◌, ℕ, IfOk, IfSome, IfNone, All, Some, length, slice_get, vec_len};
+ghost use Rattle.std.specs.Prelude.{◌≡◌, ◌≢◌, ◌≤◌, ◌<◌, ℕ, IfOk, IfSome, IfNone, All, Some, length};
+ghost use Rattle.std.specs.Prelude.{slice_get, vec_len};
 ghost use Rattle.crew.specs.Questions as spec;
 ghost use Rattle.crew.specs.Questions.{IsIndex, IsDistinct, question_of, truths_of};
 ghost use Rattle.crew.specs.PlanFields.{IsWhole, question_in};
 ghost use Rattle.crew.specs.Drafts.{IsDraft, Grows};
 
-use crate::ahead::{Scope, read_ahead};
-use crate::document::Document;
 use crate::draft::{Draft, put};
 use crate::mark::mark;
-use crate::signing::{lists, sign_all};
-use crate::wanted::digests;
+use crate::signing::sign_all;
+use ahead::{Ahead, Digest, Document, Scope, digests, read_ahead, signers_of};
 use cjson::NoMemory;
-use cjson::text::Text;
-use keys::{Algorithm, Ask, Direct, Judge};
+use keys::{Ask, Direct, Judge};
 use lms::Public;
 use meta::Repo;
 use rolechain::Trusted;
@@ -30,12 +28,7 @@ pub(crate) enum Planned<'a> {
         place: usize,
         public: Public,
     },
-    Digest {
-        file: Text,
-        algorithm: Algorithm,
-        bytes: &'a [u8],
-        digest: Vec<u8>,
-    },
+    Digest(Digest<'a>),
 }
 
 /// Questions that a run is likely to ask, at most 4,096, each once. Contracts see the list of
@@ -109,12 +102,7 @@ impl<'a> Plan<'a> {
             files: below.saturating_add(1),
             most,
         };
-        let mut documents = Vec::new(alloc);
-        let ahead = read_ahead(&scope, &mut documents)?;
-        let mut draft = Draft::new(alloc, documents, most);
-        sign_all(alloc, &mut draft, lists(&scope, &ahead)?.as_slice())?;
-        put_all(&mut draft, digests(&scope, repo, &ahead)?)?;
-        Ok(Plan::of_draft(draft))
+        Ok(Plan::of_draft(draft_of(&scope, repo)?))
     }
 
     /// The plan of a draft.
@@ -174,16 +162,42 @@ impl<'a> Plan<'a> {
     }
 }
 
-/// Adds questions about digests.
+/// The questions that are likely to be asked.
+fn draft_of<'a>(scope: &Scope, repo: &'a Repo) -> Result<Draft<'a>, NoMemory>
+    ensures draft { IfOk result (λ d. IsDraft d) }
+    ensures most { IfOk result (λ d. d.most ≡ scope.now.most) }
+{
+    let mut documents = Vec::new(scope.alloc);
+    let ahead = read_ahead(scope, &mut documents)?;
+    let mut draft = Draft::new(scope.alloc, documents, scope.most);
+    ask_all(&mut draft, scope, repo, &ahead)?;
+    Ok(draft)
+}
+
+/// Adds the questions about what was read: the signatures, and then the digests.
 #[tactic(auto, using(crate::proofs::Drafting::grows_none, crate::proofs::Drafting::grows_on))]
-fn put_all<'a>(draft: &mut Draft<'a>, all: Vec<Planned<'a>>) -> Result<(), NoMemory>
+fn ask_all<'a>(
+    draft: &mut Draft<'a>,
+    scope: &Scope,
+    repo: &'a Repo,
+    ahead: &Ahead,
+) -> Result<(), NoMemory>
     requires { IsDraft draft.old }
     ensures { Grows draft.old draft.new }
 {
-    for planned in all {
-        if let Planned::Digest { .. } = &planned {
-            put(draft, planned)?;
-        }
+    let signers = signers_of(scope, ahead)?;
+    sign_all(scope.alloc, draft, signers.as_slice())?;
+    put_all(draft, digests(scope, repo, ahead)?)
+}
+
+/// Adds questions about digests.
+#[tactic(auto, using(crate::proofs::Drafting::grows_none, crate::proofs::Drafting::grows_on))]
+fn put_all<'a>(draft: &mut Draft<'a>, all: Vec<Digest<'a>>) -> Result<(), NoMemory>
+    requires { IsDraft draft.old }
+    ensures { Grows draft.old draft.new }
+{
+    for listed in all {
+        put(draft, Planned::Digest(listed))?;
     }
     Ok(())
 }
@@ -208,16 +222,11 @@ pub(crate) fn ask_of<'b>(documents: &'b [Document], planned: &'b Planned<'_>) ->
                 sig: document.sigs[*place].as_str(),
             }
         }
-        Planned::Digest {
-            file,
-            algorithm,
-            bytes,
-            digest,
-        } => Ask::Digest {
-            file: file.as_str(),
-            algorithm: *algorithm,
-            bytes,
-            digest: digest.as_slice(),
+        Planned::Digest(listed) => Ask::Digest {
+            file: listed.file.as_str(),
+            algorithm: listed.algorithm,
+            bytes: listed.bytes,
+            digest: listed.digest.as_slice(),
         },
     }
 }

@@ -1,6 +1,7 @@
 //! Cycle after cycle, with verdicts that are kept between them.
 
-ghost use Rattle.std.specs.Prelude.{◌≡◌, ◌≤◌, ℕ, IfOk, OnOk, OnErr, length, map, string_bytes, take};
+ghost use Rattle.std.specs.Prelude.{◌≡◌, ◌≤◌, ℕ, IfOk, OnOk, OnErr, length, map, string_bytes};
+ghost use Rattle.std.specs.Prelude.{take};
 ghost use Rattle.examine.specs.Expecting.{file_in};
 ghost use Rattle.cycle.specs.Workflow as spec;
 ghost use Rattle.cycle.specs.Cycles.{outcomes_of, state_after};

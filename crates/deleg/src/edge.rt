@@ -1,6 +1,7 @@
 //! Delegations, as a search follows them.
 
-ghost use Rattle.std.specs.Prelude.{◌≡◌, IfOk, List, ℕ, length, slice_get, option_map, string_bytes};
+ghost use Rattle.std.specs.Prelude.{◌≡◌, IfOk, List, ℕ, length, slice_get, option_map};
+ghost use Rattle.std.specs.Prelude.{string_bytes};
 ghost use Rattle.std.specs.List.{list_any};
 ghost use Rattle.std.specs.Str.{chars};
 ghost use Rattle.meta.specs.Matcher.{matcher_of};

@@ -1,6 +1,7 @@
 //! The loop of a search over its stack.
 
-ghost use Rattle.std.specs.Prelude.{◌≡◌, ◌+◌, ◌<◌, ◌∷◌, ◌++◌, [], Some, drop, length, option_map, if◌then◌else◌, IfOk, IfSome, IfNone};
+ghost use Rattle.std.specs.Prelude.{◌≡◌, ◌+◌, ◌<◌, ◌∷◌, ◌++◌, [], Some, drop, length, option_map};
+ghost use Rattle.std.specs.Prelude.{if◌then◌else◌, IfOk, IfSome, IfNone};
 ghost use Rattle.deleg.specs.Query as spec;
 ghost use Rattle.deleg.specs.Search.{target_of as listed_in};
 ghost use Rattle.deleg.specs.Values.{quest_of};

@@ -1,5 +1,6 @@
 //! Folders of files, and what is read from them.
-ghost use Rattle.std.specs.Prelude.{◌≡◌, ◌≤◌, ◌<◌, ◌⊎◌, ◌^◌, ◌-◌, List, ℕ, Bool, IsTrue, true, IfOk, IfErr, OnOk, map, string_bytes};
+ghost use Rattle.std.specs.Prelude.{◌≡◌, ◌≤◌, ◌<◌, ◌⊎◌, ◌^◌, ◌-◌, List, ℕ, Bool, IsTrue, true};
+ghost use Rattle.std.specs.Prelude.{IfOk, IfErr, OnOk, map, string_bytes};
 ghost use Rattle.folder.specs.Folders.{AddsFile, HasFailed, IsLoaded};
 ghost use Rattle.folder.specs.declared.files.LoadFault.TheVariants as fault;
 

@@ -1,7 +1,8 @@
 //! A deque of numbers under its protocol.
 ghost use Rattle.std.specs.Prelude.{◌≡◌, ◌≤◌, ◌-◌, true, false, ◌∷◌, [], IfOk, IfSome, IfNone};
 ghost use Rattle.std.specs.List.{range_with_len};
-ghost use Rattle.crossbeam_deque.specs.Handles.{view, IsPassOf, worker_deque, stealer_deque, worker_flavor, worker_view, SameWorker};
+ghost use Rattle.crossbeam_deque.specs.Handles.{view, IsPassOf, worker_deque, stealer_deque};
+ghost use Rattle.crossbeam_deque.specs.Handles.{worker_flavor, worker_view, SameWorker};
 ghost use Rattle.hands.specs.Dealt.{took, Takes};
 
 use crate::rule::{Cut, Pushed, Rule, Taken, Took};

@@ -1,7 +1,8 @@
 //! The functions of words (FIPS 180-4, 4.1.2), in four lanes.
 
 ghost use Rattle.std.specs.Prelude.{ℕ, ◌<◌, slice_index};
-ghost use Rattle.sha2.specs.Sha256.{add32, big_sigma0, big_sigma1, ch, maj, small_sigma0, small_sigma1};
+ghost use Rattle.sha2.specs.Sha256.{add32, big_sigma0, big_sigma1, ch, maj, small_sigma0};
+ghost use Rattle.sha2.specs.Sha256.{small_sigma1};
 ghost use Rattle.lanes.specs.Lanes.{IsAt};
 
 use std::simd::prelude::*;

@@ -1,6 +1,7 @@
 //! The chains of a leaf, four at a time.
 
-ghost use Rattle.std.specs.Prelude.{◌≡◌, ℕ, ◌+◌, ◌-◌, ◌<◌, ◌≤◌, [], length, slice_index, slice_index_or, List, ◌++◌};
+ghost use Rattle.std.specs.Prelude.{◌≡◌, ℕ, ◌+◌, ◌-◌, ◌<◌, ◌≤◌, [], length, slice_index};
+ghost use Rattle.std.specs.Prelude.{slice_index_or, List, ◌++◌};
 ghost use Rattle.sha2.specs.Sha256.{digest_bytes};
 ghost use Rattle.lanes.specs.Lanes.{IsPrefix, IsRow, lane};
 ghost use Rattle.lms.specs.Lms.{u16str, u32str, chain};

@@ -1,10 +1,12 @@
 //! Secret keys.
 
-ghost use Rattle.std.specs.Prelude.{◌≡◌, ◌↔◌, ℕ, ◌+◌, ◌-◌, ◌*◌, ◌^◌, ◌<◌, ◌≤◌, List, [], ◌++◌, IsTrue, OnOk, OnErr, IfOk, length, slice_index_or};
+ghost use Rattle.std.specs.Prelude.{◌≡◌, ◌↔◌, ℕ, ◌+◌, ◌-◌, ◌*◌, ◌^◌, ◌<◌, ◌≤◌, List, [], ◌++◌};
+ghost use Rattle.std.specs.Prelude.{IsTrue, OnOk, OnErr, IfOk, length, slice_index_or};
 ghost use Rattle.lms.specs.Kind.{chain_count, levels};
 ghost use Rattle.lms.specs.Carrying.{row_of};
 ghost use Rattle.lms.specs.Lms.{is_valid, message_digest};
-ghost use Rattle.lms.specs.Signer.{IsTree, chain_start, leaf_key, path_of, public_of, randomizer, sibling, signature_by, signed_chains, tree};
+ghost use Rattle.lms.specs.Signer.{IsTree, chain_start, leaf_key, path_of, public_of, randomizer};
+ghost use Rattle.lms.specs.Signer.{sibling, signature_by, signed_chains, tree};
 
 use crate::four::MOST_CHAINS;
 use crate::kind::{Height, Kind, Width};

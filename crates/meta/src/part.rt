@@ -3,7 +3,8 @@
 ghost use Rattle.std.specs.Prelude.{◌≡◌, ◌≤◌, ℕ, length, Result, Ok, IfOk};
 ghost use Rattle.cjson.specs.Document.{Document};
 ghost use Rattle.cjson.specs.DocOf.{doc_of};
-ghost use Rattle.meta.specs.Reads.{ReadsFile, document_of, root_of, timestamp_of, snapshot_of, targets_of};
+ghost use Rattle.meta.specs.Reads.{ReadsFile, document_of, root_of, timestamp_of, snapshot_of};
+ghost use Rattle.meta.specs.Reads.{targets_of};
 ghost use Rattle.meta.specs.Answers.{Answers};
 ghost use Rattle.meta.specs.Part as spec;
 ghost use Rattle.meta.specs.declared.fault.Fault.{Fault};

@@ -1,7 +1,8 @@
 //! Moments of the calendar, and the text that `expires` has (TUF 1.0 section 4.2.1).
 #![tactic(auto)]
 
-ghost use Rattle.std.specs.Prelude.{◌≡◌, ◌+◌, ◌*◌, ◌/◌, ◌%◌, ◌<◌, ◌≤◌, pos, IfSome, IsNone, IsSome, ◌↔◌, [], ◌∷◌, ℕ};
+ghost use Rattle.std.specs.Prelude.{◌≡◌, ◌+◌, ◌*◌, ◌/◌, ◌%◌, ◌<◌, ◌≤◌, pos, IfSome, IsNone, IsSome};
+ghost use Rattle.std.specs.Prelude.{◌↔◌, [], ◌∷◌, ℕ};
 ghost use Rattle.jiff_core.specs.Calendar.{IsDate, days_from_civil};
 ghost use Rattle.moment.specs.Moment as spec;
 

@@ -1,5 +1,6 @@
 //! The lines that a run prints, and its exit status.
-ghost use Rattle.std.specs.Prelude.{◌≡◌, ◌≤◌, ◌⊎◌, ◌↔◌, [], ◌∷◌, ◌++◌, true, All, IfErr, IfOk, OnOk, codes, decimal, flat_map, map, string_bytes};
+ghost use Rattle.std.specs.Prelude.{◌≡◌, ◌≤◌, ◌⊎◌, ◌↔◌, [], ◌∷◌, ◌++◌, true, All, IfErr, IfOk};
+ghost use Rattle.std.specs.Prelude.{OnOk, codes, decimal, flat_map, map, string_bytes};
 ghost use Rattle.std.specs.Io.KnownBytes.{Appends};
 ghost use Rattle.failure.specs.Line as words;
 ghost use Rattle.report.specs.Lines as spec;

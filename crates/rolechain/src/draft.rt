@@ -1,7 +1,8 @@
 //! A cycle's draft of the trusted state.
 
 ghost use Rattle.std.specs.Prelude.{◌≡◌, IfOk, option_map};
-ghost use Rattle.rolechain.specs.Advance.{with_root, with_timestamp, with_snapshot, with_targets, reading_in};
+ghost use Rattle.rolechain.specs.Advance.{with_root, with_timestamp, with_snapshot, with_targets};
+ghost use Rattle.rolechain.specs.Advance.{reading_in};
 ghost use Rattle.rolechain.specs.Current.{current_part};
 ghost use Rattle.rolechain.specs.Parts.{AreRead};
 

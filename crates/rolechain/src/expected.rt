@@ -1,6 +1,7 @@
 //! What each file of the workflow is expected to be.
 
-ghost use Rattle.std.specs.Prelude.{◌≡◌, ◌+◌, IfOk, bytes_eq, codes, find, option_map, string_bytes};
+ghost use Rattle.std.specs.Prelude.{◌≡◌, ◌+◌, IfOk, bytes_eq, codes, find, option_map};
+ghost use Rattle.std.specs.Prelude.{string_bytes};
 ghost use Rattle.meta.specs.Names.{root_name, versioned as due_name};
 ghost use Rattle.examine.specs.Expecting.{expectation, listed_of};
 ghost use Rattle.rolechain.specs.Expected as spec;

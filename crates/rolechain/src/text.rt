@@ -7,7 +7,9 @@ ghost use Rattle.cjson.specs.Document.{tree_of};
 ghost use Rattle.meta.specs.Part.{part_of};
 ghost use Rattle.rolechain.specs.Kept as spec;
 ghost use Rattle.rolechain.specs.Parts.{AreRead};
-ghost use Rattle.rolechain.specs.Text.{ReadsState, or_state_fault, of_fault, root_state, state_of, state_in, kept_in, part_in, with_targets_in, with_timestamp_in};
+ghost use Rattle.rolechain.specs.Text.{ReadsState, or_state_fault, of_fault, root_state, state_of};
+ghost use Rattle.rolechain.specs.Text.{state_in, kept_in, part_in, with_targets_in};
+ghost use Rattle.rolechain.specs.Text.{with_timestamp_in};
 
 use crate::fault::StateFault;
 use crate::state::Trusted;

@@ -1,12 +1,14 @@
 //! Signed metadata files.
 
-ghost use Rattle.std.specs.Prelude.{◌≡◌, ◌≢◌, ◌+◌, ◌<◌, ◌⊎◌, ℕ, List, Some, IsSome, IfOk, OnOk, OnErr, All, Any, fold, length, map, string_bytes};
+ghost use Rattle.std.specs.Prelude.{◌≡◌, ◌≢◌, ◌+◌, ◌<◌, ◌⊎◌, ℕ, List, Some, IsSome, IfOk, OnOk};
+ghost use Rattle.std.specs.Prelude.{OnErr, All, Any, fold, length, map, string_bytes};
 ghost use Rattle.std.specs.List.{AllZip};
 ghost use Rattle.serde_json.specs.Find.{as_object};
 ghost use Rattle.serde_json.specs.View.{view, items_view};
 ghost use Rattle.cjson.specs.Canon.{canon};
 ghost use Rattle.cjson.specs.declared.doc.Entry.{Entry};
-ghost use Rattle.seals.specs.Sealed.{HasSpent, IsOverspent, IsSealed, IsSignedAt, IsSignedBy, entry_object, entry_objects, holder, sealed, spend, used_of};
+ghost use Rattle.seals.specs.Sealed.{HasSpent, IsOverspent, IsSealed, IsSignedAt, IsSignedBy};
+ghost use Rattle.seals.specs.Sealed.{entry_object, entry_objects, holder, sealed, spend, used_of};
 
 use crate::fault::MakeFault;
 use crate::signer::Signer;

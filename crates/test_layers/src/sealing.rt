@@ -63,7 +63,8 @@ fn seals_in_order(rt: HostRuntime) -> Result<(), Fail> {
 
 #[test]
 fn nobody_seals(rt: HostRuntime) -> Result<(), Fail> {
-    let file = sealed(rt.alloc(), &mut [], &[])??;
+    let mut signers = [signer(rt.alloc(), "one", 1)?];
+    let file = sealed(rt.alloc(), &mut signers, &[])??;
     assert_eq!(rt; file.as_slice(), NOBODY.as_bytes());
     Ok(())
 }

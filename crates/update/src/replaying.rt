@@ -1,5 +1,6 @@
 //! One cycle after another, each on a repository that lies in two folders.
-ghost use Rattle.std.specs.Prelude.{◌≡◌, ◌≢◌, ◌≤◌, ◌⊎◌, ⊤, true, IfErr, IfOk, OnErr, OnOk, option_map, map, string_bytes};
+ghost use Rattle.std.specs.Prelude.{◌≡◌, ◌≢◌, ◌≤◌, ◌⊎◌, ⊤, true, IfErr, IfOk, OnErr, OnOk};
+ghost use Rattle.std.specs.Prelude.{option_map, map, string_bytes};
 ghost use Rattle.folder.specs.Folders.{IsLoaded};
 ghost use Rattle.cycle.specs.Cycles.{outcomes_of as keeper_outcomes, state_after as keeper_state};
 ghost use Rattle.update.specs.Told.{Begins, state_text};

@@ -1,5 +1,6 @@
 use Rattle.std.proofs.Common.{◌≡◌, ◌<◌, ◌≤◌, ◌+◌, ℕ, [], ◌∷◌, ◌++◌, ◌∙◌, ap, sym, arith, slice_index, slice_index_or}
 use Rattle.std.proofs.lemmas.List.{length-set}
+use Rattle.std.proofs.lemmas.Grind.{common_steps}
 use Rattle.lanes.specs.Lanes.{IsPrefix, lane}
 use Rattle.lanes.proofs.Row.{of_four}
 use Rattle.lms.specs.Lms.{u16str, u32str, chain}
@@ -58,3 +59,27 @@ lanes-preserved c =
           (c.lanes.invariant.on ends room) j_lt
           (rw from_is (on_by id q j (slice_index ends j) (digit j) c.args.count (value j) c.digest.result last gone));
     }
+
+pub prefix_words-requires : goal.prefix_words-requires
+prefix_words-requires = grind (arith, common_steps)
+
+pub digest_words-requires : goal.digest_words-requires
+digest_words-requires = grind (arith, common_steps)
+
+pub overflow_add-digits : goal.overflow_add-digits
+overflow_add-digits = grind (arith, common_steps)
+
+pub digest-requires-clause-row : goal.digest-requires-clause-row
+digest-requires-clause-row = grind (arith, common_steps)
+
+pub digest-requires-clause-lane : goal.digest-requires-clause-lane
+digest-requires-clause-lane = grind (arith, common_steps)
+
+pub bounds-digits-i : goal.bounds-digits-i
+bounds-digits-i = grind (arith, common_steps)
+
+pub offset_bounds-values-i : goal.offset_bounds-values-i
+offset_bounds-values-i = grind (arith, common_steps)
+
+pub bounds-values-i : goal.bounds-values-i
+bounds-values-i = grind (arith, common_steps)

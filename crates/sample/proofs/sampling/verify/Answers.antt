@@ -1,5 +1,5 @@
-use Rattle.command.proofs.Sampled.{sampled}
-use Rattle.command.proofs.sample.verify.Goals as goal
+use Rattle.sample.proofs.Sampled.{sampled}
+use Rattle.sample.proofs.sampling.verify.Goals as goal
 
 pub returns-clause-sampled : goal.returns-clause-sampled
 returns-clause-sampled g c =

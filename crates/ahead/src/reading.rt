@@ -61,11 +61,11 @@ impl Drop for Roles {
 
 /// What was read ahead, each file once. A file stands here only where the one that leads to it
 /// could be read.
-pub(crate) struct Ahead {
-    pub roots: Vec<Read<Root>>,
-    pub timestamp: Option<Read<Timestamp>>,
-    pub snapshot: Option<Read<Snapshot>>,
-    pub roles: Roles,
+pub struct Ahead {
+    pub(crate) roots: Vec<Read<Root>>,
+    pub(crate) timestamp: Option<Read<Timestamp>>,
+    pub(crate) snapshot: Option<Read<Snapshot>>,
+    pub(crate) roles: Roles,
 }
 
 impl Drop for Ahead {
@@ -82,7 +82,7 @@ impl Drop for Ahead {
 /// Where is read, and for which paths: at most so many targets files, and at most so many
 /// questions.
 #[derive(Clone, Copy)]
-pub(crate) struct Scope<'a> {
+pub struct Scope<'a> {
     pub alloc: Global,
     pub trusted: &'a Trusted,
     pub repo: &'a Repo,
@@ -99,8 +99,10 @@ struct TopLevel<'a> {
 }
 
 /// Reads what follows the trusted root: the successive roots, the timestamp, the snapshot that it
-/// lists, and the targets files from the top-level one on.
-pub(crate) fn read_ahead(scope: &Scope, documents: &mut Vec<Document>) -> Result<Ahead, NoMemory> {
+/// lists, and the targets files from the top-level one on. Each file that is read adds its
+/// document. A file that can't be read is passed over, and so is what it would lead to. It refuses
+/// for want of memory alone.
+pub fn read_ahead(scope: &Scope, documents: &mut Vec<Document>) -> Result<Ahead, NoMemory> {
     let mut ahead = Ahead {
         roots: read_roots(scope, documents)?,
         timestamp: None,
@@ -240,25 +242,51 @@ fn read_role(
     if roles.files.len() >= scope.files || roles.places.contains_key(role.as_str()) {
         return Ok(());
     }
-    let (listed, name) = place_of(scope.alloc, top.root, top.snapshot, role.as_str())?;
-    let found: Option<Read<Targets>> = match listed {
-        Listed::As(_) => read_file(scope, name.as_str(), documents)?,
-        _ => None,
+    let place = match role_file(scope, top, role.as_str(), documents)? {
+        Some(file) => Some(add_file(&mut roles.files, file)?),
+        None => None,
     };
-    let Some(read) = found else {
-        roles.places.insert(role, None)?;
-        return Ok(());
-    };
-    let followed = followed(scope.alloc, &read.reading, scope.wanted)?;
-    let bins = bins(scope.alloc, &read.reading, scope.wanted)?;
-    roles.places.insert(role, Some(roles.files.len()))?;
-    roles.files.push(RoleFile {
-        document: read.document,
-        targets: read.reading,
-        followed,
-        bins,
-    })?;
+    roles.places.insert(role, place)?;
     Ok(())
+}
+
+/// Adds the file behind the others, and answers its place.
+fn add_file(files: &mut Vec<RoleFile>, file: RoleFile) -> Result<usize, NoMemory> {
+    let place = files.len();
+    files.push(file)?;
+    Ok(place)
+}
+
+/// A role's file, where it can be read, and where it leads.
+fn role_file(
+    scope: &Scope,
+    top: &TopLevel,
+    role: &str,
+    documents: &mut Vec<Document>,
+) -> Result<Option<RoleFile>, NoMemory> {
+    let Some(read) = read_targets(scope, top, role, documents)? else {
+        return Ok(None);
+    };
+    Ok(Some(RoleFile {
+        document: read.document,
+        followed: followed(scope.alloc, &read.reading, scope.wanted)?,
+        bins: bins(scope.alloc, &read.reading, scope.wanted)?,
+        targets: read.reading,
+    }))
+}
+
+/// Reads a role's file under the name that the snapshot's listing gives it.
+fn read_targets(
+    scope: &Scope,
+    top: &TopLevel,
+    role: &str,
+    documents: &mut Vec<Document>,
+) -> Result<Option<Read<Targets>>, NoMemory> {
+    let (listed, name) = place_of(scope.alloc, top.root, top.snapshot, role)?;
+    match listed {
+        Listed::As(_) => read_file(scope, name.as_str(), documents),
+        _ => Ok(None),
+    }
 }
 
 /// Reads a file, where it is there and has the form of its kind, and keeps its document.

@@ -3,7 +3,7 @@ use Rattle.std.proofs.Common.{◌≡◌, Result, Ok, Err, IfOk, List, ℕ, Optio
 use Rattle.examine.specs.Checks.{Files}
 use Rattle.cycle.specs.Workflow.{Outcome, workflow}
 use Rattle.update.specs.Told.{IsTold, Start, outcome_of}
-use Rattle.command.specs.Sampled.{IsSampled}
+use Rattle.sample.specs.Sampled.{IsSampled}
 
 -- the lines and the status of an outcome that the workflow gives
 pub sampled : {E : Type 0} (start : Start) (metadata targets : Files) (o : Outcome) (wanted : List (List ℕ)) (old new : Option (List ℕ)) (r : Result ℕ E)

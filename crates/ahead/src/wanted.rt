@@ -1,7 +1,6 @@
 //! Which delegations and targets bear on the wanted paths.
 
-use crate::ahead::{Ahead, Scope, last_root};
-use crate::plan::Planned;
+use crate::reading::{Ahead, Scope, last_root};
 use cjson::NoMemory;
 use cjson::text::Text;
 use deleg::{bin_name, is_matched, target_of};
@@ -70,25 +69,49 @@ pub(crate) fn is_followed(marks: &[bool], place: usize) -> bool {
     }
 }
 
-/// The questions about the digests of the wanted targets, as each file that was read lists them.
-pub(crate) fn digests<'a>(
+/// A listed digest of a wanted target, and the file that it should be the digest of.
+#[derive(Drop)]
+pub struct Digest<'a> {
+    /// The target's path.
+    pub file: Text,
+    pub algorithm: Algorithm,
+    pub bytes: &'a [u8],
+    pub digest: Vec<u8>,
+}
+
+/// The digests of the wanted targets, as each file that was read lists them, of those whose files
+/// are there with the listed length. It stops once there are `scope.most`.
+pub fn digests<'a>(
     scope: &Scope,
     repo: &'a Repo,
     ahead: &Ahead,
-) -> Result<Vec<Planned<'a>>, NoMemory> {
+) -> Result<Vec<Digest<'a>>, NoMemory> {
     let consistent = last_root(scope.trusted, ahead.roots.as_slice()).consistent();
     let mut found = Vec::new(scope.alloc);
     for path in scope.wanted {
-        for file in ahead.roles.files.iter() {
-            if found.len() >= scope.most {
-                return Ok(found);
-            }
-            if let Some(target) = target_of(&file.targets, path.as_str()) {
-                add_digests(scope.alloc, repo, consistent, target, &mut found)?;
-            }
-        }
+        add_listed(scope, repo, consistent, path.as_str(), ahead, &mut found)?;
     }
     Ok(found)
+}
+
+/// Adds the digests of one target, as each file that was read lists them.
+fn add_listed<'a>(
+    scope: &Scope,
+    repo: &'a Repo,
+    consistent: bool,
+    path: &str,
+    ahead: &Ahead,
+    found: &mut Vec<Digest<'a>>,
+) -> Result<(), NoMemory> {
+    for file in ahead.roles.files.iter() {
+        if found.len() >= scope.most {
+            break;
+        }
+        if let Some(target) = target_of(&file.targets, path) {
+            add_digests(scope.alloc, repo, consistent, target, found)?;
+        }
+    }
+    Ok(())
 }
 
 fn add_digests<'a>(
@@ -96,7 +119,7 @@ fn add_digests<'a>(
     repo: &'a Repo,
     consistent: bool,
     target: &Target,
-    found: &mut Vec<Planned<'a>>,
+    found: &mut Vec<Digest<'a>>,
 ) -> Result<(), NoMemory> {
     let Some(bytes) = target_file(alloc, &repo.targets, consistent, target)? else {
         return Ok(());
@@ -105,11 +128,9 @@ fn add_digests<'a>(
         return Ok(());
     }
     if let Some(digest) = &target.hashes.sha256 {
-        let digest = Vec::from_slice(alloc, digest)?;
         found.push(digest_of(alloc, target, Algorithm::Sha256, bytes, digest)?)?;
     }
     if let Some(digest) = &target.hashes.sha512 {
-        let digest = Vec::from_slice(alloc, digest)?;
         found.push(digest_of(alloc, target, Algorithm::Sha512, bytes, digest)?)?;
     }
     Ok(())
@@ -120,12 +141,12 @@ fn digest_of<'a>(
     target: &Target,
     algorithm: Algorithm,
     bytes: &'a [u8],
-    digest: Vec<u8>,
-) -> Result<Planned<'a>, NoMemory> {
-    Ok(Planned::Digest {
+    digest: &[u8],
+) -> Result<Digest<'a>, NoMemory> {
+    Ok(Digest {
         file: Text::new(String::from_str(alloc, target.path.as_str())?),
         algorithm,
         bytes,
-        digest,
+        digest: Vec::from_slice(alloc, digest)?,
     })
 }

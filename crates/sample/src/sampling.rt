@@ -1,0 +1,37 @@
+//! The verification.
+ghost use Rattle.std.specs.Prelude.{◌≤◌, ℕ, List, IfOk, map, string_bytes};
+ghost use Rattle.sample.specs.Sampled.{IsSampled};
+
+use crate::repository::{first_state, repository};
+use cycle::{Limits, Moment, run_alone};
+use failure::Failure;
+use std::alloc::Global;
+use std::io::Write;
+use update::tell_outcome;
+
+/// When the repository is verified.
+const MOMENT: &str = "2026-01-01T00:00:00Z";
+
+/// Makes the repository, verifies its target as the workflow does (TUF 1.0 section 5), prints the
+/// lines and answers the status, at most 2. It refuses for want of memory and where `out` does.
+pub fn run<W: Write>(alloc: Global, out: &mut W) -> Result<u8, Failure>
+    ensures sampled { IfOk result (λ status. (wanted : List (List ℕ))
+        × IsSampled wanted status (W.contents out.old) (W.contents out.new)) }
+    ensures known { IfOk result (λ status. status ≤ 2) }
+{
+    let wanted = [String::from_str(alloc, "abc.txt")?];
+    verify(alloc, &wanted, out)
+}
+
+fn verify<W: Write>(alloc: Global, wanted: &[String], out: &mut W) -> Result<u8, Failure>
+    ensures sampled { IfOk result (λ status. IsSampled (map string_bytes wanted.now) status
+        (W.contents out.old) (W.contents out.new)) }
+    ensures known { IfOk result (λ status. status ≤ 2) }
+{
+    let repo = repository(alloc)?;
+    let now = Moment::read(MOMENT).ok_or(Failure::Now)?;
+    let limits = Limits::new(32, 4096).ok_or(Failure::Words)?;
+    let trusted = first_state(alloc, &repo)?;
+    let outcome = run_alone(alloc, &trusted, &repo, now, wanted, &limits)?;
+    tell_outcome(alloc, &outcome, wanted, out)
+}

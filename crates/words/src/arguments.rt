@@ -1,0 +1,74 @@
+//! The arguments of the commands.
+
+use clap::builder::ValueParser;
+use clap::{Arg, ArgAction};
+use std::alloc::Global;
+
+/// An argument that has to be there, and stands once.
+pub fn file<'a>(alloc: Global, name: &'a str, help: &'a str) -> Arg<'a> {
+    Arg::new(alloc, name).required(true).help(help)
+}
+
+/// An argument that may stand several times.
+pub fn several<'a>(alloc: Global, name: &'a str, help: &'a str) -> Arg<'a> {
+    Arg::new(alloc, name).action(ArgAction::Append).help(help)
+}
+
+pub fn metadata_option<'a>(alloc: Global) -> Arg<'a> {
+    option(
+        alloc,
+        "metadata",
+        "DIR",
+        "The folder of metadata files, which stand directly in it",
+    )
+}
+
+pub fn targets_option<'a>(alloc: Global) -> Arg<'a> {
+    option(
+        alloc,
+        "targets",
+        "DIR",
+        "The folder of target files, with those of the folders below it",
+    )
+}
+
+pub fn now_option<'a>(alloc: Global) -> Arg<'a> {
+    Arg::new(alloc, "now").long("now").value_name("TEXT").help(
+        "The moment, as YYYY-MM-DDTHH:MM:SSZ, in place of the clock's",
+    )
+}
+
+pub fn limit_option<'a>(alloc: Global) -> Arg<'a> {
+    Arg::new(alloc, "limit")
+        .long("limit")
+        .value_name("N")
+        .value_parser(ValueParser::unsigned(1, 256))
+        .default_value("32")
+        .help("How many roles the search for a target visits at most, 1 to 256")
+}
+
+pub fn workers_option<'a>(alloc: Global) -> Arg<'a> {
+    Arg::new(alloc, "workers")
+        .long("workers")
+        .value_name("N")
+        .value_parser(ValueParser::unsigned(0, 64))
+        .default_value("4")
+        .help("How many threads check signatures and digests ahead, 0 to 64")
+}
+
+pub fn keep_option<'a>(alloc: Global) -> Arg<'a> {
+    Arg::new(alloc, "keep")
+        .long("keep")
+        .value_name("N")
+        .value_parser(ValueParser::unsigned(1, 4096))
+        .default_value("64")
+        .help("Of how many files verdicts are remembered from one to the next, 1 to 4096")
+}
+
+pub fn option<'a>(alloc: Global, name: &'a str, value: &'a str, help: &'a str) -> Arg<'a> {
+    Arg::new(alloc, name)
+        .long(name)
+        .value_name(value)
+        .required(true)
+        .help(help)
+}

@@ -1,0 +1,103 @@
+//! The commands.
+
+use crate::arguments::{
+    file, keep_option, limit_option, metadata_option, now_option, option, several, targets_option,
+    workers_option,
+};
+use crate::texts::{HELP_END, INIT_END, MAKE_END, REPLAY_END, VERIFY_END};
+use clap::{Arg, ArgMatches, Command, Error};
+use std::alloc::{AllocError, Global};
+
+/// The matches of the words, or what `clap` says in place of them: a mistake, or help.
+pub fn parse<'a>(alloc: Global, words: &'a [String]) -> Result<ArgMatches<'a>, Error> {
+    tufcheck(alloc)?.try_get_matches_from(words)
+}
+
+fn tufcheck<'a>(alloc: Global) -> Result<Command<'a>, AllocError> {
+    let program = Command::new(alloc, "tufcheck")
+        .about("Verifies an update repository of TUF 1.0 with LMS signatures")
+        .after_help(HELP_END)
+        .bin_name("tufcheck")?
+        .no_binary_name(true)
+        .subcommand_required(true);
+    let commands = [
+        init_command(alloc),
+        verify_command(alloc),
+        replay_command(alloc),
+        make_command(alloc),
+    ];
+    with_commands(program, commands)
+}
+
+fn with_commands<'a>(
+    program: Command<'a>,
+    commands: [Result<Command<'a>, AllocError>; 4],
+) -> Result<Command<'a>, AllocError> {
+    let mut program = program;
+    for command in commands {
+        program = program.subcommand(command?)?;
+    }
+    Ok(program)
+}
+
+fn with_arguments<'a>(
+    command: Command<'a>,
+    arguments: [Arg<'a>; 8],
+) -> Result<Command<'a>, AllocError> {
+    let mut command = command;
+    for argument in arguments {
+        command = command.arg(argument)?;
+    }
+    Ok(command)
+}
+
+fn init_command<'a>(alloc: Global) -> Result<Command<'a>, AllocError> {
+    Command::new(alloc, "init")
+        .about("Trusts a root file and writes the first state")
+        .after_help(INIT_END)
+        .arg(file(alloc, "ROOT", "The root file"))?
+        .arg(option(alloc, "out", "STATE", "Where the state is written"))
+}
+
+fn verify_command<'a>(alloc: Global) -> Result<Command<'a>, AllocError> {
+    let command = Command::new(alloc, "verify")
+        .about("Brings the trusted state up to date and checks wanted targets")
+        .after_help(VERIFY_END);
+    let arguments = [
+        option(alloc, "state", "STATE", "The trusted state"),
+        metadata_option(alloc),
+        targets_option(alloc),
+        now_option(alloc),
+        limit_option(alloc),
+        workers_option(alloc),
+        option(alloc, "out", "STATE", "Where the new state is written"),
+        several(alloc, "PATH", "The wanted targets").num_args(0..),
+    ];
+    with_arguments(command, arguments)
+}
+
+fn replay_command<'a>(alloc: Global) -> Result<Command<'a>, AllocError> {
+    let command = Command::new(alloc, "replay")
+        .about("Verifies repositories one after another, as `verify` does")
+        .after_help(REPLAY_END);
+    let repositories = several(alloc, "DIR", "The repositories, in order");
+    let arguments = [
+        option(alloc, "state", "STATE", "The trusted state"),
+        now_option(alloc),
+        limit_option(alloc),
+        workers_option(alloc),
+        keep_option(alloc),
+        option(alloc, "out", "STATE", "Where the last state is written"),
+        file(alloc, "PATH", "The wanted target"),
+        repositories.required(true).num_args(1..),
+    ];
+    with_arguments(command, arguments)
+}
+
+fn make_command<'a>(alloc: Global) -> Result<Command<'a>, AllocError> {
+    Command::new(alloc, "make")
+        .about("Makes a repository for tests from a script")
+        .after_help(MAKE_END)
+        .arg(file(alloc, "SCRIPT", "The script"))?
+        .arg(file(alloc, "DIR", "The folder below which the files are written"))
+}

@@ -1,0 +1,77 @@
+//! What the help says after the options.
+
+pub const HELP_END: &str = "\
+EXAMPLES:
+  tufcheck init 1.root.json --out state
+  tufcheck verify --state state --metadata repo/metadata --targets repo/targets --out state abc.txt
+  tufcheck make first.script repo
+
+EXIT STATUS:
+  0  all wanted targets are good, the files were made, or help was asked for
+  1  some wanted target was refused
+  2  the update stopped, or `init` refused the root file
+  3  the command line, the moment, the state file or the script was refused
+  4  a file, a folder, the clock, the output or memory failed";
+
+pub const INIT_END: &str = "\
+It prints `root N`, with the root's version, or `end root FAULT`. A refused root writes no state.
+
+EXAMPLES:
+  tufcheck init 1.root.json --out state
+
+EXIT STATUS:
+  0  the state was written
+  2  the root file was refused
+  3  the command line was refused
+  4  the root file, the output or memory failed";
+
+pub const VERIFY_END: &str = "\
+It writes the new state first, also where the update stopped, and then prints
+  root N                  the version of the trusted root
+  end ready               or `end STEP FAULT`, where the update stopped
+  role NAME VERSION       for each delegated role that was accepted
+  ok NAME LENGTH ROLE     or `no NAME WHY`, for each wanted target in order
+
+Put `--` before the first PATH where one begins with `-`. Links in the folders are passed over. What is
+printed, written and answered is the same for any number of workers.
+
+EXAMPLES:
+  tufcheck verify --state state --metadata repo/metadata --targets repo/targets --out state abc.txt
+  tufcheck verify --state old --metadata m --targets t --now 2026-01-01T00:00:00Z --limit 64 --out new -- a/b -c
+
+EXIT STATUS:
+  0  all wanted targets are good
+  1  some wanted target was refused
+  2  the update stopped
+  3  the command line, the moment or the state file was refused
+  4  a folder, the clock, the output or memory failed";
+
+pub const REPLAY_END: &str = "\
+Each DIR is a repository, with the folders `metadata` and `targets`. All are read first. Then each is
+verified in order, from the state of the one before and at one moment. It writes the last state, also
+where an update stopped, and then prints for each DIR, from 1,
+  cycle K
+and the lines of `verify`. What it remembers changes no line.
+
+EXAMPLES:
+  tufcheck replay --state state --out state abc.txt monday tuesday wednesday
+  tufcheck replay --state old --now 2026-01-01T00:00:00Z --keep 16 --out new -- -c mirror.1 mirror.2
+
+EXIT STATUS:
+  that of `verify` for the last DIR:
+  0  the wanted target is good
+  1  the wanted target was refused
+  2  the last update stopped
+  3  the command line, the moment or the state file was refused
+  4  a folder, the clock, the output or memory failed";
+
+pub const MAKE_END: &str = "\
+It writes `metadata/` and `targets/` below DIR and prints nothing. A refused script writes no file.
+
+EXAMPLES:
+  tufcheck make first.script repo
+
+EXIT STATUS:
+  0  the files were written
+  3  the command line or the script was refused
+  4  the script can't be read, or the output or memory failed";
