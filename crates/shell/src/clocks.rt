@@ -153,10 +153,6 @@ pub fn failing<R: Files + AllocGlobal, T: Threads + Wait + Sync>(
     shell: &Shell<'_, R, T>,
     step: &Step,
 ) -> Result<Told> {
-    let folders = Folders {
-        metadata: FailingFolder::after(step.word(0)?.parse::<u64>()?),
-        targets: FailingFolder::after(step.word(1)?.parse::<u64>()?),
-    };
     let root = fs::read(shell.rt, "metadata/1.root.json")?;
     let wanted = [String::from_str(shell.alloc, "a")?];
     let start = Start {
@@ -167,7 +163,17 @@ pub fn failing<R: Files + AllocGlobal, T: Threads + Wait + Sync>(
         workers: 2,
         state: step.word(2)?,
     };
-    verified(shell, &start, folders)
+    verified(shell, &start, failing_folders(step)?)
+}
+
+/// The folders whose calls fail after as many as the step says.
+fn failing_folders(step: &Step) -> Result<Folders<FailingFolder, FailingFolder>> {
+    let metadata = step.word(0)?.parse::<u64>()?;
+    let targets = step.word(1)?.parse::<u64>()?;
+    Ok(Folders {
+        metadata: FailingFolder::after(metadata),
+        targets: FailingFolder::after(targets),
+    })
 }
 
 /// The lines and the status of a verification of these folders, or what is told of its failure.

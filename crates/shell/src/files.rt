@@ -47,14 +47,19 @@ pub fn keeps<R: Files + Clock + AllocGlobal + Clone + Drop, T>(
     let mut line = String::new(shell.alloc);
     for (place, part) in text.as_str().split("\"").enumerate() {
         if place % 4 == 1 {
-            if !line.is_empty() {
-                line.push(' ')?;
-            }
-            line.push_str(part)?;
+            push_name(&mut line, part)?;
         }
     }
     line.push('\n')?;
     Ok(Told::printed(shell.alloc, line))
+}
+
+/// Adds a name behind the others.
+fn push_name(line: &mut String, name: &str) -> Result<()> {
+    if !line.is_empty() {
+        line.push(' ')?;
+    }
+    Ok(line.push_str(name)?)
 }
 
 /// Tells the name of each file that was made and its SHA-256, in the order of the names' bytes.

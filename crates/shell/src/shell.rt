@@ -75,13 +75,30 @@ impl<'a, R: Files + Clock + AllocGlobal + Clone + Drop, T: Threads + Wait + Sync
             "verify --state {old} --metadata metadata --targets targets --out {new}"
         )?;
         let mut words = words_of(self.alloc, line.as_str())?;
-        if !more.iter().any(|word| word.as_str() == "--now") {
-            words.push(String::from_str(self.alloc, "--now")?)?;
-            words.push(String::from_str(self.alloc, NOW)?)?;
-        }
-        for word in more {
-            words.push(word.clone()?)?;
-        }
+        push_moment(self.alloc, &mut words, more)?;
+        push_words(&mut words, more)?;
         self.run(words.as_slice())
     }
+}
+
+/// Adds the moment, unless the further words name one.
+fn push_moment(alloc: Global, words: &mut Vec<String>, more: &[String]) -> Result<()> {
+    if more.iter().any(|word| word.as_str() == "--now") {
+        return Ok(());
+    }
+    push_word(alloc, words, "--now")?;
+    push_word(alloc, words, NOW)
+}
+
+/// Adds a word.
+pub fn push_word(alloc: Global, words: &mut Vec<String>, word: &str) -> Result<()> {
+    Ok(words.push(String::from_str(alloc, word)?)?)
+}
+
+/// Adds further words.
+pub fn push_words(words: &mut Vec<String>, more: &[String]) -> Result<()> {
+    for word in more {
+        words.push(word.clone()?)?;
+    }
+    Ok(())
 }

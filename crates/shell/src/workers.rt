@@ -1,6 +1,6 @@
 //! Verifications by several numbers of workers.
 
-use crate::shell::Shell;
+use crate::shell::{Shell, push_word, push_words};
 use anyhow::{Context, Result, bail};
 use sessions::{Step, Told};
 use std::fs;
@@ -70,11 +70,9 @@ fn verify_with<R: Files + Clock + AllocGlobal + Clone + Drop, T: Threads + Wait 
     more: &[String],
 ) -> Result<Ran> {
     let mut words = Vec::new(shell.alloc);
-    words.push(String::from_str(shell.alloc, "--workers")?)?;
-    words.push(String::from_str(shell.alloc, number)?)?;
-    for word in more {
-        words.push(word.clone()?)?;
-    }
+    push_word(shell.alloc, &mut words, "--workers")?;
+    push_word(shell.alloc, &mut words, number)?;
+    push_words(&mut words, more)?;
     let told = shell.verify(old, new, words.as_slice())?;
     let state = fs::read(shell.rt, new)?;
     Ok(Ran { told, state })
