@@ -4,9 +4,9 @@
 //! word `ahead` one for each round of cycles by several numbers of workers.
 #![tactic(auto)]
 
-mod ahead;
 mod parts;
 mod trouble;
+mod workers;
 
 use std::alloc::Global;
 use std::env;
@@ -35,7 +35,7 @@ fn measured<R: Env + Clock + AllocGlobal, T: Threads + Wait + Sync, W: Write>(
     out: &mut W,
 ) -> Result<(), Trouble> {
     if is_asked(rt, "ahead")? {
-        return ahead::rounds(rt, threads, alloc, out);
+        return workers::rounds(rt, threads, alloc, out);
     }
     if is_asked(rt, "all")? {
         return all(rt, alloc, out);
