@@ -3,7 +3,7 @@ Hash bins: the role of a path is told by the first bits of its SHA-256. That of 
 Eight bits, of which one bin is written.
   $ make
   > @one
-  > key 5 5
+  > key 5 5 4
   > succinct targets 1 5 8 bin
   > target bin-ba abc 616263 sha256
   > write bin-ba 1 5
@@ -26,7 +26,7 @@ Eight bits, of which one bin is written.
 Another number of bits tells another bin. The number has as many digits as that of the last bin.
   $ make
   > @one
-  > key 5 5
+  > key 5 5 4
   > succinct targets 1 5 1 bin
   > target bin-1 abc 616263 sha256
   > write bin-1 1 5
@@ -38,7 +38,7 @@ Another number of bits tells another bin. The number has as many digits as that 
   ok "abc" 3 "bin-1"
   $ make
   > @one
-  > key 5 5
+  > key 5 5 4
   > succinct targets 1 5 4 bin
   > target bin-b abc 616263 sha256
   > write bin-b 1 5
@@ -50,7 +50,7 @@ Another number of bits tells another bin. The number has as many digits as that 
   ok "abc" 3 "bin-b"
   $ make
   > @one
-  > key 5 5
+  > key 5 5 4
   > succinct targets 1 5 9 bin
   > target bin-174 abc 616263 sha256
   > write bin-174 1 5
@@ -62,7 +62,7 @@ Another number of bits tells another bin. The number has as many digits as that 
   ok "abc" 3 "bin-174"
   $ make
   > @one
-  > key 5 5
+  > key 5 5 4
   > succinct targets 1 5 16 bin
   > target bin-0007 p/43377 616263 sha256
   > write bin-0007 1 5
@@ -74,7 +74,7 @@ Another number of bits tells another bin. The number has as many digits as that 
   ok "p/43377" 3 "bin-0007"
   $ make
   > @one
-  > key 5 5
+  > key 5 5 4
   > succinct targets 1 5 32 a-b
   > target a-b-ba7816bf abc 616263 sha256
   > write a-b-ba7816bf 1 5
@@ -88,7 +88,7 @@ Another number of bits tells another bin. The number has as many digits as that 
 A bin's file is signed by the keys of the file that has the bins.
   $ make
   > @one
-  > key 5 5
+  > key 5 5 4
   > succinct targets 1 5 8 bin
   > target bin-ba abc 616263 sha256
   > write bin-ba 1 1
@@ -102,8 +102,8 @@ A bin's file is signed by the keys of the file that has the bins.
 A bin delegates on, and its targets file may be empty.
   $ make
   > @one
-  > key 5 5
-  > key 6 5
+  > key 5 5 4
+  > key 6 5 4
   > succinct targets 1 5 8 bin
   > delegate bin-ba a 1 6 go paths abc
   > target a abc 616263 sha256
@@ -124,8 +124,8 @@ A bin delegates on, and its targets file may be empty.
 Bins of a delegated role. The bin is for every path and nothing is tried after it: b isn't asked, though it lists the path.
   $ make
   > @one
-  > key 5 5
-  > key 6 5
+  > key 5 5 4
+  > key 6 5 4
   > delegate targets a 1 5 go paths abc
   > delegate targets b 1 5 go paths abc
   > succinct a 1 6 8 bin
@@ -145,7 +145,7 @@ Bins of a delegated role. The bin is for every path and nothing is tried after i
 More bits in a newer targets file.
   $ make
   > @one
-  > key 5 5
+  > key 5 5 4
   > succinct targets 1 5 4 bin
   > target bin-b abc 616263 sha256
   > write bin-b 1 5

@@ -25,7 +25,7 @@ Files of roles have their versions in their names. Of two digests the name by sh
 and the first file that is there counts. With sha512 alone there is no name by sha256.
   $ make
   > @keys
-  > key 5 5
+  > key 5 5 4
   > consistent yes
   > delegate targets a 1 5 go paths r
   > target a r 72 sha512

@@ -15,7 +15,7 @@ The top-level role lists the path itself.
 A star stands for no slash.
   $ make
   > @one
-  > key 5 5
+  > key 5 5 4
   > delegate targets a 1 5 go paths *.tgz
   > target a foo.tgz 31 sha256
   > target a targets/foo.tgz 31 sha256
@@ -34,7 +34,7 @@ A star stands for no slash.
 The SHA-256 of abc begins with ba7816bf.
   $ make
   > @one
-  > key 5 5
+  > key 5 5 4
   > delegate targets a 1 5 go prefixes ba78
   > target a abc 31 sha256
   > write a 1 5
@@ -50,7 +50,7 @@ The SHA-256 of abc begins with ba7816bf.
 It doesn't begin with ba79.
   $ make
   > @one
-  > key 5 5
+  > key 5 5 4
   > delegate targets a 1 5 go prefixes ba79
   > target a abc 31 sha256
   > write a 1 5
@@ -66,7 +66,7 @@ It doesn't begin with ba79.
 After a terminating delegation nothing else is tried.
   $ make
   > @one
-  > key 5 5
+  > key 5 5 4
   > delegate targets a 1 5 go paths p
   > delegate targets b 1 5 stop paths p
   > delegate targets c 1 5 go paths p
@@ -88,7 +88,7 @@ After a terminating delegation nothing else is tried.
 At most so many roles are visited as the limit says, the top-level role among them.
   $ make
   > @one
-  > key 5 5
+  > key 5 5 4
   > delegate targets a 1 5 go paths p
   > delegate a a 1 5 go paths p
   > write a 1 5
@@ -104,7 +104,7 @@ At most so many roles are visited as the limit says, the top-level role among th
 A role that delegates to itself is visited once.
   $ make
   > @one
-  > key 5 5
+  > key 5 5 4
   > delegate targets a 1 5 go paths p
   > delegate a a 1 5 go paths p
   > write a 1 5
@@ -121,8 +121,8 @@ A role that delegates to itself is visited once.
 A role that is refused ends the search, though another one lists the path.
   $ make
   > @one
-  > key 5 5
-  > key 6 5
+  > key 5 5 4
+  > key 6 5 4
   > delegate targets a 1 5 go paths p
   > delegate targets b 1 5 go paths p
   > target b p 31 sha256
@@ -140,7 +140,7 @@ A role that is refused ends the search, though another one lists the path.
 A terminating delegation to a role that was visited is skipped, and ends the search all the same.
   $ make
   > @one
-  > key 5 5
+  > key 5 5 4
   > delegate targets a 1 5 go paths p
   > delegate a b 1 5 go paths p
   > delegate b a 1 5 stop paths p
@@ -163,7 +163,7 @@ A terminating delegation to a role that was visited is skipped, and ends the sea
 Roles are told in the order of their names, and not in that of the search.
   $ make
   > @one
-  > key 5 5
+  > key 5 5 4
   > delegate targets b 1 5 go paths p
   > delegate targets a 1 5 go paths p
   > target a p 31 sha256
@@ -184,7 +184,7 @@ Roles are told in the order of their names, and not in that of the search.
 A role whose file the snapshot doesn't list.
   $ make
   > @one
-  > key 5 5
+  > key 5 5 4
   > delegate targets a 1 5 go paths p
   > @top
   $ init old
@@ -198,7 +198,7 @@ A role whose file the snapshot doesn't list.
 A delegated role may have the name of a top-level one, and is looked up as any other.
   $ make
   > @one
-  > key 5 5
+  > key 5 5 4
   > delegate targets root 1 5 go paths p
   > @top
   $ init old
@@ -212,7 +212,7 @@ A delegated role may have the name of a top-level one, and is looked up as any o
 A name that would lead out of a folder is a name.
   $ make
   > @one
-  > key 5 5
+  > key 5 5 4
   > delegate targets .. 1 5 go paths p
   > target .. p 31 sha256
   > write .. 1 5
@@ -228,7 +228,7 @@ A name that would lead out of a folder is a name.
 Nothing is asked of whom the role delegates to, if it lists the path itself.
   $ make
   > @one
-  > key 5 5
+  > key 5 5 4
   > target targets p 31 sha256
   > delegate targets a 1 5 stop paths p
   > write a 1 5
@@ -243,7 +243,7 @@ Nothing is asked of whom the role delegates to, if it lists the path itself.
 A terminating delegation to targets is skipped, and ends the search all the same.
   $ make
   > @one
-  > key 5 5
+  > key 5 5 4
   > delegate targets a 1 5 go paths p
   > delegate a targets 1 5 stop paths p
   > delegate targets c 1 5 go paths p
@@ -263,7 +263,7 @@ A terminating delegation to targets is skipped, and ends the search all the same
 Capitals in a prefix make the file malformed.
   $ make
   > @one
-  > key 5 5
+  > key 5 5 4
   > delegate targets a 1 5 go prefixes BA78
   > @top
   $ init old
@@ -277,9 +277,9 @@ Capitals in a prefix make the file malformed.
 Two roles delegate to one, each by another key: each delegation asks its own keys, in whatever order the paths come.
   $ make
   > @one
-  > key 5 5
-  > key 6 5
-  > key 7 5
+  > key 5 5 4
+  > key 6 5 4
+  > key 7 5 4
   > delegate targets a 1 7 go paths x/*
   > delegate targets b 1 7 go paths y/*
   > delegate a c 1 5 go paths x/*

@@ -4,7 +4,7 @@ A repository with a second root and a delegated role, in which one file at a tim
 The timestamp lists how long the snapshot is, the snapshot how long the targets files are, and nothing how long the root and
 the timestamp are. The files have 4,211, 2,925, 3,047, 3,325 and 3,003 bytes.
   $ make
-  > @keys
+  > @wide
   > write root 1 1
   > write root 2 1
   > key 5 5
@@ -119,7 +119,7 @@ role.
 
 A snapshot that lists 20,000 files more, in 540,000 bytes.
   $ make
-  > @keys
+  > @wide
   > write root 1 1
   > @files
   $ init old
@@ -138,7 +138,7 @@ A snapshot that lists 20,000 files more, in 540,000 bytes.
 
 And the next snapshot, which lists as many: all of these, and all but the last.
   $ make
-  > @keys
+  > @wide
   > target targets abc.txt 616263 sha256
   > write targets 1 4
   > write snapshot 2 3
@@ -166,7 +166,7 @@ And the next snapshot, which lists as many: all of these, and all but the last.
 Entries under the key's id before the good one, in a targets file that nothing lists the length and digests of: 1,000, and
 4,100, which are more than workers look at.
   $ make
-  > @keys
+  > @wide
   > write root 1 1
   > @files
   $ init old

@@ -115,7 +115,7 @@ A lower listed targets file.
 A name gone.
   $ make
   > @keys
-  > key 5 5
+  > key 5 5 4
   > write root 1 1
   > write targets 1 4
   > delegate targets a 1 5 go paths x
@@ -272,7 +272,7 @@ An equal timestamp stays, and with it the moment at which it expires. The new on
 
 Of a snapshot's faults the first is told: the version, the rollback, the expiry.
   $ make
-  > @keys
+  > @wide
   > write root 1 1
   > write targets 2 4
   > write snapshot 1 3
@@ -283,7 +283,7 @@ Of a snapshot's faults the first is told: the version, the rollback, the expiry.
   root 1
   end ready
   $ make
-  > @keys
+  > @wide
   > write targets 1 4
   > expires 2025-01-01T00:00:00Z
   > write snapshot 2 3

@@ -38,7 +38,7 @@ Signed by the new keys only.
   $ make
   > @one
   > write root 1 1
-  > key 5 5
+  > key 5 5 4
   > top root 1 5
   > write root 2 5
   $ init old
@@ -54,7 +54,7 @@ Signed by the old keys only.
   $ make
   > @one
   > write root 1 1
-  > key 5 5
+  > key 5 5 4
   > top root 1 5
   > write root 2 1
   $ init old
@@ -70,7 +70,7 @@ Signed by old and new keys.
   $ make
   > @keys
   > write root 1 1
-  > key 5 5
+  > key 5 5 4
   > top root 1 5
   > write root 2 1,5
   > @files
@@ -114,7 +114,7 @@ A gap after a root.
 An unsigned root on the way.
   $ make
   > @one
-  > key 2 5
+  > key 2 5 4
   > write root 1 1
   > write root 2 1
   > write root 3 2
@@ -132,7 +132,7 @@ Another timestamp key.
   $ make
   > @keys
   > write root 1 1
-  > key 5 5
+  > key 5 5 4
   > top timestamp 1 5
   > write root 2 1
   > top timestamp 1 2
@@ -152,13 +152,13 @@ thresholds are to be met.
 Signed by 1,5,6.
   $ make
   > @one
-  > key 5 5
-  > key 6 5
-  > key 7 5
-  > key 8 5
-  > key 9 5
-  > key 10 5
-  > key 11 5
+  > key 5 5 4
+  > key 6 5 4
+  > key 7 5 4
+  > key 8 5 4
+  > key 9 5 4
+  > key 10 5 4
+  > key 11 5 4
   > top root 3 1,5,6,7,8
   > write root 1 1
   > top root 3 1,5,9,10,11
@@ -173,13 +173,13 @@ Signed by 1,5,6.
 Signed by 9,10,1.
   $ make
   > @one
-  > key 5 5
-  > key 6 5
-  > key 7 5
-  > key 8 5
-  > key 9 5
-  > key 10 5
-  > key 11 5
+  > key 5 5 4
+  > key 6 5 4
+  > key 7 5 4
+  > key 8 5 4
+  > key 9 5 4
+  > key 10 5 4
+  > key 11 5 4
   > top root 3 1,5,6,7,8
   > write root 1 1
   > top root 3 1,5,9,10,11
@@ -194,13 +194,13 @@ Signed by 9,10,1.
 Signed by 1,5,9,10,11.
   $ make
   > @one
-  > key 5 5
-  > key 6 5
-  > key 7 5
-  > key 8 5
-  > key 9 5
-  > key 10 5
-  > key 11 5
+  > key 5 5 4
+  > key 6 5 4
+  > key 7 5 4
+  > key 8 5 4
+  > key 9 5 4
+  > key 10 5 4
+  > key 11 5 4
   > top root 3 1,5,6,7,8
   > write root 1 1
   > top root 3 1,5,9,10,11
@@ -215,13 +215,13 @@ Signed by 1,5,9,10,11.
 Signed by 1,5,6,9.
   $ make
   > @keys
-  > key 5 5
-  > key 6 5
-  > key 7 5
-  > key 8 5
-  > key 9 5
-  > key 10 5
-  > key 11 5
+  > key 5 5 4
+  > key 6 5 4
+  > key 7 5 4
+  > key 8 5 4
+  > key 9 5 4
+  > key 10 5 4
+  > key 11 5 4
   > top root 3 1,5,6,7,8
   > write root 1 1
   > top root 3 1,5,9,10,11
@@ -236,13 +236,13 @@ Signed by 1,5,6,9.
 Signed by 9,6,5,1.
   $ make
   > @keys
-  > key 5 5
-  > key 6 5
-  > key 7 5
-  > key 8 5
-  > key 9 5
-  > key 10 5
-  > key 11 5
+  > key 5 5 4
+  > key 6 5 4
+  > key 7 5 4
+  > key 8 5 4
+  > key 9 5 4
+  > key 10 5 4
+  > key 11 5 4
   > top root 3 1,5,6,7,8
   > write root 1 1
   > top root 3 1,5,9,10,11
@@ -270,7 +270,7 @@ Version 3 stands in the place of version 2, signed by its key.
 Version 3 stands in the place of version 2, signed by another key.
   $ make
   > @one
-  > key 2 5
+  > key 2 5 4
   > write root 1 1
   > write root 3 2
   $ copy metadata/3.root.json metadata/2.root.json

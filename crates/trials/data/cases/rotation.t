@@ -15,7 +15,7 @@ A rotated timestamp key lets a lower version in.
   end ready
   $ make
   > @keys
-  > key 5 5
+  > key 5 5 4
   > top timestamp 1 5
   > write root 2 1
   > write targets 1 4
@@ -41,7 +41,7 @@ A snapshot key changed and changed back.
   end ready
   $ make
   > @keys
-  > key 5 5
+  > key 5 5 4
   > top snapshot 1 5
   > write root 2 1
   > top snapshot 1 3
@@ -101,7 +101,7 @@ Rotation after a fast forward.
   end ready
   $ make
   > @keys
-  > key 5 5
+  > key 5 5 4
   > top timestamp 1 5
   > write root 2 1
   > write targets 1 4
@@ -127,7 +127,7 @@ Rotation and then an unsigned root.
   end ready
   $ make
   > @keys
-  > key 5 5
+  > key 5 5 4
   > top timestamp 1 5
   > write root 2 1
   > write root 3 2
@@ -144,7 +144,7 @@ Rotation and then an unsigned root.
 The same ids in another order, with another threshold.
   $ make
   > @keys
-  > key 5 5
+  > key 5 5 4
   > top timestamp 1 2,5
   > write root 1 1
   > write targets 1 4
@@ -157,7 +157,7 @@ The same ids in another order, with another threshold.
   end ready
   $ make
   > @keys
-  > key 5 5
+  > key 5 5 4
   > top timestamp 2 5,2,5
   > write root 2 1
   > write targets 1 4
@@ -184,7 +184,7 @@ A key that is added is another set of keys, too.
   end ready
   $ make
   > @keys
-  > key 5 5
+  > key 5 5 4
   > top timestamp 1 2,5
   > write root 2 1
   > write targets 1 4

@@ -3,7 +3,7 @@ How long files may be, and how many of them are taken.
 The limits of a timestamp, a snapshot and a targets file in bytes. Each is listed by its version alone, and has blanks
 behind its text.
   $ make
-  > @keys
+  > @wide
   > write root 1 1
   > write root 2 1
   > @files

@@ -1,6 +1,6 @@
 A targets file that the snapshot lists by its version alone, with one part changed and signed anew.
   $ make
-  > @keys
+  > @wide
   > write root 1 1
   > @files
   $ init old

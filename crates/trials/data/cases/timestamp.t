@@ -1,6 +1,6 @@
 A timestamp that lists the snapshot by its version alone, with one part changed and signed anew.
   $ make
-  > @keys
+  > @wide
   > write root 1 1
   > @files
   $ init old
