@@ -2,6 +2,7 @@
 
 use crate::stored::Memory;
 use folder::{Depth, Disk, Folder, LoadFault, joined, load};
+use std::collections::BTreeMap;
 use std::os::unix::fs::symlink;
 use std::rt::Files;
 use std::test::Fail;
@@ -34,13 +35,21 @@ fn link<R: Files + AllocGlobal>(rt: &R, folder: &str, name: &str, to: &str) -> R
     Ok(symlink(rt, to, path.as_str())?)
 }
 
+/// Whether the file is there with this text.
+fn has(files: &BTreeMap<String, Vec<u8>>, name: &str, text: &str) -> bool {
+    match files.get(name) {
+        Some(bytes) => bytes.as_slice() == text.as_bytes(),
+        None => false,
+    }
+}
+
 #[test]
 fn a_linked_folder_is_loaded(rt: HostRuntime) -> Result<(), Fail> {
     tree(&rt, "a_linked_folder_is_loaded")?;
     let mut here = Disk::new(&rt, "a_linked_folder_is_loaded/linked", Depth::Here);
     let files = load(rt.alloc(), &mut here)?;
     assert_eq!(rt; files.len(), 1);
-    assert_eq!(rt; files.get("f").ok_or("f")?.as_slice(), b"1".as_slice());
+    assert!(rt; has(&files, "f", "1"));
     Ok(fs::remove_dir_all(&rt, "a_linked_folder_is_loaded")?)
 }
 
@@ -50,33 +59,27 @@ fn folders_below_are_loaded(rt: HostRuntime) -> Result<(), Fail> {
     let mut below = Disk::new(&rt, "folders_below_are_loaded/top", Depth::Below);
     let files = load(rt.alloc(), &mut below)?;
     assert_eq!(rt; files.len(), 2);
-    assert_eq!(rt; files.get("f").ok_or("f")?.as_slice(), b"1".as_slice());
-    assert_eq!(rt;
-        files.get("d/e/f").ok_or("d/e/f")?.as_slice(),
-        b"22".as_slice()
-    );
+    assert!(rt; has(&files, "f", "1"));
+    assert!(rt; has(&files, "d/e/f", "22"));
     assert_eq!(rt; below.failed(), 0);
     Ok(fs::remove_dir_all(&rt, "folders_below_are_loaded")?)
 }
 
+/// Whether a load and a read of the folder fail, and both are counted.
+fn fails<R: Files + AllocGlobal + Clone + Drop>(rt: &R, path: &str) -> bool {
+    let mut folder = Disk::new(rt, path, Depth::Below);
+    let loaded = load(rt.alloc(), &mut folder).err() == Some(LoadFault::Folder);
+    let once = folder.failed() == 1;
+    let read = folder.read(rt.alloc(), "f").err() == Some(LoadFault::Folder);
+    loaded && once && read && folder.failed() == 2
+}
+
 #[test]
 fn folders_on_disk_fail(rt: HostRuntime) -> Result<(), Fail> {
-    let alloc = rt.alloc();
     fresh(&rt, "folders_on_disk_fail")?;
     fs::write(&rt, "folders_on_disk_fail/file", "1")?;
     for path in ["folders_on_disk_fail/file", "folders_on_disk_fail/none"] {
-        let mut folder = Disk::new(&rt, path, Depth::Below);
-        assert!(rt;
-            matches!(load(alloc, &mut folder), Err(LoadFault::Folder)),
-            "{path}"
-        );
-        assert_eq!(rt; folder.failed(), 1);
-        assert_eq!(rt;
-            folder.read(alloc, "f").err(),
-            Some(LoadFault::Folder),
-            "{path}"
-        );
-        assert_eq!(rt; folder.failed(), 2);
+        assert!(rt; fails(&rt, path), "{path}");
     }
     Ok(fs::remove_dir_all(&rt, "folders_on_disk_fail")?)
 }
@@ -102,11 +105,8 @@ fn a_folder_in_memory_is_loaded(rt: HostRuntime) -> Result<(), Fail> {
     let mut folder = Memory::of(alloc, &[("a", "1"), ("b/c", "22")], 3)?;
     let loaded = load(alloc, &mut folder)?;
     assert_eq!(rt; loaded.len(), 2);
-    assert_eq!(rt; loaded.get("a").ok_or("a")?.as_slice(), b"1".as_slice());
-    assert_eq!(rt;
-        loaded.get("b/c").ok_or("b/c")?.as_slice(),
-        b"22".as_slice()
-    );
+    assert!(rt; has(&loaded, "a", "1"));
+    assert!(rt; has(&loaded, "b/c", "22"));
     assert_eq!(rt; folder.failed(), 0);
     Ok(())
 }

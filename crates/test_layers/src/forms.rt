@@ -37,26 +37,31 @@ impl FromMember for Named {
     }
 }
 
+/// What the members of an object are read as.
+fn members(alloc: Global, json: &str) -> Result<Result<Items<Named>, Misread>, Fail> {
+    let value = Value::from_str(alloc, json)?;
+    Ok(read_members(alloc, &value))
+}
+
+fn is(named: &Named, name: &str, length: u64) -> bool {
+    named.name.as_str() == name && named.length.get() == length
+}
+
 #[test]
 fn objects(rt: HostRuntime) -> Result<(), Fail> {
-    let alloc = rt.alloc();
-    let value = Value::from_str(alloc, "{\"b\":2,\"a\":1,\"b\":3}")?;
-    let named: Items<Named> = read_members(alloc, &value)?;
+    let named = members(rt.alloc(), "{\"b\":2,\"a\":1,\"b\":3}")??;
     let named = named.as_slice();
     assert_eq!(rt; named.len(), 2);
-    let first = &named[0];
-    assert_eq!(rt; first.name.as_str(), "a");
-    assert_eq!(rt; first.length.get(), 1);
-    let second = &named[1];
-    assert_eq!(rt; second.name.as_str(), "b");
-    assert_eq!(rt; second.length.get(), 3);
+    assert!(rt; is(&named[0], "a", 1));
+    assert!(rt; is(&named[1], "b", 3));
+    Ok(())
+}
+
+#[test]
+fn no_objects(rt: HostRuntime) -> Result<(), Fail> {
     for json in ["{\"a\":1,\"b\":-1}", "[1]", "1"] {
-        let value = Value::from_str(alloc, json)?;
-        assert_eq!(rt;
-            read_members::<Named>(alloc, &value).err(),
-            Some(Misread::Malformed),
-            "{json}"
-        );
+        let fault = members(rt.alloc(), json)?.err();
+        assert_eq!(rt; fault, Some(Misread::Malformed), "{json}");
     }
     Ok(())
 }

@@ -34,7 +34,11 @@ fn file_with<A: Reading + Drop, R: Files + AllocGlobal + Clone + Drop>(
 ) -> Result<Part<A>> {
     let signed = good(layers, kind)?;
     let signed = changed(layers.alloc, signed.as_str(), old, new)?;
-    Ok(Part::read(layers.alloc, file(layers.alloc, signed.as_str())?)?)
+    read(layers.alloc, signed.as_str())
+}
+
+fn read<A: Reading + Drop>(alloc: Global, signed: &str) -> Result<Part<A>> {
+    Ok(Part::read(alloc, file(alloc, signed)?)?)
 }
 
 /// What the check of a listing with the members answers.

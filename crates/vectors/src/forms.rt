@@ -1,23 +1,23 @@
 //! Values of Rust types that are read from JSON.
 
+use crate::plain::Json;
 use anyhow::{Result, bail};
 use cjson::Misread;
 use cjson::form::{FromJson, needed, optional};
 use cjson::list::Items;
 use cjson::number::{AtLeast, Length, Positive};
 use cjson::text::Text;
-use serde_json::Value;
 use sessions::Step;
 use std::alloc::Global;
 
 /// A whole number of at least so much.
 pub fn at_least(alloc: Global, step: &Step) -> Result<String> {
-    let value = Value::from_str(alloc, step.text_behind(1))?;
+    let json = Json::read(alloc, step.text_behind(1))?;
     match step.word(0)? {
-        "0" => number(alloc, Length::from_json(alloc, &value)),
-        "1" => number(alloc, Positive::from_json(alloc, &value)),
-        "7" => number(alloc, AtLeast::<7>::from_json(alloc, &value)),
-        "8" => number(alloc, AtLeast::<8>::from_json(alloc, &value)),
+        "0" => number(alloc, Length::from_json(alloc, &json.tree)),
+        "1" => number(alloc, Positive::from_json(alloc, &json.tree)),
+        "7" => number(alloc, AtLeast::<7>::from_json(alloc, &json.tree)),
+        "8" => number(alloc, AtLeast::<8>::from_json(alloc, &json.tree)),
         _ => bail!("no such bound"),
     }
 }
@@ -34,10 +34,10 @@ fn number<const LEAST: u64>(
 
 /// So many bytes that a text spells in hexadecimal digits.
 pub fn digits(alloc: Global, step: &Step) -> Result<String> {
-    let value = Value::from_str(alloc, step.text_behind(1))?;
+    let json = Json::read(alloc, step.text_behind(1))?;
     match step.word(0)? {
-        "0" => spelled(alloc, <[u8; 0]>::from_json(alloc, &value)),
-        "3" => spelled(alloc, <[u8; 3]>::from_json(alloc, &value)),
+        "0" => spelled(alloc, <[u8; 0]>::from_json(alloc, &json.tree)),
+        "3" => spelled(alloc, <[u8; 3]>::from_json(alloc, &json.tree)),
         _ => bail!("no such count"),
     }
 }
@@ -51,8 +51,12 @@ fn spelled<const N: usize>(alloc: Global, bytes: Result<[u8; N], Misread>) -> Re
 
 /// A member that has to be there, and is a truth.
 pub fn needed_truth(alloc: Global, step: &Step) -> Result<String> {
-    let value = Value::from_str(alloc, step.text_behind(1))?;
-    match needed::<bool>(alloc, &value, step.word(0)?) {
+    let json = Json::read(alloc, step.text_behind(1))?;
+    truth(alloc, needed(alloc, &json.tree, step.word(0)?))
+}
+
+fn truth(alloc: Global, truth: Result<bool, Misread>) -> Result<String> {
+    match truth {
         Ok(truth) => Ok(format!(in alloc; "{truth}\n")?),
         Err(fault) => misread(alloc, fault),
     }
@@ -60,9 +64,13 @@ pub fn needed_truth(alloc: Global, step: &Step) -> Result<String> {
 
 /// A member that may be there, and then is a truth.
 pub fn optional_truth(alloc: Global, step: &Step) -> Result<String> {
-    let value = Value::from_str(alloc, step.text_behind(1))?;
-    match optional::<bool>(alloc, &value, step.word(0)?) {
-        Ok(Some(truth)) => Ok(format!(in alloc; "{truth}\n")?),
+    let json = Json::read(alloc, step.text_behind(1))?;
+    truth_or_none(alloc, optional(alloc, &json.tree, step.word(0)?))
+}
+
+fn truth_or_none(alloc: Global, found: Result<Option<bool>, Misread>) -> Result<String> {
+    match found {
+        Ok(Some(found)) => truth(alloc, Ok(found)),
         Ok(None) => Ok(String::from_str(alloc, "none\n")?),
         Err(fault) => misread(alloc, fault),
     }
@@ -70,20 +78,21 @@ pub fn optional_truth(alloc: Global, step: &Step) -> Result<String> {
 
 /// A member that has to be there, and is a text.
 pub fn needed_text(alloc: Global, step: &Step) -> Result<String> {
-    let value = Value::from_str(alloc, step.text_behind(1))?;
-    match needed::<Text>(alloc, &value, step.word(0)?) {
-        Ok(text) => {
-            let given = text.into_string();
-            Ok(format!(in alloc; "{:?}\n", given.as_str())?)
-        }
+    let json = Json::read(alloc, step.text_behind(1))?;
+    quoted(alloc, needed(alloc, &json.tree, step.word(0)?))
+}
+
+fn quoted(alloc: Global, text: Result<Text, Misread>) -> Result<String> {
+    match text {
+        Ok(text) => Ok(format!(in alloc; "{:?}\n", text.into_string().as_str())?),
         Err(fault) => misread(alloc, fault),
     }
 }
 
 /// A list of truths, as it is lent and as it is given away.
 pub fn list(alloc: Global, step: &Step) -> Result<String> {
-    let value = Value::from_str(alloc, step.text_behind(0))?;
-    match Items::<bool>::from_json(alloc, &value) {
+    let json = Json::read(alloc, step.text_behind(0))?;
+    match Items::<bool>::from_json(alloc, &json.tree) {
         Ok(items) => listed(alloc, items),
         Err(fault) => misread(alloc, fault),
     }

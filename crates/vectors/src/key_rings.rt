@@ -1,17 +1,16 @@
 //! Keys, their ids, and roles.
 
-use crate::plain::yes_or_no;
+use crate::plain::{Json, yes_or_no};
 use anyhow::Result;
 use keys::{KeyRing, RoleKeys, key_id};
 use lms::Public;
-use serde_json::Value;
 use sessions::Step;
 use std::alloc::Global;
 
 /// The id of a key object, or why it has none.
 pub fn id(alloc: Global, step: &Step) -> Result<String> {
-    let value = Value::from_str(alloc, step.text_behind(0))?;
-    Ok(match key_id(alloc, &value) {
+    let json = Json::read(alloc, step.text_behind(0))?;
+    Ok(match key_id(alloc, &json.tree) {
         Ok(id) => format!(in alloc; "{id}\n")?,
         Err(fault) => format!(in alloc; "{fault:?}\n")?,
     })
@@ -19,8 +18,8 @@ pub fn id(alloc: Global, step: &Step) -> Result<String> {
 
 /// The usable keys of an object of keys.
 pub fn ring(alloc: Global, step: &Step) -> Result<String> {
-    let value = Value::from_str(alloc, step.text_behind(0))?;
-    match KeyRing::read(alloc, &value)? {
+    let json = Json::read(alloc, step.text_behind(0))?;
+    match KeyRing::read(alloc, &json.tree)? {
         Some(ring) => keys_of(alloc, &ring),
         None => Ok(String::from_str(alloc, "none\n")?),
     }
@@ -38,9 +37,9 @@ pub fn keys_of(alloc: Global, ring: &KeyRing) -> Result<String> {
 
 /// The threshold and the ids of a role.
 pub fn role(alloc: Global, step: &Step) -> Result<String> {
-    let value = Value::from_str(alloc, step.text_behind(0))?;
+    let json = Json::read(alloc, step.text_behind(0))?;
     let mut text = String::new(alloc);
-    match RoleKeys::read(alloc, &value)? {
+    match RoleKeys::read(alloc, &json.tree)? {
         Some(role) => push_role(&mut text, &role)?,
         None => text.push_str("none\n")?,
     }

@@ -1,7 +1,26 @@
-//! How values are printed.
+//! How values are read and printed.
 
 use anyhow::Result;
+use serde_json::Value;
 use std::alloc::Global;
+
+/// A tree of JSON that a row spells.
+pub struct Json {
+    pub tree: Value,
+}
+
+impl Drop for Json {
+    fn drop(self) {
+        let Json { tree } = self;
+    }
+}
+
+impl Json {
+    pub fn read(alloc: Global, text: &str) -> Result<Json> {
+        let tree = Value::from_str(alloc, text)?;
+        Ok(Json { tree })
+    }
+}
 
 /// The word for a truth.
 pub fn yes_or_no(is_so: bool) -> &'static str {

@@ -15,11 +15,7 @@ const PUBLIC: [u8; 56] = [
 
 /// Whether the digest is that of the text.
 pub fn digest(alloc: Global, step: &Step) -> Result<String> {
-    let algorithm = match step.word(0)? {
-        "sha256" => Algorithm::Sha256,
-        "sha512" => Algorithm::Sha512,
-        _ => bail!("no such algorithm"),
-    };
+    let algorithm = algorithm_of(step.word(0)?)?;
     let digest = hex::decode(alloc, step.word(1)?)?;
     let ask = Ask::Digest {
         file: "a",
@@ -28,6 +24,14 @@ pub fn digest(alloc: Global, step: &Step) -> Result<String> {
         digest: &digest,
     };
     told(alloc, Direct.valid(&ask)?)
+}
+
+fn algorithm_of(word: &str) -> Result<Algorithm> {
+    match word {
+        "sha256" => Ok(Algorithm::Sha256),
+        "sha512" => Ok(Algorithm::Sha512),
+        _ => bail!("no such algorithm"),
+    }
 }
 
 /// Whether two questions are the same.

@@ -1,17 +1,16 @@
 //! Canonical texts and documents.
 
-use crate::plain::push_plain;
+use crate::plain::{Json, push_plain};
 use anyhow::Result;
 use cjson::{Doc, canonical, signed_bytes};
-use serde_json::Value;
 use sessions::{Step, joined};
 use std::alloc::Global;
 
 /// The canonical text of a tree, or why it has none.
 pub fn canonical_text(alloc: Global, step: &Step) -> Result<String> {
-    let tree = Value::from_str(alloc, step.text_behind(0))?;
+    let json = Json::read(alloc, step.text_behind(0))?;
     let mut text = String::new(alloc);
-    match canonical(alloc, &tree) {
+    match canonical(alloc, &json.tree) {
         Ok(bytes) => push_plain(&mut text, &bytes)?,
         Err(fault) => write!(text, "{fault:?}")?,
     }

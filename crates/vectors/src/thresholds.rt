@@ -1,12 +1,11 @@
 //! Whether enough of a role's keys signed a file.
 
 use crate::layers::Layers;
-use crate::plain::told;
+use crate::plain::{Json, told};
 use anyhow::{Context, Result, bail};
 use cjson::{NoMemory, signed_bytes};
 use keys::{Ask, Direct, Judge, KeyRing, RoleKeys, enough, key_id};
 use lms::{Height, Public, Secret};
-use serde_json::Value;
 use sessions::Step;
 use std::alloc::Global;
 use std::rt::Files;
@@ -58,8 +57,8 @@ fn key_text(alloc: Global, public: &Public, kind: &str, more: &str) -> Result<St
 }
 
 fn own_id(alloc: Global, key: &str) -> Result<String> {
-    let value = Value::from_str(alloc, key)?;
-    Ok(key_id(alloc, &value)?)
+    let json = Json::read(alloc, key)?;
+    Ok(key_id(alloc, &json.tree)?)
 }
 
 /// Writes what belongs to a signer.
@@ -115,9 +114,9 @@ fn id_of<R: Files + AllocGlobal + Clone + Drop>(
 
 fn ring<R: Files + AllocGlobal + Clone + Drop>(layers: &Layers<'_, R>) -> Result<KeyRing> {
     let members = layers.text(RING)?;
-    let json = format!(in layers.alloc; "{{{members}}}")?;
-    let value = Value::from_str(layers.alloc, json.as_str())?;
-    Ok(KeyRing::read(layers.alloc, &value)?.context("no ring")?)
+    let text = format!(in layers.alloc; "{{{members}}}")?;
+    let json = Json::read(layers.alloc, text.as_str())?;
+    Ok(KeyRing::read(layers.alloc, &json.tree)?.context("no ring")?)
 }
 
 /// The role that lists signers, whose names are joined by commas.
@@ -130,9 +129,9 @@ fn role<R: Files + AllocGlobal + Clone + Drop>(
     for name in names.split(",") {
         push_id(layers, &mut ids, name)?;
     }
-    let json = format!(in layers.alloc; "{{\"keyids\":[{ids}],\"threshold\":{threshold}}}")?;
-    let value = Value::from_str(layers.alloc, json.as_str())?;
-    Ok(RoleKeys::read(layers.alloc, &value)?.context("no role")?)
+    let text = format!(in layers.alloc; "{{\"keyids\":[{ids}],\"threshold\":{threshold}}}")?;
+    let json = Json::read(layers.alloc, text.as_str())?;
+    Ok(RoleKeys::read(layers.alloc, &json.tree)?.context("no role")?)
 }
 
 fn push_id<R: Files + AllocGlobal + Clone + Drop>(
@@ -190,7 +189,10 @@ fn signature<R: Files + AllocGlobal + Clone + Drop>(
         return Ok(String::new(layers.alloc));
     }
     let (name, how) = word.split_once(".").unwrap_or((word, ""));
-    let mut text = part(layers, name, "sig")?;
+    spelled(part(layers, name, "sig")?, how)
+}
+
+fn spelled(mut text: String, how: &str) -> Result<String> {
     match how {
         "" => {}
         "capitals" => text.make_ascii_uppercase(),
