@@ -26,7 +26,8 @@ use std::alloc::{AllocError, Global};
 pub fn canonical(alloc: Global, v: &Value) -> Result<Vec<u8>, CanonicalFault>
     ensures ok { IfOk result (λ bytes. canon (view v.now) ≡ Some bytes.items) }
     ensures float { result ≡ Err CanonicalFault.Float → canon (view v.now) ≡ None }
-    ensures not_whole { result ≡ Err CanonicalFault.Float → has_whole_numbers (view v.now) ≡ false }
+    ensures not_whole { result ≡ Err CanonicalFault.Float
+        → has_whole_numbers (view v.now) ≡ false }
     ensures utf8 { IfOk result (λ bytes. IsUtf8 bytes.items) }
 
     // No other tree has this text.
@@ -44,7 +45,8 @@ fn write(value: &Value, out: &mut Vec<u8>) -> Result<(), CanonicalFault>
     ensures utf8 { OnOk result (IsUtf8 out.old.items → IsUtf8 out.new.items) }
     ensures whole { OnOk result (has_whole_numbers (view value.now) ≡ true) }
     ensures ordered { OnOk result (is_ordered (view value.now) ≡ true) }
-    ensures float { result ≡ Err CanonicalFault.Float → has_whole_numbers (view value.now) ≡ false }
+    ensures float { result ≡ Err CanonicalFault.Float
+        → has_whole_numbers (view value.now) ≡ false }
 {
     match value {
         Value::Null => Ok(out.extend_from_slice(b"null")?),

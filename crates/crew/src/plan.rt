@@ -154,7 +154,8 @@ impl<'a> Plan<'a> {
     /// at most.
     pub fn place_of(&self, ask: &Ask) -> Option<usize>
         ensures some { IfSome result (λ j. slice_get self.now j ≡ Some (question_of ask.now)) }
-        ensures none { IfNone result ((j : ℕ) → slice_get self.now j ≢ Some (question_of ask.now)) }
+        ensures none { IfNone result
+            ((j : ℕ) → slice_get self.now j ≢ Some (question_of ask.now)) }
     {
         let mark = mark(ask);
         let j = *self.index.get(&mark)?;

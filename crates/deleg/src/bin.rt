@@ -60,7 +60,8 @@ fn push_number(text: &mut String, number: u32, digits: u32) -> Result<(), AllocE
 
 fn push_digit(text: &mut String, digit: u32) -> Result<(), AllocError>
     requires { digit < 16 }
-    ensures { OnOk result (string_bytes text.new ≡ string_bytes text.old ++ digit_char digit ∷ []) }
+    ensures { OnOk result (string_bytes text.new
+        ≡ string_bytes text.old ++ digit_char digit ∷ []) }
 {
     let Some(c) = char::from_digit(digit, 16) else {
         unreachable!()

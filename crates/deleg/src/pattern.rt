@@ -105,7 +105,8 @@ fn is_separator(c: char) -> bool
 
 /// The first character of a text, and the others.
 fn split_first(text: &str) -> Option<(char, &str)>
-    ensures { MatchOption result (chars text.now ≡ []) (λ x. chars text.now ≡ x.0 ∷ chars x.1.now) }
+    ensures { MatchOption result (chars text.now ≡ [])
+        (λ x. chars text.now ≡ x.0 ∷ chars x.1.now) }
 {
     let mut left = text.chars();
     let c = left.next()?;

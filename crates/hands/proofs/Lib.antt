@@ -1,4 +1,5 @@
 pub mod Deals
 pub mod Owned
 pub mod PartLemmas
+pub mod Turning
 mod WorkedValues

@@ -33,7 +33,7 @@ fn filled(alloc: Global, count: usize, workers: usize) -> Result<Vec<Hand>, NoMe
     let mut from = 0;
     for k in 0..workers {
         let end = end_below(count, workers, k, from);
-        hands.push(Hand::filled(alloc, count, from, end)?)?;
+        hands.push(Hand::filled(alloc, count, workers, from, end)?)?;
         from = end;
     }
     Ok(hands)

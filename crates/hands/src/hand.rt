@@ -2,6 +2,7 @@
 ghost use Rattle.std.specs.Prelude.{◌≡◌, ◌≤◌, ◌<◌, IfOk, IfSome};
 ghost use Rattle.crossbeam_deque.specs.Handles.{stealer_deque, worker_deque};
 ghost use Rattle.hands.specs.Deques.{IsOwn, IsOther, Thief};
+ghost use Rattle.hands.specs.Turns.{HasTurn};
 
 use crate::deck::{Deck, Thief, another, filled, pop, steal};
 use crate::rule::Took;
@@ -45,6 +46,7 @@ impl Other {
 #[derive(Drop)]
 pub struct Hand {
     count: usize,
+    workers: usize,
     from: usize,
     end: usize,
     own: Deck,
@@ -54,32 +56,39 @@ pub struct Hand {
 }
 
 impl Model for Hand {
-    ghost use Rattle.std.specs.Prelude.{◌≡◌, All};
+    ghost use Rattle.std.specs.Prelude.{◌≡◌, ◌<◌, All};
     ghost use Rattle.hands.specs.Parts.{Part};
     ghost use Rattle.hands.specs.Deques.{IsOwn};
 
     ghost Value = { Part };
 
-    ghost view = { λ h. record { count = h.count; from = h.from; end = h.end } };
+    ghost view = { λ h.
+        record { count = h.count; workers = h.workers; from = h.from; end = h.end } };
 
     ghost invariant = { λ h.
-        IsOwn h.count h.from h.end h.own × All (λ o. o ≡ h.count) h.others.items };
+        IsOwn h.count h.from h.end h.own × All (λ o. o ≡ h.count) h.others.items
+        × (0 < h.workers) };
 }
 
 impl Hand {
-    // A hand of the numbers from `from` up to `end`, of those below `count`, with no way to others.
+    // A hand of the numbers from `from` up to `end`, of those below `count` that are dealt to so
+    // many workers, with no way to others.
     pub(crate) fn filled(
         alloc: Global,
         count: usize,
+        workers: usize,
         from: usize,
         end: usize,
     ) -> Result<Hand, NoMemory>
+        requires some { 0 < workers }
         requires order { from ≤ end }
         requires below { end ≤ count }
-        ensures part { IfOk result (λ h. h ≡ record { count = count; from = from; end = end }) }
+        ensures part { IfOk result (λ h.
+            h ≡ record { count = count; workers = workers; from = from; end = end }) }
     {
         Ok(Hand {
             count,
+            workers,
             from,
             end,
             own: filled_below(alloc, count, from, end)?,
@@ -146,13 +155,14 @@ impl Hand {
         }
     }
 
-    /// Where a number comes if the parts of all hands are taken in turns: the first number of each
-    /// comes first, then the second ones, and so on. No two numbers come at one place.
+    /// Where a number comes if the parts of all workers are taken in turns: the first number of
+    /// each comes first, then the second ones, and so on. No two numbers come at one place.
     pub fn turn(&self, n: usize) -> usize
         requires below { n < self.now.count }
+        ensures turn { HasTurn self.now.count self.now.workers n result }
         ensures below { result < self.now.count }
     {
-        turn_of(self.count, self.others.len().saturating_add(1), n)
+        turn_of(self.count, self.workers, n)
     }
 }
 

@@ -1,25 +1,32 @@
 //! The order of the numbers where the parts are taken in turns.
 
-ghost use Rattle.std.specs.Prelude.{◌<◌};
+ghost use Rattle.std.specs.Prelude.{◌≡◌, ◌<◌};
+ghost use Rattle.hands.specs.Turns.{IsNumber, HasTurn};
 
-// Where number `n` comes if even parts, of so many hands, are taken in turns: the first numbers of
-// all parts come first, then the second ones, and so on.
-pub(crate) fn turn_of(count: usize, hands: usize, n: usize) -> usize
-    requires hands { 0 < hands }
+// Where number `n` comes if the parts of all workers are taken in turns: the first numbers of all
+// parts come first, then the second ones, and so on.
+pub(crate) fn turn_of(count: usize, workers: usize, n: usize) -> usize
+    requires some { 0 < workers }
     requires below { n < count }
+    ensures turn { HasTurn count workers n result }
     ensures below { result < count }
 {
-    let (size, longer) = (count / hands, count % hands);
-    let border = longer.saturating_mul(size.saturating_add(1));
-    let (hand, nth) = if n < border {
-        (n / size.saturating_add(1), n % size.saturating_add(1))
+    let (k, before) = place_of(count, workers, n);
+    before * workers + k
+}
+
+// The part that number `n` is of, and how many of its numbers come before.
+fn place_of(count: usize, workers: usize, n: usize) -> (usize, usize)
+    requires some { 0 < workers }
+    requires below { n < count }
+    ensures { IsNumber count workers n result.0 result.1 }
+{
+    let (size, longer) = (count / workers, count % workers);
+    let border = longer * size + longer;
+    if n < border {
+        (n / (size + 1), n % (size + 1))
     } else {
         let beyond = n - border;
-        (
-            longer.saturating_add(beyond / size.max(1)),
-            beyond % size.max(1),
-        )
-    };
-    let turn = nth.saturating_mul(hands).saturating_add(hand);
-    if turn < count { turn } else { n }
+        (longer + beyond / size, beyond % size)
+    }
 }

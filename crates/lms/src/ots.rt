@@ -130,7 +130,8 @@ fn digit(width: Width, signed: &[u8; 34], i: usize) -> u8
 
 // The digits of the chains in the digest `s`, and then zeros.
 pub(crate) fn digits_of(width: Width, s: &Node) -> [u8; MOST_CHAINS]
-    ensures digits { (i : ℕ) → i < chain_count width → slice_index result i ≡ digit width s.now i }
+    ensures digits { (i : ℕ) → i < chain_count width
+        → slice_index result i ≡ digit width s.now i }
     ensures rest { (i : ℕ) → chain_count width ≤ i → slice_index result i ≡ 0 }
 {
     let signed = with_checksum(width, s);

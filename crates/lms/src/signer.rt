@@ -111,7 +111,8 @@ fn push_values(
     width: Width,
     values: &[Node; MOST_CHAINS],
 ) -> Result<(), AllocError>
-    ensures { OnOk result (sig.new.items ≡ sig.old.items ++ row_of values.now (chain_count width)) }
+    ensures { OnOk result (sig.new.items
+        ≡ sig.old.items ++ row_of values.now (chain_count width)) }
 {
     'chains: for i in 0..usize::from(width.chain_count()) {
         sig.extend_from_slice(&values[i])?;
@@ -242,7 +243,8 @@ impl Secret {
     /// of a chain 0xfffd would be, so the key, the leaf and the message determine the signature.
     #[tactic(auto, using(crate::proofs::Valid::signature_is_valid))]
     pub fn sign(&mut self, msg: &[u8]) -> Result<Vec<u8>, SignFault>
-        ensures ok { IfOk result (λ sig. sig.items ≡ signature_by self.old self.old.used msg.now) }
+        ensures ok { IfOk result
+            (λ sig. sig.items ≡ signature_by self.old self.old.used msg.now) }
         ensures valid { IfOk result
             (λ sig. IsTrue (is_valid (public_of self.old) msg.now sig.items)) }
         ensures next { OnOk result (self.new ≡ record self.old { used = self.old.used + 1 }) }

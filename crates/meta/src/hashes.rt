@@ -36,7 +36,8 @@ impl FromJson for Hashes {
 
 fn has_only_texts(members: &Map<String, Value>) -> bool
     ensures { result
-        ≡ form_of.all_members (λ value. is_some (as_str value)) (members_view members.now.entries) }
+        ≡ form_of.all_members (λ value. is_some (as_str value))
+        (members_view members.now.entries) }
 {
     for (_, value) in members.iter() {
         if !value.is_string() {

@@ -36,7 +36,8 @@ pub(crate) fn read_header(alloc: Global, kind: &str, value: &Value) -> Result<He
 
 fn is_of_version_one(value: &Value) -> bool
     ensures { result
-        ≡ form_of.has_text (codes "spec_version") (spec.begins_with (codes "1.")) (view value.now) }
+        ≡ form_of.has_text (codes "spec_version") (spec.begins_with (codes "1."))
+        (view value.now) }
 {
     match value.get("spec_version").and_then(Value::as_str) {
         Some(found) => found.as_bytes().starts_with(b"1."),

@@ -26,7 +26,8 @@ pub fn versioned(
     version: u64,
     name: &str,
 ) -> Result<String, AllocError>
-    ensures name { IfOk result (λ s. string_bytes s ≡ spec.versioned consistent version name.now) }
+    ensures name { IfOk result
+        (λ s. string_bytes s ≡ spec.versioned consistent version name.now) }
 {
     if consistent {
         format!(in alloc; "{version}.{name}")

@@ -1,10 +1,9 @@
 -- The moment that a text spells is the one that is read from it.
-use Rattle.std.proofs.Common.{arith, subst, sym, ◌∙◌, ap, pos, ◌≡◌, ℕ, ◌+◌, ◌*◌, ◌-◌, ◌/◌, ◌%◌, ◌<◌, ◌≤◌, ◌&&◌, true, refl, if◌then◌else◌, List, length, Some, None, slice_index}
+use Rattle.std.proofs.Common.{arith, sym, ◌∙◌, ap, ◌≡◌, ℕ, ◌+◌, ◌*◌, ◌-◌, ◌/◌, ◌%◌, ◌<◌, ◌≤◌, ◌&&◌, true, refl, if◌then◌else◌, List, length, Some, None, slice_index}
 use Rattle.std.proofs.lemmas.Bool.Decides.{nat_tests}
 use Rattle.std.proofs.lemmas.Bool.{and_parts, and_from, false_from_ne_true, eqb-true}
 use Rattle.std.proofs.lemmas.Slice.Eq.{text_from_reads}
-use Rattle.jiff_core.specs.Calendar.{IsDate}
-use Rattle.moment.specs.Moment.{Moment, Stamp, IsStamp, IsMomentText, moment_of, stamp_text, moment_at, stamp_at, is_digit, is_laid_out, is_stamp, has, has_digits}
+use Rattle.moment.specs.Moment.{Moment, Stamp, IsStamp, IsMomentText, moment_of, stamp_text, moment_at, stamp_at, is_digit, is_laid_out, is_stamp, has, has_digits, HasDigits}
 
 -- the two digits that are written of a number are digits, and are read as that number
 ones_stand : (n : ℕ) → is_digit (48 + n % 10) ≡ true
@@ -26,13 +25,10 @@ is_stamp-from : (s : Stamp) → IsStamp s → is_stamp s ≡ true
 is_stamp-from s is = grind (arith, nat_tests)
 
 -- the numbers have no more digits than are written
-abbrev IsSmall : Stamp → Type 0
-IsSmall s = (s.year < 10000) × (s.month < 100) × (s.day < 100) × (s.hour < 100) × (s.minute < 100) × (s.second < 100)
-
-small_from : (s : Stamp) → IsStamp s → IsSmall s
+small_from : (s : Stamp) → IsStamp s → HasDigits s
 small_from s is = (grind (arith, nat_tests), grind (arith, nat_tests), grind (arith, nat_tests), omega arith, omega arith, omega arith)
 
-laid_out : (s : Stamp) → IsSmall s → is_laid_out (stamp_text s) ≡ true
+laid_out : (s : Stamp) → HasDigits s → is_laid_out (stamp_text s) ≡ true
 laid_out s small =
     let early : s.year / 100 < 100 = omega arith in
     let late : s.year % 100 < 100 = omega arith in
@@ -49,12 +45,12 @@ the_moment text m (s, (is, spells, value)) =
     ∙ ap (λ t. Some (moment_at t)) same ∙ ap (λ x. Some x) (sym value)
 
 -- two digits from place i on
-abbrev HasDigits : List ℕ → ℕ → Type 0
-HasDigits text i =
+abbrev AreDigits : List ℕ → ℕ → Type 0
+AreDigits text i =
     (48 ≤ slice_index text i) × (slice_index text i ≤ 57)
     × (48 ≤ slice_index text (i + 1)) × (slice_index text (i + 1) ≤ 57)
 
-digits_from : (text : List ℕ) (i : ℕ) → has_digits text i ≡ true → HasDigits text i
+digits_from : (text : List ℕ) (i : ℕ) → has_digits text i ≡ true → AreDigits text i
 digits_from text i h = grind (arith, nat_tests)
 
 mark_from : (text : List ℕ) (i c : ℕ) → has text i c ≡ true → slice_index text i ≡ c
@@ -63,18 +59,18 @@ mark_from text i c h = grind (arith, nat_tests)
 -- what stands where
 record IsLaidOut (text : List ℕ) : Type 0 where
   len : length text ≡ 20
-  century : HasDigits text 0
-  year : HasDigits text 2
+  century : AreDigits text 0
+  year : AreDigits text 2
   dash : slice_index text 4 ≡ 45
-  month : HasDigits text 5
+  month : AreDigits text 5
   second_dash : slice_index text 7 ≡ 45
-  day : HasDigits text 8
+  day : AreDigits text 8
   t : slice_index text 10 ≡ 84
-  hour : HasDigits text 11
+  hour : AreDigits text 11
   colon : slice_index text 13 ≡ 58
-  minute : HasDigits text 14
+  minute : AreDigits text 14
   second_colon : slice_index text 16 ≡ 58
-  second : HasDigits text 17
+  second : AreDigits text 17
   z : slice_index text 19 ≡ 90
 
 IsLaidOut-from : (text : List ℕ) → is_laid_out text ≡ true → IsLaidOut text
@@ -134,10 +130,3 @@ unfolding moment_of
 no_moment text none =
     ap (λ b. if b then Some (moment_at (stamp_at text)) else None)
     (false_from_ne_true _ (λ both. none (moment_at (stamp_at text)) (spelled text both)))
-
--- a text spells one date, so if one spelling is in the calendar, so is each
-pub date_of_same : (a b : Stamp) → stamp_text a ≡ stamp_text b
-    → IsDate (pos a.year) (pos a.month) (pos a.day) → IsDate (pos b.year) (pos b.month) (pos b.day)
-date_of_same a b e is =
-    let in_calendar : Stamp → Type 0 = λ s. IsDate (pos s.year) (pos s.month) (pos s.day) in
-    subst in_calendar (sym (stamp_at-stamp_text a) ∙ ap stamp_at e ∙ stamp_at-stamp_text b) is

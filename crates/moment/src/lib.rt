@@ -31,48 +31,44 @@ impl Model for Moment {
     ghost inverse = { λ m. record { day = m.day; second = m.second } };
 }
 
+/// A date and a time of day, in the calendar or not.
+#[derive(Drop)]
+struct Stamp {
+    year: u16,
+    month: u8,
+    day: u8,
+    hour: u8,
+    minute: u8,
+    second: u8,
+}
+
+impl Model for Stamp {
+    ghost use Rattle.moment.specs.Moment as spec;
+
+    ghost Value = { spec.Stamp };
+
+    ghost view = { λ s. record {
+      year = s.year;
+      month = s.month;
+      day = s.day;
+      hour = s.hour;
+      minute = s.minute;
+      second = s.second;
+    } };
+}
+
 impl Moment {
     /// The moment that a text of the form `YYYY-MM-DDTHH:MM:SSZ` spells, for a real date from year
     /// 0000 to 9999, hours 00 to 23, and minutes and seconds 00 to 59 (TUF 1.0 section 4.2.1).
     /// `None` for any other text.
-    #[tactic(auto, using(crate::proofs::Stamps::no_moment, crate::proofs::Stamps::the_moment))]
     pub fn read(text: &str) -> Option<Moment>
         ensures value { result ≡ spec.moment_of text.now }
         ensures some { IfSome result (λ m. spec.IsMomentText text.now m) }
         ensures none { IsNone result → (m : spec.Moment) → spec.IsMomentText text.now m → ⊥ }
     {
-        let [
-            y1,
-            y2,
-            y3,
-            y4,
-            b'-',
-            m1,
-            m2,
-            b'-',
-            d1,
-            d2,
-            b'T',
-            h1,
-            h2,
-            b':',
-            i1,
-            i2,
-            b':',
-            s1,
-            s2,
-            b'Z',
-        ] = text.as_bytes()
-        else {
-            return None;
-        };
-        let year = 100 * u16::from(number(*y1, *y2)?) + u16::from(number(*y3, *y4)?);
-        let month = number(*m1, *m2)?;
-        let day = number(*d1, *d2)?;
-        let hour = number(*h1, *h2)?;
-        let minute = number(*i1, *i2)?;
-        let second = second_of_day(hour, minute, number(*s1, *s2)?)?;
-        let day = day_number(year, month, day)?;
+        let stamp = stamp_of(text)?;
+        let second = second_of_day(stamp.hour, stamp.minute, stamp.second)?;
+        let day = day_number(stamp.year, stamp.month, stamp.day)?;
         Some(Moment { day, second })
     }
 
@@ -114,10 +110,52 @@ impl Moment {
     }
 }
 
+/// The date and the time of day that a text of that form spells, in the calendar or not.
+fn stamp_of(text: &str) -> Option<Stamp>
+    ensures some { IfSome result (λ s. spec.HasDigits s × (text.now ≡ spec.stamp_text s)) }
+    ensures none { IsNone result → (s : spec.Stamp) → spec.HasDigits s
+        → text.now ≡ spec.stamp_text s → ⊥ }
+{
+    let [
+        y1,
+        y2,
+        y3,
+        y4,
+        b'-',
+        m1,
+        m2,
+        b'-',
+        d1,
+        d2,
+        b'T',
+        h1,
+        h2,
+        b':',
+        i1,
+        i2,
+        b':',
+        s1,
+        s2,
+        b'Z',
+    ] = text.as_bytes()
+    else {
+        return None;
+    };
+    Some(Stamp {
+        year: 100 * u16::from(number(*y1, *y2)?) + u16::from(number(*y3, *y4)?),
+        month: number(*m1, *m2)?,
+        day: number(*d1, *d2)?,
+        hour: number(*h1, *h2)?,
+        minute: number(*i1, *i2)?,
+        second: number(*s1, *s2)?,
+    })
+}
+
 /// The number that two decimal digits spell.
 fn number(tens: u8, ones: u8) -> Option<u8>
     ensures value { IfSome result (λ n. (n < 100) × (spec.two_digits n ≡ tens ∷ ones ∷ [])) }
-    ensures none { IsNone result → (n : ℕ) → n < 100 → spec.two_digits n ≡ tens ∷ ones ∷ [] → ⊥ }
+    ensures none { IsNone result → (n : ℕ) → n < 100
+        → spec.two_digits n ≡ tens ∷ ones ∷ [] → ⊥ }
 {
     match (tens, ones) {
         (b'0'..=b'9', b'0'..=b'9') => Some(10 * (tens - b'0') + (ones - b'0')),

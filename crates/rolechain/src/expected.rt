@@ -59,7 +59,8 @@ pub(crate) fn due_snapshot<'a>(
     listing: &'a Listing,
     name: &'a str,
 ) -> Expectation<'a>
-    requires { name.now ≡ due_name root.now.consistent listing.now.version (codes "snapshot.json") }
+    requires { name.now
+        ≡ due_name root.now.consistent listing.now.version (codes "snapshot.json") }
     ensures { expectation result ≡ spec.next_snapshot root.now listing.now }
 {
     Expectation {

@@ -30,7 +30,8 @@ pub fn init<S: System, W: Write>(
         (S.keeps system.new state.now) (W.contents out.old) (W.contents out.new)) }
     ensures refused { IfOk result (λ status. status ≡ 2 → IsRefused (S.gives system.old root.now)
         (W.contents out.old) (W.contents out.new)) }
-    ensures kept { IfOk result (λ status. status ≡ 2 → S.keeps system.new ≡ S.keeps system.old) }
+    ensures kept { IfOk result
+        (λ status. status ≡ 2 → S.keeps system.new ≡ S.keeps system.old) }
 {
     let bytes = read_file(system, root, Failure::Input)?;
     match Trusted::from_root(alloc, bytes.as_slice()) {

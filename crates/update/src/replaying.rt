@@ -95,7 +95,8 @@ pub fn replay_from<
         (AreLoaded (λ f. IsLoaded (M.lists f.metadata) (M.holds f.metadata))
         (λ f. IsLoaded (T.lists f.targets) (T.holds f.targets)) folders.items)
         (start_of cycles.now.start) (S.keeps system.new cycles.now.start.state.now)
-        (λ os. AreTold os (map string_bytes cycles.now.start.wanted.now) status (W.contents out.old)
+        (λ os. AreTold os (map string_bytes cycles.now.start.wanted.now) status
+        (W.contents out.old)
         (W.contents out.new))) }
     ensures order { OnErr result (((S.keeps system.new ≡ S.keeps system.old)
         × (W.contents out.new ≡ W.contents out.old)) ⊎ IsReplayed
@@ -103,7 +104,8 @@ pub fn replay_from<
         (λ f. IsLoaded (T.lists f.targets) (T.holds f.targets)) folders.items)
         (start_of cycles.now.start) (S.keeps system.new cycles.now.start.state.now) (λ _. ⊤)) }
     ensures folders { IfErr result (λ f. f ≡ Failure.Folder
-        → (S.keeps system.new ≡ S.keeps system.old) × (W.contents out.new ≡ W.contents out.old)) }
+        → (S.keeps system.new ≡ S.keeps system.old)
+        × (W.contents out.new ≡ W.contents out.old)) }
 {
     let repos = all_loaded(alloc, folders)?;
     replay_in(rt, alloc, system, cycles, repos.as_slice(), out)
@@ -240,7 +242,8 @@ fn outcomes<R: Threads + Wait + Sync>(
     keeper: &mut Keeper,
 ) -> Result<Vec<Outcome>, Failure>
     requires state { keeper.old ≡ start.now.trusted }
-    ensures outcomes { IfOk result (λ all. all.items ≡ outcomes_of (start_of start.now) repos.now) }
+    ensures outcomes { IfOk result (λ all. all.items
+        ≡ outcomes_of (start_of start.now) repos.now) }
     ensures state { OnOk result (keeper.new ≡ state_after (start_of start.now) repos.now) }
     ensures refused { IfErr result (λ f. (f ≡ Failure.Words) ⊎ (f ≡ Failure.Memory)) }
 {
@@ -260,7 +263,8 @@ fn all_of<R: Threads + Wait + Sync>(
     requires workers { workers ≤ 64 }
     ensures outcomes { IfOk result (λ all. all.items
         ≡ keeper_outcomes limits.now.roles keeper.old rounds.now) }
-    ensures state { OnOk result (keeper.new ≡ keeper_state limits.now.roles keeper.old rounds.now) }
+    ensures state { OnOk result (keeper.new
+        ≡ keeper_state limits.now.roles keeper.old rounds.now) }
     ensures refused { IfErr result (λ f. f ≡ Failure.Memory) }
 {
     Ok(keeper.cycles(rt, rounds, limits, workers, &Open)?)

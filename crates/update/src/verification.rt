@@ -30,7 +30,8 @@ pub fn verify<R: Threads + Wait + Sync, S: System, M: Folder, T: Folder, W: Writ
 ) -> Result<u8, Failure>
     ensures known { IfOk result (λ status. status ≤ 2) }
     ensures verified { IfOk result (λ status. Begins (S.gives system.old terms.now.state.now)
-        (S.shows system.old) (option_map (λ t. t.now) terms.now.moment) (λ trusted moment. IsStored
+        (S.shows system.old) (option_map (λ t. t.now) terms.now.moment)
+        (λ trusted moment. IsStored
         (IsLoaded (M.lists folders.old.metadata) (M.holds folders.old.metadata))
         (IsLoaded (T.lists folders.old.targets) (T.holds folders.old.targets))
         (start_from terms.now trusted moment) (S.keeps system.new terms.now.out.now)
@@ -69,7 +70,8 @@ pub fn verify_from<R: Threads + Wait + Sync, S: System, M: Folder, T: Folder, W:
         (IsLoaded (T.lists folders.old.targets) (T.holds folders.old.targets))
         (start_of start.now) (S.keeps system.new start.now.state.now) (λ _. ⊤)) }
     ensures folders { IfErr result (λ f. f ≡ Failure.Folder
-        → (S.keeps system.new ≡ S.keeps system.old) × (W.contents out.new ≡ W.contents out.old)) }
+        → (S.keeps system.new ≡ S.keeps system.old)
+        × (W.contents out.new ≡ W.contents out.old)) }
 {
     let repo = loaded(alloc, folders)?;
     verify_in(rt, alloc, system, start, &repo, out)

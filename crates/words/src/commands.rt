@@ -40,17 +40,6 @@ fn with_commands<'a>(
     Ok(program)
 }
 
-fn with_arguments<'a>(
-    command: Command<'a>,
-    arguments: [Arg<'a>; 8],
-) -> Result<Command<'a>, AllocError> {
-    let mut command = command;
-    for argument in arguments {
-        command = command.arg(argument)?;
-    }
-    Ok(command)
-}
-
 fn init_command<'a>(alloc: Global) -> Result<Command<'a>, AllocError> {
     Command::new(alloc, "init")
         .about("Trusts a root file and writes the first state")
@@ -63,7 +52,7 @@ fn verify_command<'a>(alloc: Global) -> Result<Command<'a>, AllocError> {
     let command = Command::new(alloc, "verify")
         .about("Brings the trusted state up to date and checks wanted targets")
         .after_help(VERIFY_END);
-    let arguments = [
+    let arguments = vec![in alloc;
         option(alloc, "state", "STATE", "The trusted state"),
         metadata_option(alloc),
         targets_option(alloc),
@@ -72,8 +61,8 @@ fn verify_command<'a>(alloc: Global) -> Result<Command<'a>, AllocError> {
         workers_option(alloc),
         option(alloc, "out", "STATE", "Where the new state is written"),
         several(alloc, "PATH", "The wanted targets").num_args(0..),
-    ];
-    with_arguments(command, arguments)
+    ]?;
+    command.args(arguments)
 }
 
 fn replay_command<'a>(alloc: Global) -> Result<Command<'a>, AllocError> {
@@ -81,7 +70,7 @@ fn replay_command<'a>(alloc: Global) -> Result<Command<'a>, AllocError> {
         .about("Verifies repositories one after another, as `verify` does")
         .after_help(REPLAY_END);
     let repositories = several(alloc, "DIR", "The repositories, in order");
-    let arguments = [
+    let arguments = vec![in alloc;
         option(alloc, "state", "STATE", "The trusted state"),
         now_option(alloc),
         limit_option(alloc),
@@ -90,8 +79,8 @@ fn replay_command<'a>(alloc: Global) -> Result<Command<'a>, AllocError> {
         option(alloc, "out", "STATE", "Where the last state is written"),
         file(alloc, "PATH", "The wanted target"),
         repositories.required(true).num_args(1..),
-    ];
-    with_arguments(command, arguments)
+    ]?;
+    command.args(arguments)
 }
 
 fn make_command<'a>(alloc: Global) -> Result<Command<'a>, AllocError> {

@@ -32,7 +32,8 @@ pub fn signed_bytes(alloc: Global, file: &[u8]) -> Result<Doc, DocFault>
         → option_map has_whole_numbers (spec.signed_in file.now) ≡ Some false }
 
     // The keys of a tree that is read ascend, whatever the file.
-    ensures ordered { (tree : Data) → spec.tree_of file.now ≡ Some tree → is_ordered tree ≡ true }
+    ensures ordered { (tree : Data) → spec.tree_of file.now ≡ Some tree
+        → is_ordered tree ≡ true }
 {
     let tree = read_json(alloc, file)?;
     let canonical = match signed_of(&tree) {
