@@ -74,8 +74,8 @@ def grouped(edits):
     return groups
 
 
-def checked(crate, edits):
-    """What a check says of the crate with these edits."""
+def write(crate, edits):
+    """Makes the copy's crate this one with these edits."""
     own, folder = TOP / "crates" / crate, COPY / "crates" / crate
     for part in ("src", "specs", "proofs"):
         shutil.rmtree(folder / part, ignore_errors=True)
@@ -84,6 +84,12 @@ def checked(crate, edits):
     for edit in edits:
         for file, old, new in edit.pairs:
             (folder / file).write_text(replaced(edit.name, (folder / file).read_text(), old, new))
+
+
+def checked(crate, edits):
+    """What a check says of the crate with these edits."""
+    write(crate, edits)
+    folder = COPY / "crates" / crate
     pipes = {"stdin": subprocess.DEVNULL, "stdout": subprocess.PIPE, "stderr": subprocess.STDOUT}
     return subprocess.run(["rt", "check"], cwd=folder, text=True, errors="replace", **pipes).stdout
 
@@ -132,6 +138,8 @@ def main(crates):
             for name, end in tried(crate, group):
                 counts[end] += 1
                 print(end, name, flush=True)
+        # (those above it are tried over it as it stands)
+        write(crate, [])
     print(", ".join(f"{count} {end.lower()}" for end, count in counts.items()))
     return 2 if counts["UNTRIED"] else 1 if counts["PROVED"] else 0
 

@@ -29,10 +29,20 @@ def canonical(tree):
     return text(tree) if isinstance(tree, str) else json.dumps(tree).encode()
 
 
-class Key:
-    """A key of LMOTS_SHA256_N32_W8 and LMS_SHA256_M32_H5, whose 32 leaves sign once each."""
+def digits(width, value):
+    """The digits of a digest and of their checksum, each of 8 or of 4 bits (RFC 8554 sections 3.1.3 and 4.4)."""
+    if width == 8:
+        return [*value, *number(sum(255 - it for it in value), 2)]
+    halves = [half for it in value for half in (it >> 4, it & 15)]
+    total = sum(15 - it for it in halves)
+    return [*halves, total >> 8, total >> 4 & 15, total & 15]
 
-    def __init__(self, seed):
+
+class Key:
+    """A key of LMS_SHA256_M32_H5 and LMOTS_SHA256_N32_W8 or _W4, whose 32 leaves sign once each."""
+
+    def __init__(self, seed, width=8):
+        self.width, self.chains, self.code = (8, 34, 4) if width == 8 else (4, 67, 3)
         self.name = bytes([seed]) * 16
         self.seed = bytes([seed]) * 32
         self.used = 0
@@ -40,7 +50,7 @@ class Key:
         for node in range(31, 0, -1):
             below = self.nodes[2 * node], self.nodes[2 * node + 1]
             self.nodes[node] = digest(self.name, number(node, 4), b"\x83\x83", *below)
-        public = number(5, 4) + number(4, 4) + self.name + self.nodes[1]
+        public = number(5, 4) + number(self.code, 4) + self.name + self.nodes[1]
         self.object = {"keytype": "lms", "keyval": {"public": public.hex()}, "scheme": "lms-sha256"}
         self.id = digest(canonical(self.object)).hex()
 
@@ -54,7 +64,8 @@ class Key:
         return value
 
     def leaf(self, leaf):
-        ends = [self.carried(leaf, chain, self.start(leaf, chain), 255) for chain in range(34)]
+        steps = 2**self.width - 1
+        ends = [self.carried(leaf, chain, self.start(leaf, chain), steps) for chain in range(self.chains)]
         kept = digest(self.name, number(leaf, 4), b"\x80\x80", *ends)
         return digest(self.name, number(32 + leaf, 4), b"\x82\x82", kept)
 
@@ -64,11 +75,10 @@ class Key:
         if leaf == 32:
             raise ValueError("a key signs 32 times")
         seasoning = self.start(leaf, 0xFFFD)
-        digits = digest(self.name, number(leaf, 4), b"\x81\x81", seasoning, message)
-        digits += number(sum(255 - digit for digit in digits), 2)
-        ends = [self.carried(leaf, chain, self.start(leaf, chain), steps) for chain, steps in enumerate(digits)]
+        steps = digits(self.width, digest(self.name, number(leaf, 4), b"\x81\x81", seasoning, message))
+        ends = [self.carried(leaf, chain, self.start(leaf, chain), many) for chain, many in enumerate(steps)]
         path = [self.nodes[((32 + leaf) >> level) ^ 1] for level in range(5)]
-        return b"".join([number(leaf, 4), number(4, 4), seasoning, *ends, number(5, 4), *path])
+        return b"".join([number(leaf, 4), number(self.code, 4), seasoning, *ends, number(5, 4), *path])
 
 
 def signed(part, key, before=b""):

@@ -1,0 +1,439 @@
+"""Verifies a repository as docs/FORMATS.md says (TUF 1.0 sections 4 and 5, RFC 8554), for second.py beside it. It was
+written from that page and shares no code with the crates. A file's tree is what Python's `json` reads, but for what the
+page says otherwise; a float in it is a `Float`."""
+import hashlib
+import json
+import math
+import re
+
+import tuf
+
+MOST = 2**63 - 1
+KINDS = ("root", "timestamp", "snapshot", "targets")
+LIMITS = {"root": 512_000, "timestamp": 16_384, "snapshot": 2_000_000, "targets": 5_000_000}
+WIDTHS = {3: (4, 67), 4: (8, 34)}
+HEIGHTS = {5: 5, 6: 10, 7: 15}
+LENGTHS = {"sha256": 64, "sha512": 128}
+
+
+class Refused(Exception):
+    """The fault of a file."""
+
+
+class Float:
+    """A number that isn't whole."""
+
+
+# ---- JSON (TUF section 4.1)
+
+def of_float(spelled):
+    if math.isinf(float(spelled)):
+        raise ValueError(spelled)
+    return Float()
+
+
+def of_int(spelled):
+    whole = spelled != "-0" and len(spelled) < 21 and -(2**63) <= int(spelled) < 2**64
+    return int(spelled) if whole else of_float(spelled)
+
+
+def of_word(spelled):
+    raise ValueError(spelled)
+
+
+def depth(tree):
+    below = tree.values() if isinstance(tree, dict) else tree if isinstance(tree, list) else None
+    return 0 if below is None else 1 + max(map(depth, below), default=0)
+
+
+def texts(tree):
+    """All texts of the tree, keys too."""
+    if isinstance(tree, dict):
+        for key, value in tree.items():
+            yield key
+            yield from texts(value)
+    elif isinstance(tree, list):
+        for item in tree:
+            yield from texts(item)
+    elif isinstance(tree, str):
+        yield tree
+
+
+def tree_of(content):
+    try:
+        tree = json.loads(content.decode(), parse_float=of_float, parse_int=of_int, parse_constant=of_word)
+        for text in texts(tree):
+            text.encode()
+    except (ValueError, RecursionError):
+        raise Refused("Malformed") from None
+    ask(depth(tree) <= 127)
+    return tree
+
+
+def has_float(tree):
+    below = tree.values() if isinstance(tree, dict) else tree if isinstance(tree, list) else ()
+    return isinstance(tree, Float) or any(map(has_float, below))
+
+
+# ---- what files say (TUF sections 4.2 to 4.6)
+
+def ask(holds, fault="Malformed"):
+    if not holds:
+        raise Refused(fault)
+
+
+def member(tree, name, kind):
+    """A needed member of that Python type."""
+    ask(isinstance(tree, dict) and type(tree.get(name)) is kind)
+    return tree[name]
+
+
+def whole(tree, name, least=1):
+    value = member(tree, name, int)
+    ask(least <= value <= MOST)
+    return value
+
+
+def words(tree, name):
+    value = member(tree, name, list)
+    ask(all(isinstance(it, str) for it in value))
+    return value
+
+
+def truth(tree, name):
+    return member(tree, name, bool) if name in tree else False
+
+
+def moment(text):
+    """A moment as numbers, which are compared from the year on."""
+    ask(re.fullmatch("[0-9]{4}-[0-9]{2}-[0-9]{2}T[0-9]{2}:[0-9]{2}:[0-9]{2}Z", text, re.ASCII))
+    year, month, day, hour, minute, second = found = tuple(map(int, re.findall("[0-9]+", text)))
+    leap = year % 4 == 0 and (year % 100 != 0 or year % 400 == 0)
+    days = (31, 29 if leap else 28, 31, 30, 31, 30, 31, 31, 30, 31, 30, 31)
+    ask(1 <= month <= 12 and 1 <= day <= days[month - 1] and hour < 24 and minute < 60 and second < 60)
+    return found
+
+
+def role(tree):
+    return {"keyids": words(tree, "keyids"), "threshold": whole(tree, "threshold")}
+
+
+def hashes(tree):
+    found = member(tree, "hashes", dict)
+    for algorithm, value in found.items():
+        ask(isinstance(value, str))
+        ask(algorithm not in LENGTHS or re.fullmatch(f"[0-9a-fA-F]{{{LENGTHS[algorithm]}}}", value))
+    return {algorithm: value.lower() for algorithm, value in found.items()}
+
+
+def content_of(tree):
+    length = whole(tree, "length", 0) if "length" in tree else None
+    return {"length": length, "hashes": hashes(tree) if "hashes" in tree else None}
+
+
+def listing(tree):
+    return {"version": whole(tree, "version"), **content_of(tree)}
+
+
+def target(tree):
+    ask(isinstance(tree, dict) and "length" in tree and "hashes" in tree)
+    return content_of(tree)
+
+
+def keys(tree):
+    found = member(tree, "keys", dict)
+    ask(all(isinstance(key, dict) for key in found.values()))
+    return found
+
+
+def matcher(tree):
+    """What tells whether a delegation is for a path."""
+    ask(("paths" in tree) != ("path_hash_prefixes" in tree))
+    if "paths" in tree:
+        patterns = words(tree, "paths")
+        ask(not any("[" in pattern for pattern in patterns))
+        spelled = [re.sub(r"[*?]|[^*?]+", lambda it: {"*": "[^/]*", "?": "[^/]"}.get(it[0]) or re.escape(it[0]), pattern)
+                   for pattern in patterns]
+        return lambda path: any(re.fullmatch(pattern, path, re.DOTALL) for pattern in spelled)
+    prefixes = words(tree, "path_hash_prefixes")
+    ask(all(re.fullmatch("[0-9a-f]{1,64}", prefix) for prefix in prefixes))
+    return lambda path: any(map(hashlib.sha256(path.encode()).hexdigest().startswith, prefixes))
+
+
+def delegation(tree):
+    return {"name": member(tree, "name", str), **role(tree), "ends": truth(tree, "terminating"), "is_for": matcher(tree)}
+
+
+def bins(tree):
+    """The one delegation for each path."""
+    shared, bits, prefix = role(tree), whole(tree, "bit_length"), member(tree, "name_prefix", str)
+    ask(bits <= 32)
+
+    def bin_of(path):
+        number = int.from_bytes(hashlib.sha256(path.encode()).digest()[:4], "big") >> (32 - bits)
+        return f"{prefix}-{number:0{len(f'{2**bits - 1:x}')}x}"
+
+    return lambda path: [{"name": bin_of(path), **shared, "ends": True}]
+
+
+def delegations(tree):
+    """The ring of the delegations' keys, and which delegations are for a path."""
+    if "delegations" not in tree:
+        return {}, lambda path: []
+    found = member(tree, "delegations", dict)
+    ask(("roles" in found) != ("succinct_roles" in found))
+    ring = keys(found)
+    if "roles" in found:
+        roles = [delegation(it) for it in member(found, "roles", list)]
+        return ring, lambda path: [it for it in roles if it["is_for"](path)]
+    return ring, bins(member(found, "succinct_roles", dict))
+
+
+def says(kind, tree):
+    """What the signed part of a file of that kind says."""
+    ask(tree.get("_type") == kind and member(tree, "spec_version", str).startswith("1."))
+    found = {"version": whole(tree, "version"), "expires": moment(member(tree, "expires", str))}
+    if kind == "root":
+        roles = member(tree, "roles", dict)
+        found |= {"keys": keys(tree), "roles": {name: role(roles.get(name)) for name in KINDS},
+                  "consistent": truth(tree, "consistent_snapshot")}
+    elif kind == "targets":
+        listed = member(tree, "targets", dict)
+        found |= {"targets": {path: target(it) for path, it in listed.items()}}
+        found["ring"], found["followed"] = delegations(tree)
+    elif kind == "timestamp":
+        found["snapshot"] = listing(member(tree, "meta", dict).get("snapshot.json"))
+    else:
+        found["meta"] = {name: listing(it) for name, it in member(tree, "meta", dict).items()}
+    return found
+
+
+def read(kind, content):
+    """A file of that kind: what it says, its bytes, and who signed which text."""
+    tree = tree_of(content)
+    part = member(tree, "signed", dict)
+    ask(not has_float(part))
+    entries = [(member(it, "keyid", str), member(it, "sig", str)) for it in member(tree, "signatures", list)]
+    return {**says(kind, part), "bytes": content, "text": tuf.canonical(part), "entries": entries}
+
+
+# ---- signatures (RFC 8554 sections 4.6 and 5.4.2; TUF section 4.3)
+
+def of_hex(text):
+    return bytes.fromhex(text) if re.fullmatch("([0-9a-fA-F]{2})*", text) else None
+
+
+def public_of(key_id, key):
+    """The key's public value, where it is usable."""
+    value = key.get("keyval")
+    public = value.get("public") if isinstance(value, dict) else None
+    public = of_hex(public) if isinstance(public, str) else None
+    usable = key.get("keytype") == "lms" and key.get("scheme") == "lms-sha256" and public is not None and len(public) == 56
+    usable = usable and int.from_bytes(public[:4], "big") in HEIGHTS and int.from_bytes(public[4:8], "big") in WIDTHS
+    return public if usable and hashlib.sha256(tuf.canonical(key)).hexdigest() == key_id else None
+
+
+def is_valid(public, message, sig):
+    height, (width, chains) = HEIGHTS[int.from_bytes(public[:4], "big")], WIDTHS[int.from_bytes(public[4:8], "big")]
+    name, top = public[8:24], public[24:]
+    if len(sig) != 12 + 32 + 32 * chains + 32 * height or sig[4:8] != public[4:8]:
+        return False
+    leaf, after = int.from_bytes(sig[:4], "big"), 40 + 32 * chains
+    if leaf >= 2**height or sig[after : after + 4] != public[:4]:
+        return False
+    value = tuf.digest(name, tuf.number(leaf, 4), b"\x81\x81", sig[8:40], message)
+    ends = []
+    for chain, first in enumerate(tuf.digits(width, value)):
+        end, head = sig[40 + 32 * chain : 72 + 32 * chain], name + tuf.number(leaf, 4) + tuf.number(chain, 2)
+        for step in range(first, 2**width - 1):
+            end = tuf.digest(head, tuf.number(step, 1), end)
+        ends.append(end)
+    node = 2**height + leaf
+    value = tuf.digest(name, tuf.number(node, 4), b"\x82\x82", tuf.digest(name, tuf.number(leaf, 4), b"\x80\x80", *ends))
+    for at in range(after + 4, len(sig), 32):
+        below = (sig[at : at + 32], value) if node % 2 else (value, sig[at : at + 32])
+        node //= 2
+        value = tuf.digest(name, tuf.number(node, 4), b"\x83\x83", *below)
+    return value == top
+
+
+def is_met(file, ring, asked):
+    """Whether as many public values signed the file as the role asks for."""
+    signed = set()
+    for key_id in set(asked["keyids"]) & ring.keys():
+        public = public_of(key_id, ring[key_id])
+        sigs = [of_hex(sig) for name, sig in file["entries"] if name == key_id]
+        if public is not None and any(sig is not None and is_valid(public, file["text"], sig) for sig in sigs):
+            signed.add(public)
+    return len(signed) >= asked["threshold"]
+
+
+# ---- the checks of one file (TUF sections 5.3 to 5.7)
+
+def check_content(content, listed):
+    ask(listed["length"] in (None, len(content)), "LengthWrong")
+    if listed["hashes"] is not None:
+        known = listed["hashes"].keys() & LENGTHS.keys()
+        ask(all(hashlib.new(it, content).hexdigest() == listed["hashes"][it] for it in known), "HashWrong")
+        ask(known, "NoKnownHash")
+
+
+def fetched(files, name, kind):
+    ask(name in files, "Missing")
+    ask(len(files[name]) <= LIMITS[kind], "TooLong")
+    return files[name]
+
+
+def listed_file(files, consistent, name, kind, listed, ring, asked):
+    """A file that another one lists, up to its version."""
+    ask(listed is not None, "NotListed")
+    content = fetched(files, f"{listed['version']}.{name}" if consistent else name, kind)
+    check_content(content, listed)
+    file = read(kind, content)
+    ask(is_met(file, ring, asked), "Unsigned")
+    ask(file["version"] == listed["version"], "VersionWrong")
+    return file
+
+
+# ---- the steps of a cycle (TUF sections 5.3 to 5.6)
+
+class Cycle:
+    """A cycle over the files of a repository; `state` are the trusted files by their kinds."""
+
+    def __init__(self, state, files, targets, now, limit):
+        self.state, self.files, self.targets, self.now, self.limit = dict(state), files, targets, now, limit
+        self.accepted = {}
+
+    def trust(self, kind, file):
+        self.state[kind] = file
+
+    def expires(self, file):
+        ask(file["expires"] > self.now, "Expired")
+
+    def by_root(self, kind):
+        root = self.state["root"]
+        return root["keys"], root["roles"][kind]
+
+    def root(self):
+        while True:
+            old = self.state["root"]
+            name = f"{old['version'] + 1}.root.json"
+            if name not in self.files:
+                return self.expires(old)
+            new = read("root", fetched(self.files, name, "root"))
+            ask(is_met(new, old["keys"], old["roles"]["root"]), "Unsigned")
+            ask(is_met(new, new["keys"], new["roles"]["root"]), "Unsigned")
+            ask(new["version"] == old["version"] + 1, "VersionWrong")
+            self.trust("root", new)
+            if any(set(old["roles"][it]["keyids"]) != set(new["roles"][it]["keyids"]) for it in ("timestamp", "snapshot")):
+                self.state.pop("timestamp", None)
+                self.state.pop("snapshot", None)
+
+    def timestamp(self):
+        new = read("timestamp", fetched(self.files, "timestamp.json", "timestamp"))
+        ask(is_met(new, *self.by_root("timestamp")), "Unsigned")
+        old = self.state.get("timestamp")
+        if old and new["version"] == old["version"]:
+            return self.expires(old)
+        ask(not old or new["version"] > old["version"], "Rollback")
+        ask(not old or new["snapshot"]["version"] >= old["snapshot"]["version"], "Rollback")
+        self.expires(new)
+        self.trust("timestamp", new)
+
+    def snapshot(self):
+        listed = self.state["timestamp"]["snapshot"]
+        new = self.listed("snapshot.json", "snapshot", listed, *self.by_root("snapshot"))
+        for name, it in self.state.get("snapshot", {"meta": {}})["meta"].items():
+            ask(name in new["meta"] and new["meta"][name]["version"] >= it["version"], "Rollback")
+        self.expires(new)
+        self.trust("snapshot", new)
+
+    def listed(self, name, kind, listed, ring, asked):
+        return listed_file(self.files, self.state["root"]["consistent"], name, kind, listed, ring, asked)
+
+    def targets_of(self, name, ring, asked):
+        """The targets file of a role."""
+        file = self.listed(f"{name}.json", "targets", self.state["snapshot"]["meta"].get(f"{name}.json"), ring, asked)
+        self.expires(file)
+        return file
+
+    def top(self):
+        self.trust("targets", self.targets_of("targets", *self.by_root("targets")))
+
+    def steps(self):
+        """The step and the fault of the end, or none."""
+        for name, step in zip(KINDS, (self.root, self.timestamp, self.snapshot, self.top)):
+            try:
+                step()
+            except Refused as fault:
+                return f"{name} {fault}"
+        return None
+
+    # ---- the search for a path (TUF section 5.6.7)
+
+    def search(self, path):
+        """The role that lists the path and what it lists, or the words of the verdict."""
+        visited = []
+
+        def visit(name, file):
+            visited.append(name)
+            if path in file["targets"]:
+                return name, file["targets"][path]
+            for it in file["followed"](path):
+                if it["name"] not in visited:
+                    if len(visited) == self.limit:
+                        return "LimitReached"
+                    try:
+                        below = self.targets_of(it["name"], file["ring"], it)
+                    except Refused as fault:
+                        return f"{fault} {quoted(it['name'])}"
+                    self.accepted[it["name"]] = below["version"]
+                    found = visit(it["name"], below)
+                    if found:
+                        return found
+                if it["ends"]:
+                    return "NotFound"
+            return None
+
+        return visit("targets", self.state["targets"]) or "NotFound"
+
+    def target(self, path, listed):
+        """The target's bytes."""
+        folder, slash, base = path.rpartition("/")
+        known = [listed["hashes"][it] for it in LENGTHS if it in listed["hashes"]]
+        names = [f"{folder}{slash}{it}.{base}" for it in known] if self.state["root"]["consistent"] else [path]
+        name = next((it for it in names if it in self.targets), None)
+        ask(name is not None, "Missing")
+        check_content(self.targets[name], listed)
+        return self.targets[name]
+
+    def verdict(self, path):
+        found = self.search(path)
+        if isinstance(found, str):
+            return f"no {quoted(path)} {found}"
+        try:
+            return f"ok {quoted(path)} {len(self.target(path, found[1]))} {quoted(found[0])}"
+        except Refused as fault:
+            return f"no {quoted(path)} {fault}"
+
+
+def quoted(name):
+    def spelled(byte):
+        return chr(byte) if 0x20 <= byte < 0x7F and byte not in b'"\\' else f"\\x{byte:02x}"
+    return '"' + "".join(map(spelled, name.encode())) + '"'
+
+
+def verified(state, files, targets, now, limit, wanted):
+    """The new state, the lines and the status of a run."""
+    cycle = Cycle(state, files, targets, moment(now), limit)
+    end = cycle.steps()
+    verdicts = [f"no {quoted(path)} NotSearched" if end else cycle.verdict(path) for path in wanted]
+    roles = [f"role {quoted(name)} {cycle.accepted[name]}" for name in sorted(cycle.accepted, key=str.encode)]
+    lines = [f"root {cycle.state['root']['version']}", f"end {end or 'ready'}", *roles, *verdicts]
+    status = 2 if end else 1 if any(it.startswith("no ") for it in verdicts) else 0
+    return cycle.state, "".join(f"{line}\n" for line in lines), status
+
+
+def spelled(state):
+    """The bytes of a state file."""
+    return tuf.canonical({kind: file["bytes"].hex() for kind, file in state.items()})

@@ -1,0 +1,326 @@
+#!/usr/bin/env python3
+"""Verifies drawn repositories by the program and by a second reading of the standard, and compares all that they answer.
+
+  checks/second.py [COUNT [SEED]]      1,000 histories from seed 1 unless given
+
+A history is a first root and then three states of one repository: roots that rotate, files that come and go, delegations
+by patterns, prefixes and bins that meet and lead round, thresholds, keys of both widths, one public value under two ids.
+In most states up to two files are hurt: in what they say, in their signatures, in their bytes, in how they are listed.
+Each is verified from the trusted state of the one before, by `tufcheck verify` with 0 or 4 workers and by reading.py
+beside this script, which was written from docs/FORMATS.md and shares no code with the crates. The lines, the status and
+the bytes of the new state must be the same. The last lines say how often each end and each verdict came. A history that
+differs is left in a folder, whose name is printed, and the status is then 1.
+
+Where Debian's python3-securesystemslib is installed, which is the canonical JSON of TUF's reference implementation, each
+text that is signed must also be what that makes of it. `rt run` in crates/tufcheck proves and builds the program.
+"""
+import collections
+import copy
+import hashlib
+import json
+import os
+import random
+import shutil
+import subprocess
+import sys
+import tempfile
+from multiprocessing import Pool
+
+import reading
+import tuf
+
+try:
+    from securesystemslib.formats import encode_canonical
+except ImportError:
+    encode_canonical = None
+
+TOP = os.path.dirname(os.path.dirname(os.path.abspath(__file__)))
+PROGRAM = f"{TOP}/crates/tufcheck/out/tufcheck"
+NOW = "2026-01-01T00:00:00Z"
+TIMES = ["2030-01-01T00:00:00Z"] * 120 + [NOW, "2025-12-31T23:59:59Z", "2026-01-01T00:00:01Z", "0000-02-29T00:00:00Z"]
+PATHS = ["a", "b", "ab", "d/a", "d/b", "d/e/a", "\u00e9", 'd/"\u00e9*']
+PATTERNS = ["*", "a*", "?", "d/*", "d/?", "*/*", "d/e/*", "ab", "\u00e9", "nobody", "*a*b*", "d/??*", ""]
+ROLES = ["r", "s", "t", "u", "bin-0", "bin-1", "bin-2", "bin-3", 'v/"w']
+ODD = [None, True, False, 0, 1, -1, 2**63 - 1, 2**63, 2**64, 1.5, "", "1.1", "x", [], ["x"], {}, {"x": 1}]
+WRONG = "ab" * 32
+POOL = []
+
+
+def pool():
+    """Keys, some of which have a second id: that of an object that says more, or one that is none of theirs."""
+    if not POOL:
+        POOL.extend(tuf.Key(1 + seed, 8 if seed < 2 else 4) for seed in range(12))
+        for key in POOL[4:8]:
+            other = copy.copy(key)
+            other.object = {**key.object, "note": "the same\n\"key\" \u00e9"} if key is not POOL[7] else key.object
+            other.id = tuf.digest(tuf.canonical(other.object)).hex() if key is not POOL[7] else WRONG
+            POOL.append(other)
+    return POOL
+
+
+class History:
+    """A repository that goes on from state to state."""
+
+    def __init__(self, seed):
+        self.draw = random.Random(seed)
+        self.metadata, self.targets, self.hurt = {}, {}, set()
+        self.signers = {role: self.some_keys() for role in ROLES}
+        self.versions = collections.Counter()
+        self.last = None
+
+    def chance(self, share):
+        return self.draw.random() < share
+
+    def some_keys(self):
+        return self.draw.sample(pool(), self.draw.choice([1, 1, 2, 3]))
+
+    # ---- parts
+
+    def role(self, keys):
+        most = len(keys if self.chance(0.1) else {key.object["keyval"]["public"] for key in keys if key.id != WRONG}) or 1
+        ids = [key.id for key in keys]
+        if self.chance(0.2):
+            ids.insert(0, self.draw.choice([ids[-1], "unknown"]))
+        return {"keyids": ids, "threshold": self.draw.randint(1, most)}
+
+    def ring(self, *many):
+        ring = {key.id: key.object for keys in many for key in keys}
+        if self.chance(0.2):
+            ring["odd"] = {"keytype": "ed25519", "keyval": {"public": "00"}, "scheme": "ed25519"}
+        return ring
+
+    def part(self, kind, name, **members):
+        """A signed part, a version above the one before more often than not."""
+        self.versions[name] = max(1, self.versions[name] + self.draw.choice([0, 1, 1, 1, 1, 2, -1]))
+        return {"_type": kind, "expires": self.draw.choice(TIMES), "spec_version": "1.0.31",
+                "version": self.versions[name], **members}
+
+    def listing(self, name, content):
+        """How another file lists that one."""
+        listed = {}
+        if self.chance(0.6):
+            listed["length"] = len(content)
+        if self.chance(0.6):
+            kinds = self.draw.choice([["sha256"], ["sha512"], ["sha512", "sha256"], ["md4", "sha256"]])
+            listed["hashes"] = {it: hashlib.new(it, content).hexdigest() if it != "md4" else "?" for it in kinds}
+        if "hashes" in listed and self.chance(0.2):
+            listed["hashes"] = {it: value.upper() for it, value in listed["hashes"].items()}
+        if name in self.hurt and self.chance(0.4):
+            self.draw.choice([
+                lambda: listed.update(length=len(content) + self.draw.choice([-1, 1])),
+                lambda: listed.update(hashes={"sha256": "0" * 64}),
+                lambda: listed.update(length=None),
+                lambda: listed.update(hashes=self.draw.choice([{}, {"md4": "x"}, {"sha512": "0" * 128}])),
+            ])()
+        return listed
+
+    def target(self, path):
+        content = f"{path} {self.versions['timestamp'] // 2}".encode()
+        listed = {"length": len(content), "hashes": {"sha256": hashlib.sha256(content).hexdigest()},
+                  **self.listing(path, content)}
+        folder, slash, base = path.rpartition("/")
+        names = [f"{folder}{slash}{value.lower()}.{base}" for value in listed["hashes"].values()]
+        names = names if self.consistent() else [path]
+        if not self.chance(0.1):
+            self.targets[self.draw.choice(names or [path])] = content + (b"x" if self.chance(0.05) else b"")
+        return listed
+
+    def delegations(self):
+        if self.chance(0.2):
+            bits = self.draw.choice([1, 2])
+            keys = self.signers["bin-0"]
+            return {"keys": self.ring(keys), "succinct_roles": {**self.role(keys), "bit_length": bits, "name_prefix": "bin"}}
+        roles, used = [], []
+        for name in self.draw.choices([*ROLES, "targets"], k=self.draw.randint(0, 4)):
+            keys = self.signers.get(name, []) if self.chance(0.95) else []
+            keys = keys or self.some_keys()
+            used.append(keys)
+            delegation = {"name": name, **self.role(keys)}
+            if self.chance(0.5):
+                delegation["terminating"] = self.chance(0.4)
+            if self.chance(0.7):
+                delegation["paths"] = self.draw.sample(PATTERNS, self.draw.randint(0, 3))
+            else:
+                digest = hashlib.sha256(self.draw.choice(PATHS).encode()).hexdigest()
+                delegation["path_hash_prefixes"] = [digest[: self.draw.choice([1, 2, 64])], "00"]
+            roles.append(delegation)
+        return {"keys": self.ring(*used), "roles": roles}
+
+    # ---- files
+
+    def spoil(self, tree):
+        """Changes, removes or adds something anywhere in a part."""
+        while isinstance(tree, (dict, list)) and tree:
+            at = self.draw.choice(list(tree) if isinstance(tree, dict) else range(len(tree)))
+            if self.chance(0.5) or not isinstance(tree[at], (dict, list)) or not tree[at]:
+                return self.draw.choice([
+                    lambda: tree.__setitem__(at, self.draw.choice(ODD)),
+                    lambda: tree.__delitem__(at),
+                    lambda: tree.update(extra=self.draw.choice(ODD)) if isinstance(tree, dict) else tree.append(None),
+                ])()
+            tree = tree[at]
+        return None
+
+    def entry(self, key, message):
+        key.used = self.draw.randrange(32)
+        sig = key.sign(message).hex()
+        return {"keyid": key.id, "sig": sig.upper() if self.chance(0.1) else sig}
+
+    def sealed(self, name, part, keys):
+        """The file of a part that these keys sign."""
+        is_hurt = name in self.hurt and self.chance(0.8)
+        ways = self.draw.choices(["part", "part", "keys", "entries", "bytes"], k=self.draw.choice([1, 1, 2]))
+        ways = ways if is_hurt else []
+        if "part" in ways:
+            part = copy.deepcopy(part)
+            self.spoil(part)
+        message = tuf.canonical(part)
+        if "keys" in ways:
+            keys = self.draw.choice([keys[:-1], keys[:1], self.some_keys()])
+        entries = [self.entry(key, message) for key in keys]
+        if "entries" in ways:
+            self.spoil(entries)
+            odd = {"keyid": pool()[0].id, "sig": "0g"}, {"keyid": "", "sig": ""}
+            entries = entries[::-1] + [*self.draw.choice([odd, odd[:1], odd[2:]])]
+        file = {"signatures": entries, "signed": part}
+        content = json.dumps(file, indent=self.draw.choice([None, 1])).encode() if self.chance(0.5) else tight(file)
+        if "bytes" in ways:
+            cut, flipped = self.draw.randrange(len(content)), self.draw.randrange(len(content))
+            content = self.draw.choice([
+                content[:cut], content + b"x", content + b" " * 20_000, b"\xef\xbb\xbf" + content, b"[" * 200 + b"]" * 200,
+                content[:flipped] + bytes([content[flipped] ^ 1 << self.draw.randrange(8)]) + content[flipped + 1 :],
+                b'{"signed":1.5,' + content[1:], content.replace(b'"version"', b'"version":3,"version"'),
+            ])
+        return content
+
+    def put(self, name, content, version=None):
+        if name not in self.hurt:
+            self.metadata[f"{version}.{name}" if version and self.consistent() else name] = content
+
+    def consistent(self):
+        return self.last["consistent_snapshot"]
+
+    def root(self):
+        """One more root, which the one before signs too."""
+        number = self.versions["root"] + 1
+        roles = {}
+        for name in reading.KINDS:
+            keys = self.keys[name] if self.last and self.chance(0.6) else self.some_keys()
+            roles[name] = keys, self.role(keys) if not self.last or self.chance(0.7) else self.last["roles"][name]
+        keys = {name: it[0] for name, it in roles.items()}
+        part = {**self.part("root", "root"), "version": number, "roles": {name: it[1] for name, it in roles.items()},
+                "keys": self.ring(*keys.values()), "consistent_snapshot": self.chance(0.5)}
+        for name, it in roles.items():
+            if not {*it[1]["keyids"]} <= {*part["keys"], "unknown"}:
+                part["roles"][name] = self.role(keys[name])
+        signers = keys["root"] + [key for key in (self.keys["root"] if self.last else []) if key not in keys["root"]]
+        self.versions["root"] = number
+        self.last, self.keys = copy.deepcopy(part), keys
+        self.metadata[f"{number}.root.json"] = self.sealed("root", part, signers)
+
+    def go_on(self):
+        """The next state of the repository."""
+        self.targets = {}
+        self.hurt = set(self.draw.sample(
+            ["root", "timestamp", "snapshot", "targets", *ROLES[:4], *PATHS[:4], "timestamp.json", "targets.json", "r.json"],
+            self.draw.choice([0, 0, 1, 1, 2])))
+        self.metadata = {name: it for name, it in self.metadata.items() if name.endswith(".root.json")}
+        for _ in range(self.draw.choice([0, 0, 1, 2])):
+            self.root()
+        listed = {}
+        for name in ["targets", *ROLES]:
+            listed_here = self.draw.sample(PATHS, self.draw.randint(0, 3))
+            part = self.part("targets", name, targets={it: self.target(it) for it in listed_here})
+            if self.chance(0.8):
+                part["delegations"] = self.delegations()
+            version = part["version"]
+            content = self.sealed(name, part, self.keys["targets"] if name == "targets" else self.signers[name])
+            self.put(f"{name}.json", content, version)
+            if not self.chance(0.03):
+                version += name in self.hurt and self.chance(0.4)
+                listed[f"{name}.json"] = {"version": version, **self.listing(name, content)}
+        part = self.part("snapshot", "snapshot", meta=listed)
+        version = part["version"]
+        content = self.sealed("snapshot", part, self.keys["snapshot"])
+        self.put("snapshot.json", content, version)
+        meta = {"snapshot.json": {"version": version, **self.listing("snapshot", content)}}
+        part = self.part("timestamp", "timestamp", meta=meta)
+        self.put("timestamp.json", self.sealed("timestamp", part, self.keys["timestamp"]))
+
+
+def tight(tree):
+    """A tree with no white space and no needless escapes."""
+    return json.dumps(tree, ensure_ascii=False, separators=(",", ":"), sort_keys=True).encode()
+
+
+def write(folder, files):
+    shutil.rmtree(folder, ignore_errors=True)
+    for name, content in files.items():
+        os.makedirs(os.path.dirname(f"{folder}/{name}"), exist_ok=True)
+        with open(f"{folder}/{name}", "wb") as file:
+            file.write(content)
+    os.makedirs(folder, exist_ok=True)
+
+
+def run(room, *words):
+    ran = subprocess.run([PROGRAM, *words], cwd=room, capture_output=True, check=False)
+    return ran.stdout.decode(), ran.returncode
+
+
+def same_texts(state):
+    """Whether the reference implementation has the same canonical texts."""
+    return not encode_canonical or all(
+        encode_canonical(json.loads(file["bytes"])["signed"]).encode() == file["text"] for file in state.values())
+
+
+def lived(seed):
+    """Draws a history and verifies its states; the first words of each line, or what differs and where."""
+    history, counts = History(seed), collections.Counter()
+    history.root()
+    room = tempfile.mkdtemp(prefix=f"second-{seed}-")
+    first = history.metadata["1.root.json"]
+    write(f"{room}/first", {"1.root.json": first})
+    said = run(room, "init", "first/1.root.json", "--out", "state")
+    state = {"root": reading.read("root", first)}
+    if said != (f"root {state['root']['version']}\n", 0):
+        return counts, f"{room}: init: {said}"
+    for number in range(3):
+        history.go_on()
+        limit, workers = history.draw.choice([1, 2, 3, 32, 32, 32]), history.draw.choice(["0", "4"])
+        wanted = history.draw.sample(PATHS, 4) + ["none"]
+        write(f"{room}/metadata", history.metadata)
+        write(f"{room}/targets", history.targets)
+        said = run(room, "verify", "--state", "state", "--metadata", "metadata", "--targets", "targets", "--now", NOW,
+                   "--limit", str(limit), "--workers", workers, "--out", "new", "--", *wanted)
+        direct = {name: content for name, content in history.metadata.items() if "/" not in name}
+        state, *read = reading.verified(state, direct, history.targets, NOW, limit, wanted)
+        with open(f"{room}/new", "rb") as file:
+            stored = file.read()
+        if said != tuple(read) or stored != reading.spelled(state) or not same_texts(state):
+            return counts, f"{room}: state {number + 1}, limit {limit}, {wanted}\nsaid {said}\nread {read}"
+        os.replace(f"{room}/new", f"{room}/state")
+        for line in said[0].split("\n"):
+            words = [word for word in line.split(" ") if not word.startswith('"')]
+            counts[" ".join(words[: 3 if words[0] == "end" else 2 if words[0] == "no" else 1])] += 1
+    shutil.rmtree(room)
+    return counts, None
+
+
+def main():
+    count, seed = (int(word) for word in (sys.argv[1:] + ["1000", "1"][len(sys.argv) - 1 :]))
+    pool()
+    total, status = collections.Counter(), 0
+    with Pool() as workers:
+        for counts, differs in workers.imap_unordered(lived, range(seed, seed + count)):
+            total += counts
+            if differs:
+                print(differs, flush=True)
+                status = 1
+    for words, times in sorted(total.items()):
+        if words:
+            print(f"{times:8} {words}")
+    print(f"{count} histories, {total['root']} runs: {'none differs' if not status else 'some differ'}")
+    return status
+
+
+sys.exit(main())
