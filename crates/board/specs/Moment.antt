@@ -51,8 +51,10 @@ pub record IsLawful (truths : List Bool) (words : List ℕ) (views : List View) 
   pub taken : (j : ℕ) → check_word words j ≡ 1 ↔ ((seat : ℕ) × Holds views j seat)
   pub alone : (j a b : ℕ) → Holds views j a → Holds views j b → a ≡ b
   -- what a seat knows is decided
-  pub decided : (seat : ℕ) (v : View) (j : ℕ) → get_elem? views seat ≡ some v → Knows v j → IsDecided (check_word words j)
+  pub decided : (seat : ℕ) (v : View) (j : ℕ)
+      → get_elem? views seat ≡ some v → Knows v j → IsDecided (check_word words j)
   -- no check was done twice
   pub once : (j : ℕ) → times_done j views ≤ 1
   -- a seat is halted only after a stop
-  pub halted : (seat : ℕ) (v : View) → get_elem? views seat ≡ some v → v.halted ≡ true → stop_word words ≡ 1
+  pub halted : (seat : ℕ) (v : View)
+      → get_elem? views seat ≡ some v → v.halted ≡ true → stop_word words ≡ 1

@@ -3,7 +3,7 @@ use Rattle.std.proofs.Common.{arith, sym, ◌∙◌, ap, ◌≡◌, ℕ, ◌+◌
 use Rattle.std.proofs.lemmas.Bool.Decides.{nat_tests}
 use Rattle.std.proofs.lemmas.Bool.{and_parts, and_from, false_from_ne_true, eqb-true}
 use Rattle.std.proofs.lemmas.Slice.Eq.{text_from_reads}
-use Rattle.moment.specs.Moment.{Moment, Stamp, IsStamp, IsMomentText, moment_of, stamp_text, moment_at, stamp_at, is_digit, is_laid_out, is_stamp, has, has_digits, HasDigits}
+use Rattle.moment.specs.Moment.{Moment, Stamp, IsStamp, IsMomentText, moment_of, stamp_text, moment_at, stamp_at, is_digit, is_laid_out, is_stamp, has, has_digits, FitsDigits}
 
 -- the two digits that are written of a number are digits, and are read as that number
 ones_stand : (n : ℕ) → is_digit (48 + n % 10) ≡ true
@@ -25,10 +25,10 @@ is_stamp-from : (s : Stamp) → IsStamp s → is_stamp s ≡ true
 is_stamp-from s is = grind (arith, nat_tests)
 
 -- the numbers have no more digits than are written
-small_from : (s : Stamp) → IsStamp s → HasDigits s
+small_from : (s : Stamp) → IsStamp s → FitsDigits s
 small_from s is = (grind (arith, nat_tests), grind (arith, nat_tests), grind (arith, nat_tests), omega arith, omega arith, omega arith)
 
-laid_out : (s : Stamp) → HasDigits s → is_laid_out (stamp_text s) ≡ true
+laid_out : (s : Stamp) → FitsDigits s → is_laid_out (stamp_text s) ≡ true
 laid_out s small =
     let early : s.year / 100 < 100 = omega arith in
     let late : s.year % 100 < 100 = omega arith in

@@ -31,8 +31,8 @@ IsStamp s =
     × (s.hour < 24) × (s.minute < 60) × (s.second < 60)
 
 -- The year has at most four digits, and the others two.
-abbrev pub HasDigits : Stamp → Type 0
-HasDigits s =
+abbrev pub FitsDigits : Stamp → Type 0
+FitsDigits s =
     (s.year < 10000) × (s.month < 100) × (s.day < 100) × (s.hour < 100) × (s.minute < 100) × (s.second < 100)
 
 -- a number below 100 in two decimal digits

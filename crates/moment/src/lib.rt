@@ -112,8 +112,8 @@ impl Moment {
 
 /// The date and the time of day that a text of that form spells, in the calendar or not.
 fn stamp_of(text: &str) -> Option<Stamp>
-    ensures some { IfSome result (λ s. spec.HasDigits s × (text.now ≡ spec.stamp_text s)) }
-    ensures none { IsNone result → (s : spec.Stamp) → spec.HasDigits s
+    ensures some { IfSome result (λ s. spec.FitsDigits s × (text.now ≡ spec.stamp_text s)) }
+    ensures none { IsNone result → (s : spec.Stamp) → spec.FitsDigits s
         → text.now ≡ spec.stamp_text s → ⊥ }
 {
     let [

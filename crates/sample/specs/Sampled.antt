@@ -4,7 +4,8 @@ use Rattle.examine.specs.Checks.{Files}
 use Rattle.update.specs.Told.{IsTold, Start, outcome_of}
 
 -- An outcome of the workflow, of which a writer was given the lines, with its status.
-pub record IsSampled (wanted : List (List ℕ)) (status : ℕ) (old new : Option (List ℕ)) : Type 0 where
+pub record IsSampled (wanted : List (List ℕ)) (status : ℕ) (old new : Option (List ℕ))
+    : Type 0 where
   pub start : Start
   pub metadata : Files
   pub targets : Files

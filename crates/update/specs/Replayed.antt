@@ -33,12 +33,14 @@ abbrev pub AreLoaded : {F : Type 0} → (F → Loaded → Type 0) → (F → Loa
 AreLoaded of_metadata of_targets = AllZip (λ f r. of_metadata f r.metadata × of_targets f r.targets)
 
 -- A writer was given the lines of the cycles, and the status is that of the last one.
-pub record AreTold (os : List Outcome) (wanted : List (List ℕ)) (status : ℕ) (old new : Option (List ℕ)) : Type 0 where
+pub record AreTold (os : List Outcome) (wanted : List (List ℕ)) (status : ℕ)
+    (old new : Option (List ℕ)) : Type 0 where
   pub lines : Appends old new (cycles_text wanted os)
   pub answered : status ≡ last_status os
 
 -- Files that are those of the folders: the state after their cycles is stored, and more holds of the outcomes.
-pub record IsReplayed (loaded : List Repo → Type 0) (start : Start) (keeps : List ℕ → Bool) (follows : List Outcome → Type 0) : Type 0 where
+pub record IsReplayed (loaded : List Repo → Type 0) (start : Start) (keeps : List ℕ → Bool)
+    (follows : List Outcome → Type 0) : Type 0 where
   pub repos : List Repo
   pub of_folders : loaded repos
   pub kept : keeps (state_text (state_after start repos)) ≡ true

@@ -27,7 +27,8 @@ start_from terms trusted moment = record {
 }
 
 -- a round on the repository
-pub record IsRound (moment : Moment) (wanted : List (List ℕ)) (repo : Repo) (round : Round) : Type 0 where
+pub record IsRound (moment : Moment) (wanted : List (List ℕ)) (repo : Repo) (round : Round)
+    : Type 0 where
   pub of_repo : round.repo.now ≡ repo
   pub at : round.now ≡ moment
   pub of_paths : map string_bytes round.wanted.now ≡ wanted

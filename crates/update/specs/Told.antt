@@ -34,7 +34,8 @@ unfoldable pub state_text : State → List ℕ
 state_text s = kept_text (kept_of s)
 
 -- A writer was given the outcome's lines, and the status is its own.
-pub record IsTold (o : Outcome) (wanted : List (List ℕ)) (status : ℕ) (old new : Option (List ℕ)) : Type 0 where
+pub record IsTold (o : Outcome) (wanted : List (List ℕ)) (status : ℕ)
+    (old new : Option (List ℕ)) : Type 0 where
   pub lines : Appends old new (outcome_text o wanted)
   pub answered : status ≡ outcome_status o
 
@@ -43,12 +44,14 @@ abbrev pub Loaded : Type 0
 Loaded = BTreeMap (String Global) (Vec ℕ Global)
 
 -- Files that are those of the two folders: the new state of their outcome is stored, and more holds of the outcome.
-pub record IsStored (of_metadata of_targets : Loaded → Type 0) (start : Start) (keeps : List ℕ → Bool) (follows : Outcome → Type 0) : Type 0 where
+pub record IsStored (of_metadata of_targets : Loaded → Type 0) (start : Start)
+    (keeps : List ℕ → Bool) (follows : Outcome → Type 0) : Type 0 where
   pub metadata : Loaded
   pub targets : Loaded
   pub in_metadata : of_metadata metadata
   pub in_targets : of_targets targets
-  pub kept : keeps (state_text (outcome_of start (file_in metadata) (file_in targets)).trusted) ≡ true
+  pub kept : keeps (state_text (outcome_of start (file_in metadata) (file_in targets)).trusted)
+      ≡ true
   pub then : follows (outcome_of start (file_in metadata) (file_in targets))
 
 -- A trusted state that was read.
@@ -58,7 +61,8 @@ pub record IsRead (gives : List ℕ → Bool) (trusted : State) : Type 0 where
   pub of_text : state_of text ≡ Ok trusted
 
 -- A moment and a trusted state that were read, from which more follows.
-pub record Begins (gives : List ℕ → Bool) (shows : ℕ → Bool) (text : Option (List ℕ)) (follows : State → Moment → Type 0) : Type 0 where
+pub record Begins (gives : List ℕ → Bool) (shows : ℕ → Bool) (text : Option (List ℕ))
+    (follows : State → Moment → Type 0) : Type 0 where
   pub trusted : State
   pub moment : Moment
   pub read : IsRead gives trusted
