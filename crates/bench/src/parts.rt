@@ -14,6 +14,9 @@ const VERIFICATIONS: u64 = 500;
 /// The steps of the chains that a key of height 5 has: 32 leaves of 34 chains of 255 steps.
 const STEPS_OF_A_KEY: u64 = 32 * 34 * 255;
 
+/// A digest of no file.
+const DIGEST: &str = "0123456789abcdef0123456789abcdef0123456789abcdef0123456789abcdef";
+
 /// How many members the tree has whose text is made.
 const MEMBERS: u64 = 50_000;
 
@@ -102,7 +105,7 @@ fn large_object(alloc: Global) -> Result<String, Trouble> {
         }
         writeln!(
             json,
-            "\"folder/file-{i}.tar.gz\":{{\"hashes\":{{\"sha256\":\"0123456789abcdef0123456789abcdef0123456789abcdef0123456789abcdef\"}},\"length\":{i}}}"
+            "\"folder/file-{i}.tar.gz\":{{\"hashes\":{{\"sha256\":\"{DIGEST}\"}},\"length\":{i}}}"
         )?;
     }
     json.push('}')?;

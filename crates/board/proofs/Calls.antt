@@ -9,6 +9,7 @@ use Rattle.board.specs.declared.checks.TheConstants.{MOST_CHECKS}
 use Rattle.board.specs.Looks.{IsVerdict, word_of_look}
 use Rattle.board.specs.Moment.{truth, IsDecided}
 use Rattle.board.proofs.Keeps.{not_open, not_taken}
+use Rattle.board.proofs.SeatLemmas.{keeps_all}
 use Rattle.board.specs.Steps.{Sat, newcomer, holding, released, having_seen, having_done}
 use Rattle.board.specs.Seats.{BoardValue, SeatValue, IsSeatOf, IsKept}
 
@@ -105,3 +106,10 @@ kept_looked me me' held published j l seen same k = by_word l seen same
 -- the verdict of the check that the seat has the right to
 pub told_of : (truths : List Bool) (right : Option ℕ) (verdict : Bool) (j : ℕ) → IfSome right (λ i. verdict ≡ truth truths i) → right ≡ Some j → verdict ≡ truth truths j
 told_of truths right verdict j told e = subst (λ o. IfSome o (λ i. verdict ≡ truth truths i)) e told
+
+-- what a seat is known to keep after a look, a claim and a publication
+pub ruleset looks = (kept_looked, keeps_all)
+
+pub ruleset claims = (kept_same, kept_holding, keeps_all)
+
+pub ruleset publishes = (kept_done, told_of, keeps_all)

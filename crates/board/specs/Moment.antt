@@ -1,5 +1,5 @@
--- A board at one moment: its words, and what each seat knows.
--- Word 0 is 1 once the work was stopped. Word j + 1 is that of check j: 0 open, 1 taken, 2 valid, 3 invalid.
+-- A board at one moment: its words, and what each seat knows. Word 0 is 1 once the work was
+-- stopped. Word j + 1 is that of check j: 0 open, 1 taken, 2 valid, 3 invalid.
 use Rattle.std.specs.Prelude.{◌≡◌, ◌↔◌, ◌⊎◌, ℕ, ◌+◌, ◌==◌, ◌≤◌, Bool, true, false, if◌then◌else◌, List, [], ◌∷◌, length, slice_index, slice_index_or, Some}
 use Rattle.std.specs.List.{Contains}
 use mathlib.Core.Option.{some}

@@ -41,7 +41,8 @@ pub record Keeps (s t : SeatValue) : Type 0 where
   pub board : t.board ≡ s.board
   pub view : HasAll s.view t.view
 
--- what holds of each seat's fields: it has no slot, the check that it holds is the one that it has the right to, and its count is the length of its list
+-- what holds of each seat's fields: it has no slot, the check that it holds is the one that it has
+-- the right to, and its count is the length of its list
 pub record IsKept (me : Sat) (held : Option ℕ) (published : ℕ) : Type 0 where
   pub no_slot : me.1 ≡ []
   pub holds : held ≡ me.0.right
@@ -53,6 +54,14 @@ pub record IsKept (me : Sat) (held : Option ℕ) (published : ℕ) : Type 0 wher
 -- a seat of no board, for a caller that has to name a seat before it has one
 abbrev pub no_seat : SeatValue
 no_seat = record {
-  board = record { words = 0; slots = 0; views_name = 0; atom = 0; block = 0; offset = 0; slot_names = [] };
+  board = record {
+    words = 0;
+    slots = 0;
+    views_name = 0;
+    atom = 0;
+    block = 0;
+    offset = 0;
+    slot_names = [];
+  };
   view = newcomer [];
 }

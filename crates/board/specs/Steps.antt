@@ -13,27 +13,48 @@ newcomer truths = record { truths = truths; right = None; seen = []; done = []; 
 
 -- it has the right to check j
 abbrev pub holding : View → ℕ → View
-holding v j = record { truths = v.truths; right = Some j; seen = v.seen; done = v.done; halted = v.halted }
+holding v j =
+    record { truths = v.truths; right = Some j; seen = v.seen; done = v.done; halted = v.halted }
 
 -- it has no right
 abbrev pub released : View → View
-released v = record { truths = v.truths; right = None; seen = v.seen; done = v.done; halted = v.halted }
+released v =
+    record { truths = v.truths; right = None; seen = v.seen; done = v.done; halted = v.halted }
 
 -- it has seen the verdict of check j
 abbrev pub having_seen : View → ℕ → View
-having_seen v j = record { truths = v.truths; right = v.right; seen = v.seen ++ j ∷ []; done = v.done; halted = v.halted }
+having_seen v j = record {
+  truths = v.truths;
+  right = v.right;
+  seen = v.seen ++ j ∷ [];
+  done = v.done;
+  halted = v.halted;
+}
 
 -- it gave the verdict of check j, and spent its right
 abbrev pub having_done : View → ℕ → View
-having_done v j = record { truths = v.truths; right = None; seen = v.seen ++ j ∷ []; done = v.done ++ j ∷ []; halted = v.halted }
+having_done v j = record {
+  truths = v.truths;
+  right = None;
+  seen = v.seen ++ j ∷ [];
+  done = v.done ++ j ∷ [];
+  halted = v.halted;
+}
 
 -- it knows of a stop
 abbrev pub halting : View → View
-halting v = record { truths = v.truths; right = v.right; seen = v.seen; done = v.done; halted = true }
+halting v =
+    record { truths = v.truths; right = v.right; seen = v.seen; done = v.done; halted = true }
 
 -- it has its own right, and what both have seen and done
 abbrev pub joined : View → View → View
-joined v w = record { truths = v.truths; right = v.right; seen = v.seen ++ w.seen; done = v.done ++ w.done; halted = v.halted || w.halted }
+joined v w = record {
+  truths = v.truths;
+  right = v.right;
+  seen = v.seen ++ w.seen;
+  done = v.done ++ w.done;
+  halted = v.halted || w.halted;
+}
 
 -- ---- what a step tells
 
@@ -49,9 +70,11 @@ AtCheck st P = (j : ℕ) → st.word ≡ j + 1 → P j
 abbrev pub IsCounted : View → Type 0
 IsCounted v = IsDistinct nat_eq v.done × (length v.done ≤ length v.truths)
 
--- a claim gives the right to an open check, which the seat can't have known, and nothing where another word is found
+-- a claim gives the right to an open check, which the seat can't have known, and nothing where
+-- another word is found
 abbrev pub Claims : Step (Unit {0}) → Sat → ℕ → Sat → Type 0
-Claims st me found me' = AtCheck st (λ j. (found ≡ 0 → (me' ≡ (holding me.0 j, me.1)) × ¬ Knows me.0 j) × (found ≢ 0 → me' ≡ me))
+Claims st me found me' = AtCheck st (λ j.
+    (found ≡ 0 → (me' ≡ (holding me.0 j, me.1)) × ¬ Knows me.0 j) × (found ≢ 0 → me' ≡ me))
 
 -- a verdict is given
 abbrev pub Publishes : Step (Unit {0}) → Sat → ℕ → Sat → Type 0
@@ -61,7 +84,8 @@ Publishes st me stored me' = AtCheck st (λ j. (me' ≡ (having_done me.0 j, me.
 abbrev pub GivesBack : Step (Unit {0}) → Sat → ℕ → Sat → Type 0
 GivesBack st me stored me' = me' ≡ (released me.0, me.1)
 
--- a look at check j: a verdict is the truth, what the seat has the right to is taken, and what it knows is decided
+-- a look at check j: a verdict is the truth, what the seat has the right to is taken, and what it
+-- knows is decided
 pub record Sees (me : Sat) (found : ℕ) (me' : Sat) (j : ℕ) : Type 0 where
   pub word : found ≤ 3
   pub valid : found ≡ 2 → truth me.0.truths j ≡ true

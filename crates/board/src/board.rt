@@ -68,7 +68,7 @@ impl Board {
     /// What stands at check `j`. A verdict is the truth of the check, and the seat remembers that
     /// it saw one. It finds `Taken` where it has the right itself, and a verdict where it saw or
     /// gave one before.
-    #[tactic(auto, using(crate::proofs::Calls::kept_looked, crate::proofs::SeatLemmas::keeps_all))]
+    #[tactic(auto, using(crate::proofs::Calls::looks))]
     pub fn look(&self, seat: &mut Seat, j: usize) -> Look
         requires seat { IsSeatOf self.now seat.old }
         requires check { j < length self.now.truths }
@@ -107,7 +107,7 @@ impl Board {
     /// Takes check `j` where it is open, and tells whether it did. Then the seat has the right to
     /// the check, and no other seat has until it is given back. It is tried once, by a seat that
     /// has no right.
-    #[tactic(auto, using(crate::proofs::Calls::kept_same, crate::proofs::Calls::kept_holding, crate::proofs::SeatLemmas::keeps_all))]
+    #[tactic(auto, using(crate::proofs::Calls::claims))]
     pub fn claim(&self, seat: &mut Seat, j: usize) -> bool
         requires seat { IsSeatOf self.now seat.old }
         requires check { j < length self.now.truths }
@@ -146,7 +146,7 @@ impl Board {
 
     /// Gives the verdict of the check that the seat has the right to, and spends the right. The
     /// verdict has to be the truth. From then on every look finds it.
-    #[tactic(auto, using(crate::proofs::Calls::kept_done, crate::proofs::Calls::told_of, crate::proofs::SeatLemmas::keeps_all))]
+    #[tactic(auto, using(crate::proofs::Calls::publishes))]
     pub fn publish(&self, seat: &mut Seat, verdict: bool)
         requires seat { IsSeatOf self.now seat.old }
         requires holds { IsSome seat.old.view.right }

@@ -49,7 +49,8 @@ abbrev mutual
   -- the members, each a key, a colon and a value, and the closing brace
   pub members_text : Bool → Members → List ℕ
   members_text later no_members = 125 ∷ []
-  members_text later (member k d ms) = comma_if later ++ (quoted k ++ 58 ∷ (text d ++ members_text true ms))
+  members_text later (member k d ms) =
+      comma_if later ++ (quoted k ++ 58 ∷ (text d ++ members_text true ms))
 
 -- whether each number of the tree is whole
 abbrev mutual
@@ -90,9 +91,11 @@ abbrev mutual
 
   pub members_are_ordered : Members → Bool
   members_are_ordered no_members = true
-  members_are_ordered (member k d ms) = comes_before k ms && (is_ordered d && members_are_ordered ms)
+  members_are_ordered (member k d ms) =
+      comes_before k ms && (is_ordered d && members_are_ordered ms)
 
--- The canonical text, where the tree has one. A tree whose keys don't ascend has none here: no `Value` is such a tree,
--- and none that is read, so of these only a number that isn't whole leaves one without a text.
+-- The canonical text, where the tree has one. A tree whose keys don't ascend has none here: no
+-- `Value` is such a tree, and none that is read, so of these only a number that isn't whole leaves
+-- one without a text.
 abbrev pub canon : Data → Option (List ℕ)
 canon d = if has_whole_numbers d && is_ordered d then Some (text d) else None

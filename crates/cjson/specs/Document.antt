@@ -1,4 +1,5 @@
--- A metadata file as a document: what is signed, its canonical text, and who signed (TUF 1.0 section 4.2).
+-- A metadata file as a document: what is signed, its canonical text, and who signed (TUF 1.0
+-- section 4.2).
 use Rattle.std.specs.Prelude.{ℕ, List, codes, if◌then◌else◌, Option, None, option_map, option_and_then, Result, Ok}
 use Rattle.std.specs.Str.{is_utf8}
 use Rattle.serde_json.specs.Data.{Data, object}

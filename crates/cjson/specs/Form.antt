@@ -1,4 +1,5 @@
--- The forms of a JSON member. A form reads a tree, or gives nothing where the tree hasn't that form.
+-- The forms of a JSON member. A form reads a tree, or gives nothing where the tree hasn't that
+-- form.
 use Rattle.std.specs.Prelude.{ℕ, ◌^◌, ◌&&◌, nat_lt, nat_le, if◌then◌else◌, List, [], ◌∷◌, Bool, true, false, Option, Some, None, option_map, option_and_then, Result, Ok, Err, ⊤}
 use Rattle.serde_json.specs.Data.{Data, Items, no_items, item, Members, no_members, member}
 use Rattle.serde_json.specs.Find.{get, as_str, as_number, as_u64, as_array, as_object}

@@ -81,7 +81,7 @@ impl<'a, P: Questions, K: Sitting> BoardJudge<'a, P, K> {
     }
 
     /// The board's answer, if it has one. What costs no digest to decide isn't looked up.
-    #[tactic(auto, using(board::proofs::SeatLemmas::keeps_trans, board::proofs::SeatLemmas::free_kept))]
+    #[tactic(auto, using(board::proofs::SeatLemmas::frees))]
     fn found(&mut self, ask: &Ask) -> Option<bool>
         ensures { IfSome result (λ b. b ≡ truth ask.now) }
     {

@@ -9,7 +9,7 @@ use hands::Hand;
 /// Decides the check that the seat has the right to, and publishes the verdict. Where the work was
 /// stopped, or the check can't be decided for want of memory, the right is given back. Either way
 /// the seat has none after it.
-#[tactic(auto, using(board::proofs::SeatLemmas::keeps_trans, board::proofs::SeatLemmas::sits_kept))]
+#[tactic(auto, using(board::proofs::SeatLemmas::sits))]
 pub fn settle<C: Checks, G: Gate>(board: &Board, seat: &mut Seat, checks: &C, j: usize, gate: &G)
     requires seat { IsSeatOf board.now seat.old }
     requires right { seat.old.view.right ≡ Some j }
@@ -33,7 +33,7 @@ pub fn settle<C: Checks, G: Gate>(board: &Board, seat: &mut Seat, checks: &C, j:
 /// Takes the next number and decides its check, where the seat wins it. The answer is whether to go
 /// on. All workers go down from the last check, in turns, since the work in order goes up from the
 /// first: so they meet it once, and nobody is left with checks that it has passed.
-#[tactic(auto, using(board::proofs::SeatLemmas::keeps_trans, board::proofs::SeatLemmas::free_kept))]
+#[tactic(auto, using(board::proofs::SeatLemmas::frees))]
 fn step<C: Checks, G: Gate>(
     board: &Board,
     seat: &mut Seat,

@@ -14,7 +14,8 @@ outcome_of most s r =
 -- the outcomes of the cycles, in order
 abbrev pub outcomes_of : ℕ → State → List Round → List Outcome
 outcomes_of most s [] = []
-outcomes_of most s (r ∷ rs) = outcome_of most s r ∷ outcomes_of most (outcome_of most s r).trusted rs
+outcomes_of most s (r ∷ rs) =
+    outcome_of most s r ∷ outcomes_of most (outcome_of most s r).trusted rs
 
 -- the state after the cycles
 abbrev pub state_after : ℕ → State → List Round → State

@@ -25,4 +25,6 @@ roles_by bin (listed roles) = roles
 roles_by bin (binned bins) = spec.to_bin bins bin ∷ []
 
 abbrev pub edges_by : List ℕ → Targets → List spec.Edge
-edges_by bin m = option_map_or (λ d. map (λ to. record { ring = d.ring; to = to }) (roles_by bin d.roles)) m.delegations []
+edges_by bin m =
+    option_map_or (λ d. map (λ to. record { ring = d.ring; to = to }) (roles_by bin d.roles))
+    m.delegations []

@@ -30,7 +30,9 @@ roles_for path (listed roles) = roles
 roles_for path (binned bins) = to_bin bins (bin_name bins path) ∷ []
 
 abbrev pub edges : Targets → List ℕ → List Edge
-edges m path = option_map_or (λ d. map (λ to. record { ring = d.ring; to = to }) (roles_for path d.roles)) m.delegations []
+edges m path =
+    option_map_or (λ d. map (λ to. record { ring = d.ring; to = to }) (roles_for path d.roles))
+    m.delegations []
 
 -- the delegation is for the path
 abbrev pub is_for : List ℕ → Edge → Bool

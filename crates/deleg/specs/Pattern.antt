@@ -7,7 +7,8 @@ pub data Matches : List ℕ → List ℕ → Type 0 where
   itself : (c : ℕ) (cs ds : List ℕ) → c ≢ 42 → c ≢ 63 → Matches cs ds → Matches (c ∷ cs) (c ∷ ds)
   any_one : (d : ℕ) (cs ds : List ℕ) → d ≢ 47 → Matches cs ds → Matches (63 ∷ cs) (d ∷ ds)
   run_ends : (cs ds : List ℕ) → Matches cs ds → Matches (42 ∷ cs) ds
-  run_goes_on : (d : ℕ) (cs ds : List ℕ) → d ≢ 47 → Matches (42 ∷ cs) ds → Matches (42 ∷ cs) (d ∷ ds)
+  run_goes_on : (d : ℕ) (cs ds : List ℕ)
+      → d ≢ 47 → Matches (42 ∷ cs) ds → Matches (42 ∷ cs) (d ∷ ds)
 
 -- whether the pattern's character, which isn't `*`, matches the path's
 abbrev pub stands_for : ℕ → ℕ → Bool
@@ -26,4 +27,5 @@ behind_one c rest (d ∷ ds) = stands_for c d && rest ds
 abbrev pub is_match : List ℕ → List ℕ → Bool
 is_match [] [] = true
 is_match [] (d ∷ ds) = false
-is_match (c ∷ cs) path = if c == 42 then behind_run (is_match cs) path else behind_one c (is_match cs) path
+is_match (c ∷ cs) path =
+    if c == 42 then behind_run (is_match cs) path else behind_one c (is_match cs) path

@@ -42,7 +42,8 @@ starts_passed path seen (e ∷ es) = is_passed path seen e
 -- from the first one that isn't passed over
 abbrev pub after_passed : List ℕ → List Accepted → List Edge → List Edge
 after_passed path seen [] = []
-after_passed path seen (e ∷ es) = if is_passed path seen e then after_passed path seen es else e ∷ es
+after_passed path seen (e ∷ es) =
+    if is_passed path seen e then after_passed path seen es else e ∷ es
 
 -- the first one is for the path, and its role wasn't visited
 abbrev pub IsNext : List ℕ → List Accepted → List Edge → Type 0
@@ -51,7 +52,9 @@ IsNext path seen (e ∷ es) = (is_for path e ≡ true) × (is_visited seen e.to.
 
 -- the search goes on with other pending delegations, and with one more role accepted
 abbrev pub GoesOn : Query → List Edge → List Accepted → List Edge → List Accepted → Type 0
-GoesOn q es seen es' seen' = (outlook q es seen ≡ outlook q es' seen') × (length seen' ≡ length seen + 1) × (length seen' < q.most)
+GoesOn q es seen es' seen' =
+    (outlook q es seen ≡ outlook q es' seen')
+    × (length seen' ≡ length seen + 1) × (length seen' < q.most)
 
 abbrev pub Ends : Query → List Edge → List Accepted → Found → List Accepted → Type 0
 Ends q es seen found seen' = outlook q es seen ≡ record { found = found; accepted = seen' }

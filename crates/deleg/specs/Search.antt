@@ -15,7 +15,8 @@ use Rattle.deleg.specs.Edge.{Edge, followed}
 use Rattle.deleg.specs.declared.found.Found.{Found}
 use Rattle.deleg.specs.declared.found.Found.TheVariants.{Listed, NotFound, LimitReached, RoleRefused}
 
--- what came of a visit or a walk, or None where the search goes on; and the delegated roles that were accepted till then
+-- what came of a visit or a walk, or None where the search goes on; and the delegated roles that
+-- were accepted till then
 pub record Visited : Type 0 where
   pub found : Option Found
   pub accepted : List Accepted
@@ -47,21 +48,25 @@ walk_by visit (e ∷ es) seen = and_then e (walk_by visit es) (visit e seen)
 -- ---- one file
 
 -- a role's file lists the path, or else its delegations are followed
-abbrev pub in_file : List ℕ → (List Edge → List Accepted → Visited) → List ℕ → Targets → List Accepted → Visited
+abbrev pub in_file : List ℕ → (List Edge → List Accepted → Visited) → List ℕ → Targets
+    → List Accepted → Visited
 in_file path walk role m seen =
-    option_map_or (λ t. done (Some (Listed role t (length seen + 1))) seen) (target_of m path) (walk (followed m path) seen)
+    option_map_or (λ t. done (Some (Listed role t (length seen + 1))) seen)
+    (target_of m path) (walk (followed m path) seen)
 
 abbrev pub accepting : Edge → Part Targets → List Accepted → List Accepted
 accepting e p seen = seen ++ record { role = e.to.name; version = p.reading.header.version } ∷ []
 
 -- a role is entered where its file is accepted
-abbrev pub entered : List ℕ → (List Edge → List Accepted → Visited) → Edge → List Accepted → Result (Part Targets) Fault → Visited
+abbrev pub entered : List ℕ → (List Edge → List Accepted → Visited) → Edge → List Accepted
+    → Result (Part Targets) Fault → Visited
 entered path walk e seen (Err fault) = done (Some (RoleRefused e.to.name fault)) seen
 entered path walk e seen (Ok p) = in_file path walk e.to.name p.reading (accepting e p seen)
 
 -- the role's file, by the keys and the threshold of the delegation that is followed
 abbrev pub examined : Files → Moment → Root → Snapshot → Edge → Result (Part Targets) Fault
-examined files now top snap e = targets_part (next_targets top snap e.to.name e.ring e.to.keys) files now
+examined files now top snap e =
+    targets_part (next_targets top snap e.to.name e.ring e.to.keys) files now
 
 -- ---- the search
 
@@ -70,10 +75,13 @@ abbrev pub settled : Visited → Searched
 settled v = record { found = unwrap_or v.found NotFound; accepted = v.accepted }
 
 -- `most` is how many roles may be visited, the top-level role among them
-module _ (files : Files) (now : Moment) (top : Root) (snap : Snapshot) (path : List ℕ) (most : ℕ) where
-  -- `depth` bounds how deep visits nest. Each adds a role, so a search within its limit never reaches the bound.
+module _ (files : Files) (now : Moment) (top : Root) (snap : Snapshot)
+    (path : List ℕ) (most : ℕ) where
+  -- `depth` bounds how deep visits nest. Each adds a role, so a search within its limit never
+  -- reaches the bound.
   abbrev pub visit : ℕ → Edge → List Accepted → Visited
-  visit zero e seen = if is_visited seen e.to.name then done None seen else done (Some LimitReached) seen
+  visit zero e seen =
+      if is_visited seen e.to.name then done None seen else done (Some LimitReached) seen
   visit (suc depth) e seen =
       if is_visited seen e.to.name then done None seen
       else if nat_le most (length seen + 1) then done (Some LimitReached) seen
@@ -82,8 +90,9 @@ module _ (files : Files) (now : Moment) (top : Root) (snap : Snapshot) (path : L
   abbrev pub walk : List Edge → List Accepted → Visited
   walk = walk_by (visit (suc most))
 
-  -- The search in preorder, with no depth: a role that was visited is skipped, one too many ends the search, and so does a
-  -- refused one; else the role is accepted, and the path is looked up in its file and then below it.
+  -- The search in preorder, with no depth: a role that was visited is skipped, one too many ends
+  -- the search, and so does a refused one; else the role is accepted, and the path is looked up in
+  -- its file and then below it.
   abbrev pub IsPreorder : Type 0
   IsPreorder = (e : Edge) (seen : List Accepted) → visit (suc most) e seen
       ≡ (if is_visited seen e.to.name then done None seen
@@ -97,4 +106,5 @@ module _ (files : Files) (now : Moment) (top : Root) (snap : Snapshot) (path : L
 -- the search in a trusted state that is ready
 abbrev pub search_in : Files → Moment → State → List ℕ → ℕ → Option Searched
 search_in files now s path most =
-    option_and_then (λ snap. option_map (λ m. search_from files now s.root.reading snap.reading path most m.reading) s.targets) s.snapshot
+    option_and_then (λ snap. option_map (λ m.
+    search_from files now s.root.reading snap.reading path most m.reading) s.targets) s.snapshot

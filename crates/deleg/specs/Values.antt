@@ -9,7 +9,15 @@ use Rattle.deleg.specs.declared.edge.Edge.{Edge}
 use Rattle.deleg.specs.declared.query.Query.{Query}
 
 abbrev pub edge_of : Edge → edge.Edge
-edge_of e = record { ring = e.ring.now; to = record { name = e.name.now; keys = e.keys.now; terminating = e.terminating; matcher = option_map_or (λ p. matcher_of p.now) e.paths every } }
+edge_of e = record {
+  ring = e.ring.now;
+  to = record {
+    name = e.name.now;
+    keys = e.keys.now;
+    terminating = e.terminating;
+    matcher = option_map_or (λ p. matcher_of p.now) e.paths every;
+  };
+}
 
 abbrev pub quest_of : Query → query.Query
 quest_of q = record {

@@ -209,4 +209,5 @@ first_there files [] = None
 first_there files (name ∷ names) = option_map_or Some (files name) (first_there files names)
 
 abbrev pub target_file : Files → Bool → Target → Option (List ℕ)
-target_file files consistent t = first_there files (target_names consistent t.path t.hashes.sha256 t.hashes.sha512)
+target_file files consistent t =
+    first_there files (target_names consistent t.path t.hashes.sha256 t.hashes.sha512)

@@ -14,7 +14,8 @@ is_callers State = true
 is_callers (Script line) = true
 is_callers _ = false
 
--- a script that can't be followed is the caller's; a key without a leaf is told by `make` as its line
+-- a script that can't be followed is the caller's; a key without a leaf is told by `make` as its
+-- line
 abbrev pub failure_of : MakeFault → Failure
 failure_of (made.Script line) = Script line
 failure_of made.Used = Memory

@@ -2,7 +2,8 @@
 use Rattle.std.specs.Prelude.{ℕ, List, [], ◌∷◌, ◌++◌}
 use Rattle.folder.specs.declared.disk.Depth.{Depth}
 
--- a folder's path, whether the folders below it are read too, and how many calls have failed, up to 2^64 - 1
+-- a folder's path, whether the folders below it are read too, and how many calls have failed, up to
+-- 2^64 - 1
 pub record Disk : Type 0 where
   pub path : List ℕ
   pub depth : Depth

@@ -17,8 +17,10 @@ module _ {Y Z : Type 0} where
     pub bytes : (name : List ℕ) → IfSome (get_by_text files name) (λ v. holds name v.items ≡ true)
 
   -- the map has the names of a list that may be given, each with bytes that may be read for it
-  abbrev pub IsLoaded : (List (List ℕ) → Bool) → (List ℕ → List ℕ → Bool) → BTreeMap (String Y) (Vec ℕ Z) → Type 0
-  IsLoaded lists holds files = (names : List (List ℕ)) × ((lists names ≡ true) × HasFiles holds names files)
+  abbrev pub IsLoaded : (List (List ℕ) → Bool) → (List ℕ → List ℕ → Bool)
+      → BTreeMap (String Y) (Vec ℕ Z) → Type 0
+  IsLoaded lists holds files =
+      (names : List (List ℕ)) × ((lists names ≡ true) × HasFiles holds names files)
 
   -- the name has bytes that may be read for it, and every other name has what it had
   pub record AddsFile (holds : List ℕ → List ℕ → Bool) (name : List ℕ)

@@ -95,3 +95,6 @@ end_within count workers k below = within count workers (k + 1) (omega arith) (o
 
 pub set_again : (ps : List Part) (k : ℕ) (d : Part) → set ps k (get_or ps k d) ≡ ps
 set_again ps k d = set-get_or ps k d
+
+-- what hands of even parts are known by
+pub ruleset dealt = (even_in, parts_counts, parts_len)

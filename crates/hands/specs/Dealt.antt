@@ -1,4 +1,5 @@
--- The protocol of one deque: what it holds is the end of what was pushed, and each number that left it was taken by one thread.
+-- The protocol of one deque: what it holds is the end of what was pushed, and each number that left
+-- it was taken by one thread.
 use Rattle.std.specs.Prelude.{◌≡◌, ◌==◌, ℕ, Bool, true, List, [], ◌∷◌, ◌++◌, length, count_by, ◌+◌}
 use mathlib.Core.Option.{some}
 use lib.ListN.{get_elem?}
@@ -21,7 +22,8 @@ total f (v ∷ vs) = f v + total f vs
 abbrev pub Fits : List ℕ → ℕ → Took → Type 0
 Fits pushed threads v = (v.pushed ≡ pushed) × (v.alone ≡ true → threads ≡ 1)
 
--- what was pushed is what left at the front and then what is held, and a number left as often as all threads took it
+-- what was pushed is what left at the front and then what is held, and a number left as often as
+-- all threads took it
 abbrev pub Dealt : List ℕ → List Took → Type 0
 Dealt items views =
     (front : List ℕ) × (pushed : List ℕ) × (pushed ≡ front ++ items)
@@ -30,7 +32,9 @@ Dealt items views =
 
 -- these numbers were taken, which stand in what was pushed
 abbrev pub Takes : Took → List ℕ → Took → Type 0
-Takes v xs w = (w ≡ took v.pushed (v.taken ++ xs) v.alone) × ((before : List ℕ) × (after : List ℕ) × (v.pushed ≡ before ++ (xs ++ after)))
+Takes v xs w =
+    (w ≡ took v.pushed (v.taken ++ xs) v.alone)
+    × ((before : List ℕ) × (after : List ℕ) × (v.pushed ≡ before ++ (xs ++ after)))
 
 -- these numbers were pushed
 abbrev pub Pushes : Took → List ℕ → Took → Type 0

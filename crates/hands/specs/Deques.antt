@@ -16,7 +16,8 @@ Deck = Worker ℕ Global Took Rule
 abbrev pub Thief : Type 0
 Thief = Stealer ℕ Global Took Rule
 
--- a deque, first in first out, to which the part's numbers were pushed in order, and nothing else ever
+-- a deque, first in first out, to which the part's numbers were pushed in order, and nothing else
+-- ever
 pub record IsOwn (count from end : ℕ) (own : Deck) : Type 0 where
   pub flavor : worker_flavor own ≡ 0
   pub part : (worker_view own).pushed ≡ range_with_len from (end - from)

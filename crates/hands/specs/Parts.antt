@@ -2,7 +2,8 @@
 use Rattle.std.specs.Prelude.{ℕ, Bool, ◌&&◌, ◌+◌, ◌-◌, ◌*◌, ◌/◌, ◌%◌, ◌≡◌, ◌≤◌, min, List, map, count_by, nat_le, nat_lt, if◌then◌else◌, All}
 use Rattle.std.specs.List.{range_with_len}
 
--- the numbers from `from` up to `end`, which isn't one of them, of those below `count`, dealt to so many workers
+-- the numbers from `from` up to `end`, which isn't one of them, of those below `count`, dealt to so
+-- many workers
 pub record Part : Type 0 where
   pub count : ℕ
   pub workers : ℕ
@@ -16,7 +17,12 @@ start_of count workers k = k * (count / workers) + min k (count % workers)
 -- part k ends where the next one begins
 abbrev pub part_of : ℕ → ℕ → ℕ → Part
 part_of count workers k =
-    record { count = count; workers = workers; from = start_of count workers k; end = start_of count workers (k + 1) }
+    record {
+      count = count;
+      workers = workers;
+      from = start_of count workers k;
+      end = start_of count workers (k + 1);
+    }
 
 -- the parts of all workers, in order
 abbrev pub even_parts : ℕ → ℕ → List Part

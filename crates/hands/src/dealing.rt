@@ -9,7 +9,7 @@ use std::alloc::Global;
 /// A hand for each worker, of which there is at least one. Together they hold each number below
 /// `count` once, in order, in parts whose sizes differ by at most one, the longer ones first. Each
 /// hand can steal from every other one. It refuses only for want of memory.
-#[tactic(auto, using(crate::proofs::PartLemmas::even_in, crate::proofs::PartLemmas::parts_counts, crate::proofs::PartLemmas::parts_len))]
+#[tactic(auto, using(crate::proofs::PartLemmas::dealt))]
 pub fn deal(alloc: Global, count: usize, workers: usize) -> Result<Vec<Hand>, NoMemory>
     requires some { 0 < workers }
     ensures parts { IfOk result (λ v. v.items ≡ even_parts count workers) }

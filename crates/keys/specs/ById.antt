@@ -20,8 +20,11 @@ placed_of found = option_map_or (λ ps. ps.now) found []
 
 -- the texts that the map has at the id
 abbrev pub sigs_under : BTreeMap (Bor (List ℕ)) (Vec Placed Global) → List ℕ → List (List ℕ)
-sigs_under m id = map (λ p. p.sig.now) (option_map_or (λ ps. ps.items) (get_by (λ k. slice_cmp nat_cmp id k.now) m) [])
+sigs_under m id =
+    map (λ p. p.sig.now)
+    (option_map_or (λ ps. ps.items) (get_by (λ k. slice_cmp nat_cmp id k.now) m) [])
 
 -- the map has at each id the texts of the entries under it, in their order
 abbrev pub IsById : BTreeMap (Bor (List ℕ)) (Vec Placed Global) → List Entry → Type 0
-IsById m entries = (id : List ℕ) → sigs_under m id ≡ map (λ e. e.sig) (filter (λ e. bytes_eq id e.keyid) entries)
+IsById m entries = (id : List ℕ)
+    → sigs_under m id ≡ map (λ e. e.sig) (filter (λ e. bytes_eq id e.keyid) entries)

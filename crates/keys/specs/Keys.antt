@@ -28,7 +28,9 @@ public_value key = do
 
 -- the key's type and scheme are those of LMS with SHA-256
 abbrev pub is_lms : Data → Bool
-is_lms key = has_text (codes "keytype") (bytes_eq (codes "lms")) key && has_text (codes "scheme") (bytes_eq (codes "lms-sha256")) key
+is_lms key =
+    has_text (codes "keytype") (bytes_eq (codes "lms")) key
+    && has_text (codes "scheme") (bytes_eq (codes "lms-sha256")) key
 
 -- the key, where it counts under the id
 abbrev pub usable : List ℕ → Data → Option Key

@@ -21,16 +21,20 @@ is_signed_by public message sig = is_valid_decoded public message (decode_of sig
 
 -- an entry under the key's id has a valid signature
 abbrev pub has_entry : List ℕ → List Entry → Key → Bool
-has_entry message entries key = list_any (λ e. bytes_eq e.keyid key.id && is_signed_by key.public message e.sig) entries
+has_entry message entries key =
+    list_any (λ e. bytes_eq e.keyid key.id && is_signed_by key.public message e.sig) entries
 
 -- the role lists the key, and an entry under its id has a valid signature
 abbrev pub has_signed : List ℕ → List Entry → RoleKeys → Key → Bool
-has_signed message entries role key = list_any (bytes_eq key.id) role.ids && has_entry message entries key
+has_signed message entries role key =
+    list_any (bytes_eq key.id) role.ids && has_entry message entries key
 
 -- the set of the public values that signed
 abbrev pub signers : List ℕ → List Entry → List Key → RoleKeys → set.FinSet (slice_cmp nat_cmp)
-signers message entries keys role = set.from_list (map (λ key. key.public) (filter (has_signed message entries role) keys))
+signers message entries keys role =
+    set.from_list (map (λ key. key.public) (filter (has_signed message entries role) keys))
 
 -- as many of them signed as the role asks for
 abbrev pub is_met : List ℕ → List Entry → List Key → RoleKeys → Bool
-is_met message entries keys role = nat_le role.threshold (set.len (signers message entries keys role))
+is_met message entries keys role =
+    nat_le role.threshold (set.len (signers message entries keys role))

@@ -19,11 +19,11 @@ truth (Digest file algorithm bytes digest) = bytes_eq digest.now (digest_by algo
 
 -- the questions have the same parts
 abbrev pub IsSame : Ask → Ask → Type 0
-IsSame (Signature file place public message sig) (Signature other_file other_place other_public other_message other_sig) =
-    (file.now ≡ other_file.now) × (place ≡ other_place) × (public.now ≡ other_public.now)
-    × (message.now ≡ other_message.now) × (sig.now ≡ other_sig.now)
-IsSame (Digest file algorithm bytes digest) (Digest other_file other_algorithm other_bytes other_digest) =
-    (file.now ≡ other_file.now) × (algorithm ≡ other_algorithm) × (bytes.now ≡ other_bytes.now)
-    × (digest.now ≡ other_digest.now)
-IsSame (Signature file place public message sig) (Digest other_file algorithm bytes digest) = ⊥
-IsSame (Digest file algorithm bytes digest) (Signature other_file place public message sig) = ⊥
+IsSame (Signature file place public message sig) (Signature file' place' public' message' sig') =
+    (file.now ≡ file'.now) × (place ≡ place') × (public.now ≡ public'.now)
+    × (message.now ≡ message'.now) × (sig.now ≡ sig'.now)
+IsSame (Digest file algorithm bytes digest) (Digest file' algorithm' bytes' digest') =
+    (file.now ≡ file'.now) × (algorithm ≡ algorithm') × (bytes.now ≡ bytes'.now)
+    × (digest.now ≡ digest'.now)
+IsSame (Signature file place public message sig) (Digest file' algorithm bytes digest) = ⊥
+IsSame (Digest file algorithm bytes digest) (Signature file' place public message sig) = ⊥

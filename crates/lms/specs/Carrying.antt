@@ -11,7 +11,8 @@ pub record IsOn (id : List ℕ) (q i end a : ℕ) (x : List ℕ) (b : ℕ) (y : 
 -- each of 67 chains has gone on from the digits ds and the values xs to es and ys
 abbrev pub AreOn : List ℕ → List ℕ → ℕ → List ℕ → List (List ℕ) → List ℕ → List (List ℕ) → Type 0
 AreOn ends id q ds xs es ys = (i : ℕ) → i < 67
-    → IsOn id q i (slice_index ends i) (slice_index ds i) (slice_index_or xs i []) (slice_index es i) (slice_index_or ys i [])
+    → IsOn id q i (slice_index ends i) (slice_index ds i) (slice_index_or xs i [])
+    (slice_index es i) (slice_index_or ys i [])
 
 -- the first n of some values, one after the other
 unfoldable pub row_of : List (List ℕ) → ℕ → List ℕ

@@ -1,4 +1,5 @@
--- The length and the digests of a file (TUF 1.0 sections 5.3 to 5.7): the first check that fails is the answer.
+-- The length and the digests of a file (TUF 1.0 sections 5.3 to 5.7): the first check that fails is
+-- the answer.
 use Rattle.std.specs.Prelude.{ℕ, ◌&&◌, ◌||◌, ◌==◌, nat_lt, not, List, length, Bool, false, Option, Some, None, is_none, Result, bytes_eq, ⊤}
 use Rattle.std.specs.Option.{option_map_or}
 use Rattle.keys.specs.Truth.{digest_by}
@@ -14,7 +15,8 @@ differs None found = false
 differs (Some given) found = not (bytes_eq given found)
 
 abbrev pub is_hash_wrong : Hashes → List ℕ → Bool
-is_hash_wrong h bytes = differs h.sha256 (digest_by Sha256 bytes) || differs h.sha512 (digest_by Sha512 bytes)
+is_hash_wrong h bytes =
+    differs h.sha256 (digest_by Sha256 bytes) || differs h.sha512 (digest_by Sha512 bytes)
 
 abbrev pub has_no_known_hash : Hashes → Bool
 has_no_known_hash h = is_none h.sha256 && is_none h.sha512

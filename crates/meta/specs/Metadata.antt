@@ -27,7 +27,8 @@ pub record Delegation : Type 0 where
   pub terminating : Bool
   pub matcher : Matcher
 
--- succinct roles: `2 ^ bits` bins, each a role with these keys, whose name begins with the prefix (this project's profile)
+-- succinct roles: `2 ^ bits` bins, each a role with these keys, whose name begins with the prefix
+-- (this project's profile)
 pub record Bins : Type 0 where
   pub keys : RoleKeys
   pub bits : ℕ
@@ -125,7 +126,15 @@ root d = do
   snapshot ← role_of (codes "snapshot") d
   targets ← role_of (codes "targets") d
   consistent ← flag (codes "consistent_snapshot") d
-  Some (record { header = header; ring = ring; root = root; timestamp = timestamp; snapshot = snapshot; targets = targets; consistent = consistent })
+  Some (record {
+    header = header;
+    ring = ring;
+    root = root;
+    timestamp = timestamp;
+    snapshot = snapshot;
+    targets = targets;
+    consistent = consistent;
+  })
 
 abbrev pub timestamp : Form Timestamp
 timestamp d = do
@@ -159,7 +168,8 @@ is_lower_digit c = is_digit c || (nat_le 97 c && nat_le c 102)
 
 -- a prefix of a digest: 1 to 64 digits of `0` to `9` and `a` to `f`
 abbrev pub is_prefix : List ℕ → Bool
-is_prefix digits = nat_le 1 (length digits) && nat_le (length digits) 64 && list_all is_lower_digit digits
+is_prefix digits =
+    nat_le 1 (length digits) && nat_le (length digits) 64 && list_all is_lower_digit digits
 
 abbrev pub one_of : Option (List (List ℕ)) → Option (List (List ℕ)) → Option Matcher
 one_of (Some found) None = Some (patterns found)

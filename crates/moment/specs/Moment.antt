@@ -33,7 +33,8 @@ IsStamp s =
 -- The year has at most four digits, and the others two.
 abbrev pub FitsDigits : Stamp → Type 0
 FitsDigits s =
-    (s.year < 10000) × (s.month < 100) × (s.day < 100) × (s.hour < 100) × (s.minute < 100) × (s.second < 100)
+    (s.year < 10000) × (s.month < 100) × (s.day < 100)
+    × (s.hour < 100) × (s.minute < 100) × (s.second < 100)
 
 -- a number below 100 in two decimal digits
 abbrev pub two_digits : ℕ → List ℕ

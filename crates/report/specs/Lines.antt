@@ -50,12 +50,15 @@ end_text (Stopped step fault) = line (codes "end" ∷ step_word step ∷ fault_w
 abbrev pub role_text : Accepted → List ℕ
 role_text a = line (codes "role" ∷ quoted_text a.role ∷ decimal a.version ∷ [])
 
--- `ok PATH LENGTH ROLE`, or `no PATH WHY`, where a role whose file is refused stands behind its fault
+-- `ok PATH LENGTH ROLE`, or `no PATH WHY`, where a role whose file is refused stands behind its
+-- fault
 abbrev pub verdict_text : List ℕ → Verdict → List ℕ
-verdict_text path (Good role length) = line (codes "ok" ∷ quoted_text path ∷ decimal length ∷ quoted_text role ∷ [])
+verdict_text path (Good role length) =
+    line (codes "ok" ∷ quoted_text path ∷ decimal length ∷ quoted_text role ∷ [])
 verdict_text path NotFound = line (codes "no" ∷ quoted_text path ∷ codes "NotFound" ∷ [])
 verdict_text path LimitReached = line (codes "no" ∷ quoted_text path ∷ codes "LimitReached" ∷ [])
-verdict_text path (RoleRefused role fault) = line (codes "no" ∷ quoted_text path ∷ fault_word fault ∷ quoted_text role ∷ [])
+verdict_text path (RoleRefused role fault) =
+    line (codes "no" ∷ quoted_text path ∷ fault_word fault ∷ quoted_text role ∷ [])
 verdict_text path (FileRefused fault) = line (codes "no" ∷ quoted_text path ∷ fault_word fault ∷ [])
 verdict_text path NotSearched = line (codes "no" ∷ quoted_text path ∷ codes "NotSearched" ∷ [])
 
@@ -65,7 +68,8 @@ verdict_text path NotSearched = line (codes "no" ∷ quoted_text path ∷ codes 
 abbrev pub verdict_texts : List (List ℕ) → List Verdict → List ℕ
 verdict_texts wanted verdicts = flat_map (λ p. verdict_text p.0 p.1) (zip wanted verdicts)
 
--- the trusted root, how the cycle ended, the roles that were accepted, and the wanted paths, all in order
+-- the trusted root, how the cycle ended, the roles that were accepted, and the wanted paths, all in
+-- order
 abbrev pub outcome_text : Outcome → List (List ℕ) → List ℕ
 outcome_text o wanted =
     root_text o.trusted.root.reading.header.version

@@ -43,7 +43,8 @@ has_other_ids old new = not (are_among old.ids new.ids && are_among new.ids old.
 
 -- the timestamp's or the snapshot's keys were changed
 abbrev pub is_rotated : Root → Root → Bool
-is_rotated old new = has_other_ids old.timestamp new.timestamp || has_other_ids old.snapshot new.snapshot
+is_rotated old new =
+    has_other_ids old.timestamp new.timestamp || has_other_ids old.snapshot new.snapshot
 
 -- a rotation drops the timestamp and the snapshot (5.3.11)
 abbrev pub with_root : State → Part Root → State
@@ -52,7 +53,8 @@ with_root s r = if is_rotated s.root.reading r.reading
     else record { root = r; timestamp = s.timestamp; snapshot = s.snapshot; targets = s.targets }
 
 abbrev pub with_timestamp : State → Part Timestamp → State
-with_timestamp s p = record { root = s.root; timestamp = Some p; snapshot = s.snapshot; targets = s.targets }
+with_timestamp s p =
+    record { root = s.root; timestamp = Some p; snapshot = s.snapshot; targets = s.targets }
 
 -- where none is newer, the trusted one stays
 abbrev pub with_newer : State → Option (Part Timestamp) → State
@@ -60,10 +62,12 @@ with_newer s None = s
 with_newer s (Some p) = with_timestamp s p
 
 abbrev pub with_snapshot : State → Part Snapshot → State
-with_snapshot s p = record { root = s.root; timestamp = s.timestamp; snapshot = Some p; targets = s.targets }
+with_snapshot s p =
+    record { root = s.root; timestamp = s.timestamp; snapshot = Some p; targets = s.targets }
 
 abbrev pub with_targets : State → Part Targets → State
-with_targets s p = record { root = s.root; timestamp = s.timestamp; snapshot = s.snapshot; targets = Some p }
+with_targets s p =
+    record { root = s.root; timestamp = s.timestamp; snapshot = s.snapshot; targets = Some p }
 
 abbrev pub reading_in : {A : Type 0} → Option (Part A) → Option A
 reading_in None = None
@@ -90,10 +94,13 @@ module _ (files : Files) (now : Moment) where
 
   -- a root of the greatest version has no successor
   abbrev pub successor : Root → Result (Option (Part Root)) Fault
-  successor r = if nat_le last_version r.header.version then Ok None else following r (files (root_name (r.header.version + 1)))
+  successor r =
+      if nat_le last_version r.header.version then Ok None
+      else following r (files (root_name (r.header.version + 1)))
 
   -- the next root is trusted, and then the one that follows it, if any (5.3.7 to 5.3.9)
-  abbrev pub chained : State → (State → Result State Advanced) → Option (Part Root) → Result State Advanced
+  abbrev pub chained : State → (State → Result State Advanced) → Option (Part Root)
+      → Result State Advanced
   chained s more None = Ok s
   chained s more (Some next) = more (with_root s next)
 
@@ -125,7 +132,8 @@ module _ (files : Files) (now : Moment) where
     Ok newer
 
   -- the timestamp that is trusted next (5.4.1 to 5.4.4)
-  abbrev pub newer_timestamp : Root → Option (Part Timestamp) → Result (Option (Part Timestamp)) Fault
+  abbrev pub newer_timestamp : Root → Option (Part Timestamp)
+      → Result (Option (Part Timestamp)) Fault
   newer_timestamp r None = do
     p ← first_timestamp (due_timestamp r) files now
     Ok (Some p)

@@ -36,11 +36,15 @@ next_snapshot r l = record {
 
 -- how the snapshot lists a role
 abbrev pub listing_of : List ℕ → Snapshot → Listed
-listing_of role snap = option_map_or (λ n. listed_as n.listing) (find (λ n. bytes_eq n.name (role_name role)) snap.files) absent
+listing_of role snap =
+    option_map_or (λ n. listed_as n.listing)
+    (find (λ n. bytes_eq n.name (role_name role)) snap.files) absent
 
 -- the name under which a role's file lies
 abbrev pub file_name : Root → List ℕ → Listed → List ℕ
-file_name r role l = option_map_or (λ version. versioned r.consistent version (role_name role)) (listed_version l) (role_name role)
+file_name r role l =
+    option_map_or (λ version. versioned r.consistent version (role_name role))
+    (listed_version l) (role_name role)
 
 -- a role's targets file, by the keys of the file that delegates to it
 abbrev pub next_targets : Root → Snapshot → List ℕ → List Key → RoleKeys → Expectation

@@ -21,7 +21,12 @@ bytes_in None = None
 bytes_in (Some p) = Some p.bytes
 
 abbrev pub kept_of : State → Kept
-kept_of s = record { root = s.root.bytes; snapshot = bytes_in s.snapshot; targets = bytes_in s.targets; timestamp = bytes_in s.timestamp }
+kept_of s = record {
+  root = s.root.bytes;
+  snapshot = bytes_in s.snapshot;
+  targets = bytes_in s.targets;
+  timestamp = bytes_in s.timestamp;
+}
 
 -- the hexadecimal text of some bytes
 abbrev pub hex_text : Form (List ℕ)
@@ -50,7 +55,8 @@ later_text name (Some bytes) = 44 ∷ member_text name bytes
 abbrev pub kept_text : Kept → List ℕ
 kept_text k =
     codes "{" ++ member_text (codes "root") k.root ++ later_text (codes "snapshot") k.snapshot
-    ++ later_text (codes "targets") k.targets ++ later_text (codes "timestamp") k.timestamp ++ codes "}"
+    ++ later_text (codes "targets") k.targets
+    ++ later_text (codes "timestamp") k.timestamp ++ codes "}"
 
 -- the member of a file that is trusted, before the others
 abbrev pub later_member : List ℕ → Option (List ℕ) → Members → Members
@@ -69,4 +75,6 @@ is_over limit bytes = option_map_or (λ b. nat_lt limit (length b)) bytes false
 
 -- a file over the limit of its kind
 abbrev pub has_long : Kept → Bool
-has_long k = nat_lt root_limit (length k.root) || is_over snapshot_limit k.snapshot || is_over targets_limit k.targets || is_over timestamp_limit k.timestamp
+has_long k =
+    nat_lt root_limit (length k.root) || is_over snapshot_limit k.snapshot
+    || is_over targets_limit k.targets || is_over timestamp_limit k.timestamp

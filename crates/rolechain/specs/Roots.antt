@@ -39,15 +39,17 @@ module _ (files : Files) (now : Moment) where
 
   -- the longest chain from the one root ends at the other, or a chain of `most` steps does
   abbrev pub IsLongestChain : ℕ → Part Root → Part Root → Type 0
-  IsLongestChain most a b = (n : ℕ) × (n ≤ most) × IsChain n a b × ((n ≡ most) ⊎ ((next : Part Root) → ¬ IsRootStep b next))
+  IsLongestChain most a b =
+      (n : ℕ) × (n ≤ most) × IsChain n a b
+      × ((n ≡ most) ⊎ ((next : Part Root) → ¬ IsRootStep b next))
 
   -- each root is a root step from the one before it
   abbrev pub AreChained : Part Root → List (Part Root) → Type 0
   AreChained a [] = Unit {0}
   AreChained a (b ∷ more) = IsRootStep a b × AreChained b more
 
-  -- the roots of a chain were trusted, and the timestamp and the snapshot are gone exactly where two
-  -- neighbours of it are rotated (5.3.11)
+  -- the roots of a chain were trusted, and the timestamp and the snapshot are gone exactly where
+  -- two neighbours of it are rotated (5.3.11)
   pub record IsDropped (old new : State) : Type 0 where
     pub roots : List (Part Root)
     pub chained : AreChained old.root roots

@@ -21,7 +21,8 @@ abbrev pub or_state_fault : {A : Type 0} → Result A Fault → Result A StateFa
 or_state_fault (Ok x) = Ok x
 or_state_fault (Err fault) = Err (of_fault fault)
 
-abbrev pub part_in : {A : Type 0} → (List ℕ → Result (Part A) Fault) → Option (List ℕ) → Result (Option (Part A)) StateFault
+abbrev pub part_in : {A : Type 0} → (List ℕ → Result (Part A) Fault) → Option (List ℕ)
+    → Result (Option (Part A)) StateFault
 part_in read None = Ok None
 part_in read (Some bytes) = do
   part ← or_state_fault (read bytes)
@@ -34,12 +35,14 @@ root_state bytes = do
   Ok (first root)
 
 -- the state that the files give, each read in turn
-abbrev pub with_timestamp_in : Part Root → Option (Part Snapshot) → Option (Part Targets) → Option (List ℕ) → Result State StateFault
+abbrev pub with_timestamp_in : Part Root → Option (Part Snapshot) → Option (Part Targets)
+    → Option (List ℕ) → Result State StateFault
 with_timestamp_in root snapshot targets bytes = do
   timestamp ← part_in (part_of timestamp_of timestamp_limit) bytes
   Ok (record { root = root; timestamp = timestamp; snapshot = snapshot; targets = targets })
 
-abbrev pub with_targets_in : Part Root → Option (Part Snapshot) → Option (List ℕ) → Option (List ℕ) → Result State StateFault
+abbrev pub with_targets_in : Part Root → Option (Part Snapshot) → Option (List ℕ)
+    → Option (List ℕ) → Result State StateFault
 with_targets_in root snapshot bytes timestamp = do
   targets ← part_in (part_of targets_of targets_limit) bytes
   with_timestamp_in root snapshot targets timestamp

@@ -14,7 +14,9 @@ use Rattle.seals.specs.declared.signer.Signer.{Signer}
 
 -- an entry of `signatures`
 abbrev pub entry_object : Entry → Data
-entry_object e = object (member (codes "keyid") (string e.keyid) (member (codes "sig") (string e.sig) no_members))
+entry_object e =
+    object (member (codes "keyid") (string e.keyid)
+    (member (codes "sig") (string e.sig) no_members))
 
 abbrev pub entry_objects : List Entry → Items
 entry_objects [] = no_items
@@ -22,7 +24,9 @@ entry_objects (e ∷ es) = item (entry_object e) (entry_objects es)
 
 -- the file of a value and its entries
 abbrev pub sealed : Data → List Entry → Data
-sealed value es = object (member (codes "signatures") (array (entry_objects es)) (member (codes "signed") value no_members))
+sealed value es =
+    object (member (codes "signatures") (array (entry_objects es))
+    (member (codes "signed") value no_members))
 
 -- ---- who signed it
 
@@ -33,7 +37,11 @@ pub record Holder : Type 0 where
   pub leaves : ℕ
 
 abbrev pub holder : Signer → Holder
-holder s = record { id = string_bytes s.id; public = public_of s.secret; leaves = 2 ^ levels s.secret.kind.height }
+holder s = record {
+  id = string_bytes s.id;
+  public = public_of s.secret;
+  leaves = 2 ^ levels s.secret.kind.height;
+}
 
 -- how many leaves of the signer are gone
 abbrev pub used_of : Signer → ℕ
@@ -50,10 +58,11 @@ HasSpent by old new = (n : ℕ) × (new ≡ fold spend old (take n by))
 -- the places together ask the signer at place p for more leaves than it has
 abbrev pub IsOverspent : List Signer → List ℕ → ℕ → Type 0
 IsOverspent signers by p =
-    (h : Holder) × (slice_get (map holder signers) p ≡ Some h) × (h.leaves < slice_index (fold spend (map used_of signers) by) p)
+    (h : Holder) × (slice_get (map holder signers) p ≡ Some h)
+    × (h.leaves < slice_index (fold spend (map used_of signers) by) p)
 
--- the entry has the holder's id, and a signature of the text that is valid for the holder's public key, in lower-case
--- hexadecimal
+-- the entry has the holder's id, and a signature of the text that is valid for the holder's public
+-- key, in lower-case hexadecimal
 pub record IsSignedBy (h : Holder) (text : List ℕ) (e : Entry) : Type 0 where
   pub keyid : e.keyid ≡ h.id
   pub signature : List ℕ
@@ -64,8 +73,8 @@ pub record IsSignedBy (h : Holder) (text : List ℕ) (e : Entry) : Type 0 where
 abbrev pub IsSignedAt : List Holder → List ℕ → ℕ → Entry → Type 0
 IsSignedAt hs text p e = (h : Holder) × (slice_get hs p ≡ Some h) × IsSignedBy h text e
 
--- The file is the canonical text of the value with an entry for each place, in order, and each signature covers the
--- canonical text of the value.
+-- The file is the canonical text of the value with an entry for each place, in order, and each
+-- signature covers the canonical text of the value.
 pub record IsSealed (value : Data) (hs : List Holder) (by file : List ℕ) : Type 0 where
   pub signed : List ℕ
   pub signed_text : canon value ≡ Some signed

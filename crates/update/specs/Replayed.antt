@@ -29,7 +29,8 @@ state_after s [] = s.trusted
 state_after s (r ∷ rs) = state_after (after s (outcome_in s r)) rs
 
 -- the files of each pair of folders, in order
-abbrev pub AreLoaded : {F : Type 0} → (F → Loaded → Type 0) → (F → Loaded → Type 0) → List F → List Repo → Type 0
+abbrev pub AreLoaded : {F : Type 0} → (F → Loaded → Type 0) → (F → Loaded → Type 0)
+    → List F → List Repo → Type 0
 AreLoaded of_metadata of_targets = AllZip (λ f r. of_metadata f r.metadata × of_targets f r.targets)
 
 -- A writer was given the lines of the cycles, and the status is that of the last one.
@@ -38,7 +39,8 @@ pub record AreTold (os : List Outcome) (wanted : List (List ℕ)) (status : ℕ)
   pub lines : Appends old new (cycles_text wanted os)
   pub answered : status ≡ last_status os
 
--- Files that are those of the folders: the state after their cycles is stored, and more holds of the outcomes.
+-- Files that are those of the folders: the state after their cycles is stored, and more holds of
+-- the outcomes.
 pub record IsReplayed (loaded : List Repo → Type 0) (start : Start) (keeps : List ℕ → Bool)
     (follows : List Outcome → Type 0) : Type 0 where
   pub repos : List Repo

@@ -43,7 +43,8 @@ pub record IsTold (o : Outcome) (wanted : List (List ℕ)) (status : ℕ)
 abbrev pub Loaded : Type 0
 Loaded = BTreeMap (String Global) (Vec ℕ Global)
 
--- Files that are those of the two folders: the new state of their outcome is stored, and more holds of the outcome.
+-- Files that are those of the two folders: the new state of their outcome is stored, and more holds
+-- of the outcome.
 pub record IsStored (of_metadata of_targets : Loaded → Type 0) (start : Start)
     (keeps : List ℕ → Bool) (follows : Outcome → Type 0) : Type 0 where
   pub metadata : Loaded

@@ -32,12 +32,12 @@ It writes the new state first, also where the update stopped, and then prints
   role NAME VERSION       for each delegated role that was accepted
   ok NAME LENGTH ROLE     or `no NAME WHY`, for each wanted target in order
 
-Put `--` before the first PATH where one begins with `-`. Links in the folders are passed over. What is
-printed, written and answered is the same for any number of workers.
+Put `--` before the first PATH where one begins with `-`. Links in the folders are passed over.
+What is printed, written and answered is the same for any number of workers.
 
 EXAMPLES:
   tufcheck verify --state state --metadata repo/metadata --targets repo/targets --out state abc.txt
-  tufcheck verify --state old --metadata m --targets t --now 2026-01-01T00:00:00Z --limit 64 --out new -- a/b -c
+  tufcheck verify --state old --metadata m --targets t --now 2026-01-01T00:00:00Z --out new -- -c
 
 EXIT STATUS:
   0  all wanted targets are good
@@ -47,9 +47,9 @@ EXIT STATUS:
   4  a folder, the clock, the output or memory failed";
 
 pub const REPLAY_END: &str = "\
-Each DIR is a repository, with the folders `metadata` and `targets`. All are read first. Then each is
-verified in order, from the state of the one before and at one moment. It writes the last state, also
-where an update stopped, and then prints for each DIR, from 1,
+Each DIR is a repository, with the folders `metadata` and `targets`. All are read first. Then each
+is verified in order, from the state of the one before and at one moment. It writes the last state,
+also where an update stopped, and then prints for each DIR, from 1,
   cycle K
 and the lines of `verify`. What it remembers changes no line.
 
