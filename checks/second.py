@@ -37,7 +37,8 @@ except ImportError:
 TOP = os.path.dirname(os.path.dirname(os.path.abspath(__file__)))
 PROGRAM = f"{TOP}/crates/tufcheck/out/tufcheck"
 NOW = "2026-01-01T00:00:00Z"
-TIMES = ["2030-01-01T00:00:00Z"] * 120 + [NOW, "2025-12-31T23:59:59Z", "2026-01-01T00:00:01Z", "0000-02-29T00:00:00Z"]
+LATER = "2030-01-01T00:00:00Z"
+TIMES = [LATER, NOW, "2025-12-31T23:59:59Z", "2026-01-01T00:00:01Z", "0000-02-29T00:00:00Z"]
 PATHS = ["a", "b", "ab", "d/a", "d/b", "d/e/a", "\u00e9", 'd/"\u00e9*']
 PATTERNS = ["*", "a*", "?", "d/*", "d/?", "*/*", "d/e/*", "ab", "\u00e9", "nobody", "*a*b*", "d/??*", ""]
 ROLES = ["r", "s", "t", "u", "bin-0", "bin-1", "bin-2", "bin-3", 'v/"w']
@@ -92,8 +93,8 @@ class History:
     def part(self, kind, name, **members):
         """A signed part, a version above the one before more often than not."""
         self.versions[name] = max(1, self.versions[name] + self.draw.choice([0, 1, 1, 1, 1, 2, -1]))
-        return {"_type": kind, "expires": self.draw.choice(TIMES), "spec_version": "1.0.31",
-                "version": self.versions[name], **members}
+        expires = self.draw.choice(TIMES) if self.chance(0.3 if name in self.hurt else 0.02) else LATER
+        return {"_type": kind, "expires": expires, "spec_version": "1.0.31", "version": self.versions[name], **members}
 
     def listing(self, name, content):
         """How another file lists that one."""
@@ -142,6 +143,7 @@ class History:
                 delegation["paths"] = self.draw.sample(PATTERNS, self.draw.randint(0, 3))
             else:
                 digest = hashlib.sha256(self.draw.choice(PATHS).encode()).hexdigest()
+                digest = digest.upper() if self.chance(0.1) else digest
                 delegation["path_hash_prefixes"] = [digest[: self.draw.choice([1, 2, 64])], "00"]
             roles.append(delegation)
         return {"keys": self.ring(*used), "roles": roles}
@@ -161,6 +163,12 @@ class History:
             tree = tree[at]
         return None
 
+    def spoil_number(self, part):
+        """Puts something else in the place of a whole number."""
+        holder, at = self.draw.choice(list(numbers(part)))
+        number = holder[at]
+        holder[at] = self.draw.choice([number - 1, number + 1, 0, True, -number, float(number), str(number), 2**63])
+
     def entry(self, key, message):
         key.used = self.draw.randrange(32)
         sig = key.sign(message).hex()
@@ -169,10 +177,12 @@ class History:
     def sealed(self, name, part, keys):
         """The file of a part that these keys sign."""
         is_hurt = name in self.hurt and self.chance(0.8)
-        ways = self.draw.choices(["part", "part", "keys", "entries", "bytes"], k=self.draw.choice([1, 1, 2]))
+        ways = self.draw.choices(["number", "part", "keys", "keys", "entries", "bytes"], k=self.draw.choice([1, 1, 2]))
         ways = ways if is_hurt else []
+        part = copy.deepcopy(part)
+        if "number" in ways:
+            self.spoil_number(part)
         if "part" in ways:
-            part = copy.deepcopy(part)
             self.spoil(part)
         message = tuf.canonical(part)
         if "keys" in ways:
@@ -222,7 +232,7 @@ class History:
         """The next state of the repository."""
         self.targets = {}
         self.hurt = set(self.draw.sample(
-            ["root", "timestamp", "snapshot", "targets", *ROLES[:4], *PATHS[:4], "timestamp.json", "targets.json", "r.json"],
+            [*reading.KINDS, *reading.KINDS, *ROLES[:4], *PATHS[:4], "timestamp.json", "targets.json", "r.json"],
             self.draw.choice([0, 0, 1, 1, 2])))
         self.metadata = {name: it for name, it in self.metadata.items() if name.endswith(".root.json")}
         for _ in range(self.draw.choice([0, 0, 1, 2])):
@@ -235,10 +245,10 @@ class History:
                 part["delegations"] = self.delegations()
             version = part["version"]
             content = self.sealed(name, part, self.keys["targets"] if name == "targets" else self.signers[name])
-            self.put(f"{name}.json", content, version)
+            listed_version = version + (name in self.hurt and self.chance(0.4))
+            self.put(f"{name}.json", content, self.draw.choice([version, listed_version]))
             if not self.chance(0.03):
-                version += name in self.hurt and self.chance(0.4)
-                listed[f"{name}.json"] = {"version": version, **self.listing(name, content)}
+                listed[f"{name}.json"] = {"version": listed_version, **self.listing(name, content)}
         part = self.part("snapshot", "snapshot", meta=listed)
         version = part["version"]
         content = self.sealed("snapshot", part, self.keys["snapshot"])
@@ -246,6 +256,15 @@ class History:
         meta = {"snapshot.json": {"version": version, **self.listing("snapshot", content)}}
         part = self.part("timestamp", "timestamp", meta=meta)
         self.put("timestamp.json", self.sealed("timestamp", part, self.keys["timestamp"]))
+
+
+def numbers(tree):
+    """Each whole number in a tree, as what holds it and where."""
+    for at, below in list(tree.items() if isinstance(tree, dict) else enumerate(tree)):
+        if isinstance(below, (dict, list)):
+            yield from numbers(below)
+        elif type(below) is int:
+            yield tree, at
 
 
 def tight(tree):
