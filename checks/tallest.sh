@@ -1,16 +1,16 @@
 #!/bin/bash
-# Makes the one key of W8 and height 15, and asks that its root and what it signs are those that another program computed (a
-# Python program that shares no code with the crates).
+# Makes the one key of W8 and height 15 and one of W4, and asks that their roots and what they sign are those that another
+# program computed (a Python program that shares no code with the crates).
 #
 #   checks/tallest.sh
 #
-# `rt run` in crates/vectors proves and builds the program. The key takes 284 million steps of chains, so it takes some 34 to
-# 100 seconds, by how busy the machine is.
+# `rt run` in crates/rows proves and builds the program. The first key takes 284 million steps of chains and the
+# second 33 million, so it takes some 40 to 110 seconds, by how busy the machine is.
 set -u
 top=$(cd "$(dirname "$0")/.." && pwd) || exit 2
 work=$(mktemp -d) || exit 2
 trap 'rm -rf "$work"' EXIT
-mkdir "$work/cases" || exit 2
+mkdir "$work/cases" && cp "$top/crates/rows/data/cases/leaf-w4-15-5.vector" "$work/cases" || exit 2
 cat > "$work/cases/tallest.t" << 'LINES'
 The first signature and the sixth of a key of W8 and height 15.
   $ sign 8 15 abc first sixth
@@ -25,5 +25,14 @@ The first signature and the sixth of a key of W8 and height 15.
   SHA-256 d86c8d20079f7e1b448672b25c42abad33778664951485556d63a1612cabd314
   $ verify sixth
   yes
+
+The same of W4.
+  $ sign 4 15 abc first sixth
+  root b43dc95d0d427c855b94fa340547b79d585237fc7435cb65d56bbf9c6340fadb
+  2668 bytes of 2668
+  SHA-256 1c237299ed62ed6a2344d53051ef408d4e67173091156dfe944b11c54d2f3873
+  $ same sixth cases/leaf-w4-15-5.vector
+  $ verify first
+  yes
 LINES
-cd "$work" && "$top/crates/vectors/out/vectors"
+cd "$work" && "$top/crates/rows/out/rows"

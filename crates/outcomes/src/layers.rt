@@ -1,51 +1,49 @@
-//! The commands of the rows.
+//! The commands of the rows of the cycle.
 
 use crate::{names, searches, states, verdicts};
-use anyhow::{Result, bail};
-use sessions::{Step, Told};
+use anyhow::Result;
+use sessions::Step;
 use std::alloc::Global;
 use std::fs;
 use std::rt::Files;
 
-/// The layers of the verifier, and the files that rows leave for later ones.
+/// The layers of the cycle, and the files that rows leave for later ones.
 #[derive(Clone, Copy, Drop)]
 pub struct Layers<'a, R> {
     rt: &'a R,
-    pub alloc: Global,
+    pub(crate) alloc: Global,
 }
 
 impl<'a, R: Files + AllocGlobal + Clone + Drop> Layers<'a, R> {
+    /// The layers over a place of files.
     pub fn new(rt: &'a R, alloc: Global) -> Layers<'a, R> {
         Layers { rt, alloc }
     }
 
     /// The bytes of a file.
-    pub fn bytes(&self, name: &str) -> Result<Vec<u8>> {
+    pub(crate) fn bytes(&self, name: &str) -> Result<Vec<u8>> {
         Ok(fs::read(self.rt, name)?)
     }
 
-    /// Does a step, and gives what its command told. An error says why the step can't be done.
-    pub fn perform(&self, step: &Step) -> Result<Told> {
-        Ok(Told::printed(self.alloc, self.of_cycles(step)?))
-    }
-
-    /// What a step prints of states, searches and lines.
-    fn of_cycles(&self, step: &Step) -> Result<String> {
-        match step.name()? {
+    /// What a step prints of states, searches and lines, or nothing where it has another command.
+    /// An error says why the step can't be done.
+    pub fn printed(&self, step: &Step) -> Result<Option<String>> {
+        let printed = match step.name()? {
             "trust" => states::trust(self, step),
             "state" => states::state(self, step),
             "state-text" => states::state_text(self.alloc, step),
             "search" => searches::told(self.alloc, step),
             "verdict" => verdicts::verdict(self.alloc, step),
             "end" => verdicts::end(self.alloc, step),
-            _ => of_names(self.alloc, step),
-        }
+            _ => return of_names(self.alloc, step),
+        };
+        Ok(Some(printed?))
     }
 }
 
 /// What a step prints of patterns, and of names of bins and files.
-fn of_names(alloc: Global, step: &Step) -> Result<String> {
-    match step.name()? {
+fn of_names(alloc: Global, step: &Step) -> Result<Option<String>> {
+    let printed = match step.name()? {
         "matches" => names::pattern(alloc, step),
         "prefix" => names::prefix(alloc, step),
         "bin" => names::bin(alloc, step),
@@ -55,6 +53,7 @@ fn of_names(alloc: Global, step: &Step) -> Result<String> {
         "versioned" => names::versioned_name(alloc, step),
         "hashed" => names::hashed_name(alloc, step),
         "joined" => names::below(alloc, step),
-        _ => bail!("no such command"),
-    }
+        _ => return Ok(None),
+    };
+    Ok(Some(printed?))
 }

@@ -60,7 +60,8 @@ impl Signer {
     fn file(&mut self, alloc: Global, path: &str) -> Result<String> {
         let signed = format!(in alloc;
             "{{\"_type\":\"targets\",\"expires\":\"2030-01-01T00:00:00Z\",\
-\"spec_version\":\"1.0.31\",\"targets\":{{\"{path}\":{{\"hashes\":{{\"sha256\":\"{DIGEST}\"}},\"length\":3}}}},\"version\":1}}"
+\"spec_version\":\"1.0.31\",\"targets\":{{\"{path}\":{{\"hashes\":\
+{{\"sha256\":\"{DIGEST}\"}},\"length\":3}}}},\"version\":1}}"
         )?;
         let sig = hex::encode(alloc, self.secret.sign(signed.as_bytes())?)?;
         let id = self.id.as_str();

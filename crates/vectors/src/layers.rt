@@ -1,49 +1,46 @@
-//! The commands of the rows.
+//! The commands of the rows of files and keys.
 
 use crate::{
     blocks, contents, forms, key_rings, moments, questions, readings, signatures, texts, thresholds,
 };
-use anyhow::{Result, bail};
-use sessions::{Step, Told};
+use anyhow::Result;
+use sessions::Step;
 use std::alloc::Global;
 use std::fs;
 use std::rt::Files;
 
-/// The layers of the verifier, and the files that rows leave for later ones.
+/// The layers of one file and one key, and the files that rows leave for later ones.
 #[derive(Clone, Copy, Drop)]
 pub struct Layers<'a, R> {
     rt: &'a R,
-    pub alloc: Global,
+    pub(crate) alloc: Global,
 }
 
 impl<'a, R: Files + AllocGlobal + Clone + Drop> Layers<'a, R> {
+    /// The layers over a place of files.
     pub fn new(rt: &'a R, alloc: Global) -> Layers<'a, R> {
         Layers { rt, alloc }
     }
 
     /// The text of a file.
-    pub fn text(&self, name: &str) -> Result<String> {
+    pub(crate) fn text(&self, name: &str) -> Result<String> {
         Ok(fs::read_to_string(self.rt, name)?)
     }
 
     /// Whether there is a file of that name.
-    pub fn has(&self, name: &str) -> Result<bool> {
+    pub(crate) fn has(&self, name: &str) -> Result<bool> {
         Ok(fs::exists(self.rt, name)?)
     }
 
     /// Writes a file.
-    pub fn write(&self, name: &str, text: &str) -> Result<()> {
+    pub(crate) fn write(&self, name: &str, text: &str) -> Result<()> {
         Ok(fs::write(self.rt, name, text)?)
     }
 
-    /// Does a step, and gives what its command told. An error says why the step can't be done.
-    pub fn perform(&self, step: &Step) -> Result<Told> {
-        Ok(Told::printed(self.alloc, self.of_files(step)?))
-    }
-
-    /// What a step prints that reads files or writes them.
-    fn of_files(&self, step: &Step) -> Result<String> {
-        match step.name()? {
+    /// What a step prints of files and keys, or nothing where it has another command. An error says
+    /// why the step can't be done.
+    pub fn printed(&self, step: &Step) -> Result<Option<String>> {
+        let printed = match step.name()? {
             "verify" => signatures::verified(self, step),
             "about" => signatures::about(self, step),
             "sign" => signatures::sign(self, step),
@@ -53,14 +50,15 @@ impl<'a, R: Files + AllocGlobal + Clone + Drop> Layers<'a, R> {
             "read" => readings::read(self, step),
             "listing" => contents::check_listing(self, step),
             "target" => contents::check_target(self, step),
-            _ => of_texts(self.alloc, step),
-        }
+            _ => return of_texts(self.alloc, step),
+        };
+        Ok(Some(printed?))
     }
 }
 
 /// What a step prints of texts and JSON.
-fn of_texts(alloc: Global, step: &Step) -> Result<String> {
-    match step.name()? {
+fn of_texts(alloc: Global, step: &Step) -> Result<Option<String>> {
+    let printed = match step.name()? {
         "canonical" => texts::canonical_text(alloc, step),
         "document" => texts::document(alloc, step),
         "document-hex" => texts::document_hex(alloc, step),
@@ -71,13 +69,14 @@ fn of_texts(alloc: Global, step: &Step) -> Result<String> {
         "optional" => forms::optional_truth(alloc, step),
         "needed-text" => forms::needed_text(alloc, step),
         "list" => forms::list(alloc, step),
-        _ => of_values(alloc, step),
-    }
+        _ => return of_values(alloc, step),
+    };
+    Ok(Some(printed?))
 }
 
 /// What a step prints of keys, moments and digests.
-fn of_values(alloc: Global, step: &Step) -> Result<String> {
-    match step.name()? {
+fn of_values(alloc: Global, step: &Step) -> Result<Option<String>> {
+    let printed = match step.name()? {
         "key-id" => key_rings::id(alloc, step),
         "ring" => key_rings::ring(alloc, step),
         "role" => key_rings::role(alloc, step),
@@ -89,6 +88,7 @@ fn of_values(alloc: Global, step: &Step) -> Result<String> {
         "alike" => questions::alike(alloc, step),
         "lanes" => blocks::digests(alloc, step),
         "leaves" => signatures::leaves(alloc, step),
-        _ => bail!("no such command"),
-    }
+        _ => return Ok(None),
+    };
+    Ok(Some(printed?))
 }

@@ -1,0 +1,11 @@
+//! Rows of worked values of the cycle: trusted states, searches, names and lines. `rows` runs them.
+#![tactic(auto)]
+
+mod layers;
+mod names;
+mod plain;
+mod searches;
+mod states;
+mod verdicts;
+
+pub use layers::Layers;
