@@ -39,7 +39,7 @@ MISREADINGS = {
     "the version comes before the signatures": (SIGNED + OF_VERSION, OF_VERSION + SIGNED),
     "a version may be 0": ("def whole(tree, name, least=1)", "def whole(tree, name, least=0)"),
     "true is a whole number": ("type(tree.get(name)) is kind", "isinstance(tree.get(name), kind)"),
-    "null is absent": ("bool) if name in tree else False", "bool) if tree.get(name) is not None else False"),
+    "a length of null is absent": ('if "length" in tree else', 'if tree.get("length") is not None else'),
     "prefixes may have capitals": ('"[0-9a-f]{1,64}"', '"[0-9a-fA-F]{1,64}"'),
     "a delegation needs no paths": ('ask(("paths" in tree) != (', 'tree.setdefault("paths", [])\n    ask(True or ('),
     "unknown hashes are enough": ('ask(known, "NoKnownHash")', "pass"),

@@ -233,7 +233,7 @@ class History:
         self.targets = {}
         self.hurt = set(self.draw.sample(
             [*reading.KINDS, *reading.KINDS, *ROLES[:4], *PATHS[:4], "timestamp.json", "targets.json", "r.json"],
-            self.draw.choice([0, 0, 1, 1, 2])))
+            self.draw.choice([0, 0, 0, 1, 1, 2])))
         self.metadata = {name: it for name, it in self.metadata.items() if name.endswith(".root.json")}
         for _ in range(self.draw.choice([0, 0, 1, 2])):
             self.root()
