@@ -86,7 +86,8 @@ fn write_members(members: &Map<String, Value>, out: &mut Vec<u8>) -> Result<(), 
         ≡ out.old.items ++ 123 ∷ members_text false (members_view members.now.entries)) }
     ensures utf8 { OnOk result (IsUtf8 out.old.items → IsUtf8 out.new.items) }
     ensures whole { OnOk result (members_are_whole (members_view members.now.entries) ≡ true) }
-    ensures ordered { OnOk result (members_are_ordered (members_view members.now.entries) ≡ true) }
+    ensures ordered { OnOk result (members_are_ordered (members_view members.now.entries)
+        ≡ true) }
     ensures float { result ≡ Err CanonicalFault.Float
         → members_are_whole (members_view members.now.entries) ≡ false }
 {
@@ -130,7 +131,8 @@ fn write_bool(b: bool, out: &mut Vec<u8>) -> Result<(), CanonicalFault>
 }
 
 fn write_number(n: &Number, out: &mut Vec<u8>) -> Result<(), CanonicalFault>
-    ensures text { OnOk result (out.new.items ≡ out.old.items ++ number_text (number_view n.now)) }
+    ensures text { OnOk result (out.new.items
+        ≡ out.old.items ++ number_text (number_view n.now)) }
     ensures whole { OnOk result (is_whole (number_view n.now) ≡ true) }
     ensures float { result ≡ Err CanonicalFault.Float → is_whole (number_view n.now) ≡ false }
 {

@@ -119,7 +119,8 @@ impl Keeper {
         requires workers { workers ≤ 64 }
         ensures outcomes { IfOk result (λ all. all.items
             ≡ outcomes_of limits.now.roles self.old rounds.now) }
-        ensures state { OnOk result (self.new ≡ state_after limits.now.roles self.old rounds.now) }
+        ensures state { OnOk result (self.new
+            ≡ state_after limits.now.roles self.old rounds.now) }
         ensures refused { OnErr result ((n : ℕ) × (n ≤ length rounds.now)
             × (self.new ≡ state_after limits.now.roles self.old (take n rounds.now))) }
     {

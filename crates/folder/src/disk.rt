@@ -97,7 +97,8 @@ fn fault_of(error: &io::Error) -> LoadFault
 
 /// The name below the folder, with `/` between them unless the folder's path is empty.
 pub fn joined(alloc: Global, folder: &str, name: &str) -> Result<String, AllocError>
-    ensures path { IfOk result (λ path. string_bytes path ≡ spec.path_below folder.now name.now) }
+    ensures path { IfOk result (λ path. string_bytes path
+        ≡ spec.path_below folder.now name.now) }
 {
     if folder.is_empty() {
         return String::from_str(alloc, name);

@@ -31,8 +31,8 @@ pub fn enough<J: Judge>(
     role: &RoleKeys,
     judge: &mut J,
 ) -> Result<bool, NoMemory>
-    ensures met { IfOk result (λ b. b ≡ spec.is_met (doc_of doc.now).text (doc_of doc.now).entries
-        ring.now role.now) }
+    ensures met { IfOk result (λ b. b
+        ≡ spec.is_met (doc_of doc.now).text (doc_of doc.now).entries ring.now role.now) }
 {
     let listed = role.id_set(alloc)?;
     let entries = Entries::of(alloc, doc)?;

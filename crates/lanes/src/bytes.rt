@@ -69,7 +69,8 @@ pub fn digest_words(digests: &[[u8; 32]; 4]) -> [u32x4; 8]
 /// bytes 0.
 pub fn prefix_words(texts: &[[u8; 22]; 4]) -> [u32x4; 6]
     ensures row { IsRow 6 result }
-    ensures lanes { (i : ℕ) → i < 4 → IsPrefix (lane i result) (slice_index_or texts.now i []) }
+    ensures lanes { (i : ℕ) → i < 4
+        → IsPrefix (lane i result) (slice_index_or texts.now i []) }
 {
     row(
         &words_of_prefix(&texts[0]),

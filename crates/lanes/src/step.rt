@@ -18,7 +18,8 @@ const LENGTH: u32 = 440;
 
 #[inline(always)]
 fn joined(high: u32x4, low: u32x4) -> u32x4
-    ensures { (i : ℕ) → i < 4 → IsAt i result (joined (slice_index high i) (slice_index low i)) }
+    ensures { (i : ℕ) → i < 4
+        → IsAt i result (joined (slice_index high i) (slice_index low i)) }
 {
     (high << 8) + (low >> 24)
 }
@@ -27,7 +28,8 @@ fn joined(high: u32x4, low: u32x4) -> u32x4
 #[inline(always)]
 fn counted(end: u32x4, j: u32x4, low: u32x4) -> u32x4
     ensures size { length result ≡ 4 }
-    ensures lanes { (i : ℕ) → i < 4 → slice_index end i % 2 ^ 16 ≡ 0 → slice_index j i < 256
+    ensures lanes { (i : ℕ) → i < 4 → slice_index end i % 2 ^ 16 ≡ 0
+        → slice_index j i < 256
         → IsAt i result (slice_index end i + slice_index j i * 256
         + slice_index (to_be_bytes w32 (slice_index low i)) 0) }
 {

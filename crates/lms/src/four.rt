@@ -60,7 +60,8 @@ fn carry(
     count: u8,
 )
     requires chosen { (k : ℕ) → k < 4 → slice_index four k < 67 }
-    requires room { (k : ℕ) → k < 4 → slice_index digits.old (slice_index four k) + count ≤ 255 }
+    requires room { (k : ℕ) → k < 4
+        → slice_index digits.old (slice_index four k) + count ≤ 255 }
     ensures { (ends : List ℕ)
         → ((k : ℕ) → k < 4
         → slice_index digits.old (slice_index four k) + count

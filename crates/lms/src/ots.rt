@@ -144,7 +144,8 @@ pub(crate) fn digits_of(width: Width, s: &Node) -> [u8; MOST_CHAINS]
 
 // The greatest digit for each chain, and then zeros.
 fn tops(width: Width) -> [u8; MOST_CHAINS]
-    ensures { (i : ℕ) → i < chain_count width → slice_index result i ≡ 2 ^ digit_bits width - 1 }
+    ensures { (i : ℕ) → i < chain_count width
+        → slice_index result i ≡ 2 ^ digit_bits width - 1 }
 {
     let mut tops = [0u8; MOST_CHAINS];
     'chains: for i in 0..usize::from(width.chain_count()) {

@@ -94,7 +94,8 @@ fn is_sha256_wrong<J: Judge>(
     bytes: &[u8],
     judge: &mut J,
 ) -> Result<bool, NoMemory>
-    ensures { IfOk result (λ b. b ≡ spec.differs hashes.now.sha256 (digest_by Sha256 bytes.now)) }
+    ensures { IfOk result (λ b. b
+        ≡ spec.differs hashes.now.sha256 (digest_by Sha256 bytes.now)) }
 {
     match &hashes.sha256 {
         Some(digest) => differs(Algorithm::Sha256, file, bytes, digest, judge),
@@ -108,7 +109,8 @@ fn is_sha512_wrong<J: Judge>(
     bytes: &[u8],
     judge: &mut J,
 ) -> Result<bool, NoMemory>
-    ensures { IfOk result (λ b. b ≡ spec.differs hashes.now.sha512 (digest_by Sha512 bytes.now)) }
+    ensures { IfOk result (λ b. b
+        ≡ spec.differs hashes.now.sha512 (digest_by Sha512 bytes.now)) }
 {
     match &hashes.sha512 {
         Some(digest) => differs(Algorithm::Sha512, file, bytes, digest, judge),

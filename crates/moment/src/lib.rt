@@ -64,7 +64,8 @@ impl Moment {
     pub fn read(text: &str) -> Option<Moment>
         ensures value { result ≡ spec.moment_of text.now }
         ensures some { IfSome result (λ m. spec.IsMomentText text.now m) }
-        ensures none { IsNone result → (m : spec.Moment) → spec.IsMomentText text.now m → ⊥ }
+        ensures none { IsNone result → (m : spec.Moment)
+            → spec.IsMomentText text.now m → ⊥ }
     {
         let stamp = stamp_of(text)?;
         let second = second_of_day(stamp.hour, stamp.minute, stamp.second)?;
@@ -153,7 +154,8 @@ fn stamp_of(text: &str) -> Option<Stamp>
 
 /// The number that two decimal digits spell.
 fn number(tens: u8, ones: u8) -> Option<u8>
-    ensures value { IfSome result (λ n. (n < 100) × (spec.two_digits n ≡ tens ∷ ones ∷ [])) }
+    ensures value { IfSome result (λ n. (n < 100)
+        × (spec.two_digits n ≡ tens ∷ ones ∷ [])) }
     ensures none { IsNone result → (n : ℕ) → n < 100
         → spec.two_digits n ≡ tens ∷ ones ∷ [] → ⊥ }
 {

@@ -130,7 +130,8 @@ fn push_verdicts(
     verdicts: &[Verdict],
 ) -> Result<(), AllocError>
     ensures lines { OnOk result (string_bytes text.new
-        ≡ string_bytes text.old ++ spec.verdict_texts (map string_bytes wanted.now) verdicts.now) }
+        ≡ string_bytes text.old
+        ++ spec.verdict_texts (map string_bytes wanted.now) verdicts.now) }
 {
     for (path, verdict) in wanted.iter().zip(verdicts.iter()) {
         push_verdict(alloc, text, path.as_str(), verdict)?;

@@ -111,7 +111,8 @@ impl Trusted {
     /// trusted, `snapshot`, `targets` and `timestamp` are the files in lower-case hexadecimal.
     /// `from_text` reads it as this state, so no other state has this text.
     pub fn to_text(&self, alloc: Global) -> Result<Vec<u8>, NoMemory>
-        ensures text { IfOk result (λ text. text.items ≡ spec.kept_text (spec.kept_of self.now)) }
+        ensures text { IfOk result (λ text. text.items
+            ≡ spec.kept_text (spec.kept_of self.now)) }
         ensures tree { IfOk result (λ text.
             canon (spec.kept_tree (spec.kept_of self.now)) ≡ Some text.items) }
         ensures read { IfOk result (λ text. state_of text.items ≡ Ok self.now) }
@@ -121,7 +122,8 @@ impl Trusted {
 
     /// The text of a state file.
     fn text(&self, alloc: Global) -> Result<Vec<u8>, NoMemory>
-        ensures text { IfOk result (λ text. text.items ≡ spec.kept_text (spec.kept_of self.now)) }
+        ensures text { IfOk result (λ text. text.items
+            ≡ spec.kept_text (spec.kept_of self.now)) }
         ensures parts { AreRead self.now }
     {
         let root = self.root.bytes();

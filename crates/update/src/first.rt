@@ -26,10 +26,11 @@ pub fn init<S: System, W: Write>(
     out: &mut W,
 ) -> Result<u8, Failure>
     ensures status { IfOk result (λ status. (status ≡ 0) ⊎ (status ≡ 2)) }
-    ensures trusted { IfOk result (λ status. status ≡ 0 → IsTrusted (S.gives system.old root.now)
-        (S.keeps system.new state.now) (W.contents out.old) (W.contents out.new)) }
-    ensures refused { IfOk result (λ status. status ≡ 2 → IsRefused (S.gives system.old root.now)
+    ensures trusted { IfOk result (λ status. status ≡ 0
+        → IsTrusted (S.gives system.old root.now) (S.keeps system.new state.now)
         (W.contents out.old) (W.contents out.new)) }
+    ensures refused { IfOk result (λ status. status ≡ 2
+        → IsRefused (S.gives system.old root.now) (W.contents out.old) (W.contents out.new)) }
     ensures kept { IfOk result
         (λ status. status ≡ 2 → S.keeps system.new ≡ S.keeps system.old) }
 {

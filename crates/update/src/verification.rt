@@ -127,7 +127,8 @@ fn outcome<R: Threads + Wait + Sync>(
     repo: &Repo,
 ) -> Result<Outcome, Failure>
     ensures workflow { IfOk result (λ o. o
-        ≡ outcome_of (start_of start.now) (file_in repo.now.metadata) (file_in repo.now.targets)) }
+        ≡ outcome_of (start_of start.now) (file_in repo.now.metadata)
+        (file_in repo.now.targets)) }
     ensures refused { IfErr result (λ f. (f ≡ Failure.Words) ⊎ (f ≡ Failure.Memory)) }
 {
     let limits = limits_of(start)?;

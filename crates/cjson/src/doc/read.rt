@@ -27,7 +27,8 @@ use std::alloc::Global;
 #[tactic(auto, using(crate::proofs::Ordered::ordered_tree))]
 pub fn signed_bytes(alloc: Global, file: &[u8]) -> Result<Doc, DocFault>
     ensures ok { IfOk result (λ doc. spec.document file.now ≡ Ok (doc_of doc)) }
-    ensures err { IfErr result (λ e. e ≢ DocFault.NoMemory → spec.document file.now ≡ Err e) }
+    ensures err { IfErr result (λ e. e ≢ DocFault.NoMemory
+        → spec.document file.now ≡ Err e) }
     ensures float { result ≡ Err DocFault.Float
         → option_map has_whole_numbers (spec.signed_in file.now) ≡ Some false }
 
