@@ -48,7 +48,7 @@ void *realloc(void *old, size_t size) {
 END
 cc -shared -fPIC -O1 -o "$work/refuse.so" "$work/refuse.c" -ldl || exit 2
 (cd "$top/crates/tufcheck" && rt run) > "$work/built" 2>&1 || { tail -5 "$work/built"; exit 2; }
-cp "$top/crates/tufcheck/out/tufcheck" "$top/examples/first.script" "$top/crates/rows/data/cases/shared.script" "$work" && cd "$work" || exit 2
+cp "$top/crates/tufcheck/out/tufcheck" "$top/examples/first.script" "$top/crates/trials/data/cases/shared.script" "$work" && cd "$work" || exit 2
 
 # sweep NAME FILE STATE WORD..: sweeps the run with those words, which with ample memory prints that file, ends with the
 # status $good and, where it makes a file `new`, stores that state there.

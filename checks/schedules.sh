@@ -4,7 +4,7 @@
 #   checks/schedules.sh [RUNS [SEED]]      5000 and 1 unless given
 #
 # For each of two repositories, that of one target and that of roles which share keys, so many runs are made by the
-# program `rows`, which is proved and built first: with up to 8 workers, plans of 3 or up to 4,096 questions, and
+# program `trials`, which is proved and built first: with up to 8 workers, plans of 3 or up to 4,096 questions, and
 # gates that do nothing, hold each worker to the end, or make it wait for a drawn time. The script ends with status 1
 # where a run told something else, and with 2 where the program couldn't be built or run.
 #
@@ -14,11 +14,11 @@ runs=${1:-5000} seed=${2:-1}
 top=$(cd "$(dirname "$0")/.." && pwd) || exit 2
 work=$(mktemp -d) || exit 2
 trap 'rm -rf "$work"' EXIT
-(cd "$top/crates/rows" && rt run) > "$work/built" 2>&1
-program=$top/crates/rows/out/rows cases=$top/crates/rows/data/cases
+(cd "$top/crates/trials" && rt run) > "$work/built" 2>&1
+program=$top/crates/trials/out/trials cases=$top/crates/trials/data/cases
 [ -x "$program" ] || { tail -5 "$work/built"; exit 2; }
 mkdir -p "$work/room/cases" && cp "$cases"/*.script "$work/room/cases" && cd "$work/room" || exit 2
-cat > cases/stress.t <<CASE
+cat > cases/stress.rows <<CASE
   \$ make first
   \$ stress first $runs $seed abc.txt abd.txt
   $runs runs, 0 differ

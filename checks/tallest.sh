@@ -4,14 +4,14 @@
 #
 #   checks/tallest.sh
 #
-# `rt run` in crates/rows proves and builds the program. The first key takes 284 million steps of chains and the
+# `rt run` in crates/trials proves and builds the program. The first key takes 284 million steps of chains and the
 # second 33 million, so it takes some 40 to 110 seconds, by how busy the machine is.
 set -u
 top=$(cd "$(dirname "$0")/.." && pwd) || exit 2
 work=$(mktemp -d) || exit 2
 trap 'rm -rf "$work"' EXIT
-mkdir "$work/cases" && cp "$top/crates/rows/data/cases/leaf-w4-15-5.vector" "$work/cases" || exit 2
-cat > "$work/cases/tallest.t" << 'LINES'
+mkdir "$work/cases" && cp "$top/crates/trials/data/cases/leaf-w4-15-5.vector" "$work/cases" || exit 2
+cat > "$work/cases/tallest.rows" << 'LINES'
 The first signature and the sixth of a key of W8 and height 15.
   $ sign 8 15 abc first sixth
   root 430f045685ad13470cb721981647ae68ad76e2938899fc508b32c62175ef4a97
@@ -35,4 +35,4 @@ The same of W4.
   $ verify first
   yes
 LINES
-cd "$work" && "$top/crates/rows/out/rows"
+cd "$work" && "$top/crates/trials/out/trials"

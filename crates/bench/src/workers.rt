@@ -144,18 +144,33 @@ fn repository(alloc: Global) -> Result<Repo, Trouble> {
 fn script(alloc: Global) -> Result<String, Trouble> {
     let keys = key_list(alloc)?;
     let mut text = String::new(alloc);
+    push_keys(&mut text)?;
+    text.push_str("top root 1 1\ntop timestamp 1 2\ntop snapshot 1 3\ntop targets 1 4\n")?;
+    push_delegations(&mut text, keys.as_str())?;
+    push_roles(&mut text, keys.as_str())?;
+    text.push_str("write root 1 1\nwrite targets 1 4\nwrite snapshot 1 3\nwrite timestamp 1 2")?;
+    Ok(text)
+}
+
+fn push_keys(text: &mut String) -> Result<(), Trouble> {
     for key in 1..=ROLES + 4 {
         writeln!(text, "key {key} 5")?;
     }
-    text.push_str("top root 1 1\ntop timestamp 1 2\ntop snapshot 1 3\ntop targets 1 4\n")?;
+    Ok(())
+}
+
+fn push_delegations(text: &mut String, keys: &str) -> Result<(), Trouble> {
     for role in 1..=ROLES {
         writeln!(text, "delegate targets r{role} {ROLES} {keys} go paths *")?;
     }
+    Ok(())
+}
+
+fn push_roles(text: &mut String, keys: &str) -> Result<(), Trouble> {
     for role in 1..=ROLES {
         writeln!(text, "write r{role} 1 {keys}")?;
     }
-    text.push_str("write root 1 1\nwrite targets 1 4\nwrite snapshot 1 3\nwrite timestamp 1 2")?;
-    Ok(text)
+    Ok(())
 }
 
 fn key_list(alloc: Global) -> Result<String, Trouble> {

@@ -1,5 +1,5 @@
 //! Rows of threads: boards that threads share, cycles with workers, which gates hold up at chosen
-//! places, and keepers. `rows` runs them.
+//! places, and keepers. `trials` runs them.
 #![tactic(auto)]
 
 mod asked;

@@ -18,21 +18,22 @@ struct Report {
     differences: String,
 }
 
-/// Runs the sessions of the files `cases/NAME.t` in order of their names, prints a report of each,
-/// and answers how many differ. Each begins with nothing beside the folder `cases`, and what it
-/// made is removed after it. `perform` does the steps whose commands this crate hasn't; an error of
-/// it says why a step can't be done.
+/// Runs the sessions of the files of the folder `cases` whose names end so, in order of their
+/// names, prints a report of each, and answers how many differ. Each begins with nothing beside the
+/// folder `cases`, and what it made is removed after it. `perform` does the steps whose commands
+/// this crate hasn't; an error of it says why a step can't be done.
 pub fn run_all<R: Files + AllocGlobal + Clone + Drop, F: Fn(&Step) -> Result<Told>, W: Write>(
     rt: &R,
     alloc: Global,
     out: &mut W,
+    ending: &str,
     perform: F,
 ) -> Result<u32>
     requires { F.IsAlwaysCallable perform }
 {
     room::check(rt, alloc)?;
     let mut differing: u32 = 0;
-    let names = room::names(rt, alloc, ".t")?;
+    let names = room::names(rt, alloc, ending)?;
     for name in names.iter() {
         if differs(rt, alloc, out, &perform, name.as_str())? {
             differing = differing.saturating_add(1);

@@ -7,11 +7,7 @@ use std::alloc::Global;
 /// end for any text.
 pub fn is_as_expected(alloc: Global, expected: &[String], given: &[String]) -> Result<bool> {
     // for each count of given lines, whether the expected lines so far stand for so many
-    let mut reached = Vec::new(alloc);
-    reached.push(true)?;
-    for _ in given {
-        reached.push(false)?;
-    }
+    let mut reached = of_no_line(alloc, given)?;
     for line in expected {
         reached = if line.as_str() == "..." {
             after_any(alloc, reached.as_slice())?
@@ -20,6 +16,15 @@ pub fn is_as_expected(alloc: Global, expected: &[String], given: &[String]) -> R
         };
     }
     Ok(reached.last() == Some(&true))
+}
+
+fn of_no_line(alloc: Global, given: &[String]) -> Result<Vec<bool>> {
+    let mut reached = Vec::new(alloc);
+    reached.push(true)?;
+    for _ in given {
+        reached.push(false)?;
+    }
+    Ok(reached)
 }
 
 fn after_any(alloc: Global, reached: &[bool]) -> Result<Vec<bool>> {

@@ -8,33 +8,35 @@ use std::rt::Files;
 /// The folder of the cases.
 pub const CASES: &str = "cases";
 
-/// A name in the folder, and whether it is a folder's.
+/// A name in a folder, and whether it is a folder's.
 #[derive(Drop)]
 struct Entry {
     name: String,
     is_folder: bool,
 }
 
-/// What stands in the folder beside the cases.
-fn others<R: Files + AllocGlobal + Clone + Drop>(rt: &R, alloc: Global) -> Result<Vec<Entry>> {
-    let mut others = Vec::new(alloc);
-    for entry in fs::read_dir(rt, ".")? {
+/// What stands in a folder.
+fn entries<R: Files + AllocGlobal + Clone + Drop>(
+    rt: &R,
+    alloc: Global,
+    folder: &str,
+) -> Result<Vec<Entry>> {
+    let mut entries = Vec::new(alloc);
+    for entry in fs::read_dir(rt, folder)? {
         let entry = entry?;
-        if entry.file_name() != CASES {
-            others.push(Entry {
-                name: String::from_str(alloc, entry.file_name())?,
-                is_folder: entry.file_type()?.is_dir(),
-            })?;
-        }
+        entries.push(Entry {
+            name: String::from_str(alloc, entry.file_name())?,
+            is_folder: entry.file_type()?.is_dir(),
+        })?;
     }
-    Ok(others)
+    Ok(entries)
 }
 
 /// Refuses a folder that holds anything but the cases, since all else is removed.
 pub fn check<R: Files + AllocGlobal + Clone + Drop>(rt: &R, alloc: Global) -> Result<()> {
-    let others = others(rt, alloc)?;
+    let entries = entries(rt, alloc, ".")?;
     ensure!(
-        others.is_empty(),
+        entries.iter().all(|entry| entry.name.as_str() == CASES),
         "the folder holds more than its folder cases"
     );
     Ok(())
@@ -42,12 +44,18 @@ pub fn check<R: Files + AllocGlobal + Clone + Drop>(rt: &R, alloc: Global) -> Re
 
 /// Removes all but the cases.
 pub fn clear<R: Files + AllocGlobal + Clone + Drop>(rt: &R, alloc: Global) -> Result<()> {
-    for entry in others(rt, alloc)? {
-        if entry.is_folder {
-            fs::remove_dir_all(rt, entry.name.as_str())?;
-        } else {
-            fs::remove_file(rt, entry.name.as_str())?;
-        }
+    for entry in entries(rt, alloc, ".")? {
+        remove(rt, &entry)?;
+    }
+    Ok(())
+}
+
+fn remove<R: Files + AllocGlobal>(rt: &R, entry: &Entry) -> Result<()> {
+    let name = entry.name.as_str();
+    if entry.is_folder && name != CASES {
+        fs::remove_dir_all(rt, name)?;
+    } else if name != CASES {
+        fs::remove_file(rt, name)?;
     }
     Ok(())
 }
@@ -59,10 +67,9 @@ pub fn names<R: Files + AllocGlobal + Clone + Drop>(
     ending: &str,
 ) -> Result<Vec<String>> {
     let mut names = Vec::new(alloc);
-    for entry in fs::read_dir(rt, CASES)? {
-        let entry = entry?;
-        if entry.file_name().ends_with(ending) {
-            names.push(String::from_str(alloc, entry.file_name())?)?;
+    for Entry { name, .. } in entries(rt, alloc, CASES)? {
+        if name.as_str().ends_with(ending) {
+            names.push(name)?;
         }
     }
     names.sort()?;

@@ -24,7 +24,7 @@ where
     T: Threads + Wait + Sync,
 {
     let shell = Shell::new(rt, threads, alloc);
-    match run_all(rt, alloc, out, |step| shell.perform(step)) {
+    match run_all(rt, alloc, out, ".t", |step| shell.perform(step)) {
         Ok(0) => 0,
         Ok(_) => 1,
         Err(error) => {

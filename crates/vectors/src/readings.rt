@@ -8,8 +8,8 @@ use crate::signed::{changed, file, good};
 use anyhow::{Result, bail};
 use keys::{KeyRing, RoleKeys};
 use meta::{
-    Delegation, Hashes, Header, Listing, Part, Paths, Reading, Roles, Root, Snapshot, Stop, Target,
-    Targets, Timestamp,
+    Delegation, HashPrefix, Hashes, Header, Listing, Part, PathPattern, Paths, Reading, Roles,
+    Root, Snapshot, Stop, Target, Targets, Timestamp,
 };
 use sessions::Step;
 use std::alloc::Global;
@@ -198,18 +198,23 @@ fn push_delegations(text: &mut String, roles: &[Delegation]) -> Result<()> {
 
 fn push_paths(text: &mut String, paths: &Paths) -> Result<()> {
     match paths {
-        Paths::Patterns(patterns) => {
-            text.push_str(" paths")?;
-            for pattern in patterns.as_slice() {
-                write!(text, " {:?}", pattern.as_str())?;
-            }
-        }
-        Paths::Prefixes(prefixes) => {
-            text.push_str(" prefixes")?;
-            for prefix in prefixes.as_slice() {
-                write!(text, " {:?}", prefix.digits())?;
-            }
-        }
+        Paths::Patterns(patterns) => push_patterns(text, patterns.as_slice()),
+        Paths::Prefixes(prefixes) => push_prefixes(text, prefixes.as_slice()),
+    }
+}
+
+fn push_patterns(text: &mut String, patterns: &[PathPattern]) -> Result<()> {
+    text.push_str(" paths")?;
+    for pattern in patterns {
+        write!(text, " {:?}", pattern.as_str())?;
+    }
+    Ok(())
+}
+
+fn push_prefixes(text: &mut String, prefixes: &[HashPrefix]) -> Result<()> {
+    text.push_str(" prefixes")?;
+    for prefix in prefixes {
+        write!(text, " {:?}", prefix.digits())?;
     }
     Ok(())
 }

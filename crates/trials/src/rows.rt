@@ -1,0 +1,55 @@
+//! All rows of a folder.
+
+use anyhow::Result;
+use sessions::{Step, Told, run_all};
+use std::alloc::Global;
+use std::io::Write;
+use std::rt::Files;
+use std::sync::Wait;
+use std::thread::Threads;
+
+/// Runs the rows of the files `cases/NAME.rows` of the folder that it is run in, as sessions are
+/// run, and prints what [`run_all`] does. It answers 0 where all was as written, else 1, and 2
+/// where the rows couldn't be run, which is said on standard error.
+pub fn run_rows<F, T, O: Write, E: Write>(
+    files: &F,
+    threads: &T,
+    alloc: Global,
+    out: &mut O,
+    err: &mut E,
+) -> u8
+where
+    F: Files + AllocGlobal + Clone + Drop,
+    T: Threads + Wait + Sync,
+{
+    match run_all(
+        files,
+        alloc,
+        out,
+        ".rows",
+        |step| perform(files, threads, alloc, step),
+    ) {
+        Ok(0) => 0,
+        Ok(_) => 1,
+        Err(error) => {
+            let _ = writeln!(err, "rows: {error}");
+            2
+        }
+    }
+}
+
+/// Does a step: of files and keys, of the cycle, or of threads.
+fn perform<F: Files + AllocGlobal + Clone + Drop, T: Threads + Wait + Sync>(
+    files: &F,
+    threads: &T,
+    alloc: Global,
+    step: &Step,
+) -> Result<Told> {
+    if let Some(printed) = vectors::Layers::new(files, alloc).printed(step)? {
+        return Ok(Told::printed(alloc, printed));
+    }
+    if let Some(printed) = outcomes::Layers::new(files, alloc).printed(step)? {
+        return Ok(Told::printed(alloc, printed));
+    }
+    schedules::perform(files, threads, alloc, step)
+}
