@@ -1,4 +1,5 @@
-//! Rows of worked values of the cycle: trusted states, searches, names and lines. `trials` runs them.
+//! Rows of worked values of the cycle: trusted states, searches, names and lines. `trials` runs
+//! them.
 #![tactic(auto)]
 
 mod layers;
