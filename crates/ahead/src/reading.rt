@@ -1,14 +1,11 @@
 //! The metadata that a run is likely to read.
 
 use crate::document::Document;
-use crate::wanted::{bins, followed, is_followed};
+use crate::wanted::{bins, edges_in, followed};
 use cjson::NoMemory;
 use examine::Listed;
 use meta::names::{root_name, versioned};
-use meta::{
-    Delegation, Delegations, ReadFault, Reading, Repo, Root, Snapshot, Stop, Targets, Timestamp,
-    read_document,
-};
+use meta::{ReadFault, Reading, Repo, Root, Snapshot, Stop, Targets, Timestamp, read_document};
 use rolechain::{Trusted, place_of};
 use std::alloc::Global;
 use std::collections::{BTreeMap, BTreeSet};
@@ -199,36 +196,13 @@ fn read_each(
     Ok(())
 }
 
-/// The names of the roles whose delegations are followed.
+/// The names of the roles that a file leads to.
 fn names_in(alloc: Global, file: &RoleFile) -> Result<Vec<String>, NoMemory> {
     let mut names = Vec::new(alloc);
-    for bin in file.bins.iter() {
-        names.push(String::from_str(alloc, bin.as_str())?)?;
-    }
-    if let Some(meta::Roles::Listed(roles)) = file.targets.delegations().map(Delegations::roles) {
-        add_names(
-            alloc,
-            roles.as_slice(),
-            file.followed.as_slice(),
-            &mut names,
-        )?;
+    for edge in edges_in(alloc, file)? {
+        names.push(String::from_str(alloc, edge.name)?)?;
     }
     Ok(names)
-}
-
-/// Adds the names of the delegations that are followed.
-fn add_names(
-    alloc: Global,
-    roles: &[Delegation],
-    followed: &[bool],
-    names: &mut Vec<String>,
-) -> Result<(), NoMemory> {
-    for (place, delegation) in roles.iter().enumerate() {
-        if is_followed(followed, place) {
-            names.push(String::from_str(alloc, delegation.name())?)?;
-        }
-    }
-    Ok(())
 }
 
 /// Reads a role's file, unless that was tried before.

@@ -1,12 +1,12 @@
 //! Who has to sign the files that were read.
 
 use crate::reading::{Ahead, Read, RoleFile, Roles, Scope, last_root};
-use crate::wanted::is_followed;
+use crate::wanted::edges_in;
 use cjson::NoMemory;
 use keys::{KeyRing, RoleKeys};
-use meta::{Delegation, Root};
+use meta::Root;
 use rolechain::Trusted;
-use std::collections::BTreeSet;
+use std::alloc::Global;
 
 /// Whose signatures are asked of a document.
 #[derive(Clone, Copy)]
@@ -31,7 +31,7 @@ pub fn signers_of<'b>(scope: &Scope<'b>, ahead: &'b Ahead) -> Result<Vec<Signers
         if all.len() >= scope.most {
             break;
         }
-        add_delegated(file, &ahead.roles, &mut all)?;
+        add_delegated(scope.alloc, file, &ahead.roles, &mut all)?;
     }
     Ok(all)
 }
@@ -85,71 +85,25 @@ fn add_top<'b>(
     Ok(())
 }
 
-/// Adds the keys of the file's delegations that are followed.
+/// Adds the keys of the delegations of a file that are followed, where they lead to files that were
+/// read. The top-level role is none of these.
 fn add_delegated<'b>(
+    alloc: Global,
     file: &'b RoleFile,
     roles: &'b Roles,
     all: &mut Vec<Signers<'b>>,
 ) -> Result<(), NoMemory> {
-    let Some(delegations) = file.targets.delegations() else {
-        return Ok(());
-    };
-    let ring = delegations.ring();
-    match delegations.roles() {
-        meta::Roles::Listed(to) => {
-            add_listed(ring, to.as_slice(), file.followed.as_slice(), roles, all)
+    for edge in edges_in(alloc, file)? {
+        if edge.name == "targets" {
+            continue;
         }
-        meta::Roles::Binned(bins) => add_binned(ring, bins.keys(), &file.bins, roles, all),
-    }
-}
-
-/// Adds those of the listed delegations that are followed.
-fn add_listed<'b>(
-    ring: &'b KeyRing,
-    to: &'b [Delegation],
-    followed: &[bool],
-    roles: &Roles,
-    all: &mut Vec<Signers<'b>>,
-) -> Result<(), NoMemory> {
-    for (place, delegation) in to.iter().enumerate() {
-        if is_followed(followed, place) {
-            add_role(ring, delegation.keys(), delegation.name(), roles, all)?;
+        if let Some(document) = document_of(roles, edge.name) {
+            all.push(Signers {
+                document,
+                ring: edge.ring,
+                role: edge.keys,
+            })?;
         }
-    }
-    Ok(())
-}
-
-/// Adds the bins of these names.
-fn add_binned<'b>(
-    ring: &'b KeyRing,
-    keys: &'b RoleKeys,
-    names: &BTreeSet<String>,
-    roles: &Roles,
-    all: &mut Vec<Signers<'b>>,
-) -> Result<(), NoMemory> {
-    for name in names.iter() {
-        add_role(ring, keys, name.as_str(), roles, all)?;
-    }
-    Ok(())
-}
-
-/// Adds a delegated role, where its file was read. The top-level role is none.
-fn add_role<'b>(
-    ring: &'b KeyRing,
-    role: &'b RoleKeys,
-    name: &str,
-    roles: &Roles,
-    all: &mut Vec<Signers<'b>>,
-) -> Result<(), NoMemory> {
-    if name == "targets" {
-        return Ok(());
-    }
-    if let Some(document) = document_of(roles, name) {
-        all.push(Signers {
-            document,
-            ring,
-            role,
-        })?;
     }
     Ok(())
 }

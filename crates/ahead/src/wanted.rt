@@ -1,9 +1,9 @@
 //! Which delegations and targets bear on the wanted paths.
 
-use crate::reading::{Ahead, Scope, last_root};
+use crate::reading::{Ahead, RoleFile, Scope, last_root};
 use cjson::NoMemory;
 use cjson::text::Text;
-use deleg::{bin_name, is_matched, target_of};
+use deleg::{Edge, bin_name, edge_at, is_matched, target_of};
 use examine::target_file;
 use keys::Algorithm;
 use meta::{Delegation, Delegations, Repo, Roles, Target, Targets};
@@ -61,12 +61,27 @@ fn follow(roles: &[Delegation], path: &str, marks: &mut Vec<bool>) {
     }
 }
 
-/// Whether the delegation of that place is followed.
-pub(crate) fn is_followed(marks: &[bool], place: usize) -> bool {
-    match marks.get(place) {
-        Some(mark) => *mark,
-        None => false,
+/// The delegations of a file that are followed.
+pub(crate) fn edges_in<'a>(alloc: Global, file: &'a RoleFile) -> Result<Vec<Edge<'a>>, NoMemory> {
+    let mut edges = Vec::new(alloc);
+    add_marked(file, &mut edges)?;
+    for bin in file.bins.iter() {
+        if let Some(edge) = edge_at(&file.targets, bin.as_str(), 0) {
+            edges.push(edge)?;
+        }
     }
+    Ok(edges)
+}
+
+/// Adds those that are marked.
+fn add_marked<'a>(file: &'a RoleFile, edges: &mut Vec<Edge<'a>>) -> Result<(), NoMemory> {
+    for (place, marked) in file.followed.iter().enumerate() {
+        match edge_at(&file.targets, "", place) {
+            Some(edge) if *marked => edges.push(edge)?,
+            _ => {}
+        }
+    }
+    Ok(())
 }
 
 /// A listed digest of a wanted target, and the file that it should be the digest of.

@@ -13,14 +13,9 @@ use std::marker::Model;
 
 /// The items of a list, in order; read from a JSON list, `Malformed` where some item hasn't the
 /// form.
+#[derive(Drop)]
 pub struct Items<T> {
     items: Vec<T>,
-}
-
-impl<T: Drop> Drop for Items<T> {
-    fn drop(self) {
-        let Items { items } = self;
-    }
 }
 
 impl<T> Model for Items<T> {

@@ -35,18 +35,12 @@ fn write_below<R: Files>(
 ) -> Result<(), Failure> {
     let path = joined(alloc, folder, name)?;
     make_folders_of(rt, path.as_str())?;
-    match fs::write(rt, path.as_str(), bytes) {
-        Ok(()) => Ok(()),
-        Err(error) => Err(of_io(&error, Failure::Output)),
-    }
+    fs::write(rt, path.as_str(), bytes).map_err(|error| of_io(&error, Failure::Output))
 }
 
 fn make_folders_of<R: Files>(rt: &R, path: &str) -> Result<(), Failure> {
     let Some((folders, _)) = path.rsplit_once('/') else {
         return Ok(());
     };
-    match fs::create_dir_all(rt, folders) {
-        Ok(()) => Ok(()),
-        Err(error) => Err(of_io(&error, Failure::Output)),
-    }
+    fs::create_dir_all(rt, folders).map_err(|error| of_io(&error, Failure::Output))
 }

@@ -27,10 +27,7 @@ pub fn run<
 
 /// The words after the program's name. One that isn't UTF-8 refuses all.
 fn words_of<R: Env + AllocGlobal>(rt: &R, alloc: Global) -> Result<Vec<String>, Failure> {
-    let all = match env::args(rt) {
-        Ok(all) => all,
-        Err(error) => return Err(of_io(&error, Failure::Words)),
-    };
+    let all = env::args(rt).map_err(|error| of_io(&error, Failure::Words))?;
     let mut words = Vec::new(alloc);
     for word in all.skip(1) {
         words.push(word)?;

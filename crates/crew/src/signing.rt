@@ -101,10 +101,8 @@ fn sign_by<'a>(draft: &mut Draft<'a>, document: usize, key: &Key) -> Result<(), 
 
 /// How many entries the document has under the key's id.
 fn count_by(draft: &Draft, document: usize, key: &Key) -> usize {
-    match draft.documents.get(document) {
-        Some(document) => document.places_of(key.id.as_str()).len(),
-        None => 0,
-    }
+    let found = draft.documents.get(document);
+    found.map_or(0, |document| document.places_of(key.id.as_str()).len())
 }
 
 /// The place of such an entry, by its number among those under the key's id.

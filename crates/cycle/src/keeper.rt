@@ -9,7 +9,7 @@ ghost use Rattle.cycle.specs.Cycles.{outcomes_of, state_after};
 use crate::limits::Limits;
 use crate::order::Cycle;
 use crate::outcome::Outcome;
-use crate::recall::Recalling;
+use crate::recall::Recall;
 use crate::round::Round;
 use crate::running::beside_workers;
 use crate::stats::Stats;
@@ -28,7 +28,7 @@ use std::thread::Threads;
 pub struct Keeper {
     alloc: Global,
     trusted: Trusted,
-    cache: Cache,
+    memory: Recall,
 }
 
 impl Drop for Keeper {
@@ -36,7 +36,7 @@ impl Drop for Keeper {
         let Keeper {
             alloc,
             trusted,
-            cache,
+            memory,
         } = self;
     }
 }
@@ -57,11 +57,11 @@ impl Keeper {
         requires most { capacity ≤ 4096 }
         ensures state { IfOk result (λ k. k ≡ trusted) }
     {
-        let cache = Cache::new(alloc, capacity)?;
+        let memory = Recall::of(Some(Cache::new(alloc, capacity)?));
         Ok(Keeper {
             alloc,
             trusted,
-            cache,
+            memory,
         })
     }
 
@@ -102,8 +102,8 @@ impl Keeper {
             wanted,
             limits,
         };
-        let outcome = recalled(rt, &cycle, &mut self.cache, workers, gate)?;
-        follow(self.alloc, &mut self.trusted, outcome)
+        let outcome = recalled(rt, &cycle, &mut self.memory, workers, gate)?;
+        follow(&mut self.trusted, outcome)
     }
 
     /// A cycle for each round, in order, and their outcomes. After a refusal, which is for want of
@@ -142,21 +142,21 @@ impl Keeper {
 
 /// Takes the outcome's state over, and gives the outcome back. After a refusal the state is as
 /// before.
-fn follow(alloc: Global, trusted: &mut Trusted, outcome: Outcome) -> Result<Outcome, NoMemory>
+fn follow(trusted: &mut Trusted, outcome: Outcome) -> Result<Outcome, NoMemory>
     ensures outcome { IfOk result (λ o. o ≡ outcome) }
     ensures state { OnOk result (trusted.new ≡ outcome.trusted) }
     ensures refused { OnErr result (trusted.new ≡ trusted.old) }
 {
-    let next = outcome.trusted().copy(alloc)?;
+    let next = outcome.trusted().copy()?;
     *trusted = next;
     Ok(outcome)
 }
 
-/// A cycle by a cache of verdicts. Its counts take the cache's answers and the workers' together.
+/// A cycle by what is remembered. Its counts take the cache's answers and the workers' together.
 fn recalled<R: Threads + Wait + Sync, G: Gate + Sync>(
     rt: &R,
     cycle: &Cycle,
-    cache: &mut Cache,
+    memory: &mut Recall,
     workers: usize,
     gate: &G,
 ) -> Result<Outcome, NoMemory>
@@ -165,8 +165,7 @@ fn recalled<R: Threads + Wait + Sync, G: Gate + Sync>(
         (file_in cycle.now.repo.now.targets) cycle.now.moment cycle.now.trusted.now
         (map string_bytes cycle.now.wanted.now) cycle.now.limits.now.roles) }
 {
-    let mut memory = Recalling::new(cache);
-    let outcome = beside_workers(rt, cycle, workers, gate, &mut memory)?;
+    let outcome = beside_workers(rt, cycle, workers, gate, memory)?;
     let stats = outcome.stats();
     Ok(outcome.counted(Stats {
         taken_over: stats.taken_over.saturating_add(memory.taken_over()),

@@ -43,21 +43,13 @@ impl Ordered for Cycle<'_> {
     ghost outcome = { λ c. spec.workflow (file_in c.repo.now.metadata) (file_in c.repo.now.targets)
         c.moment c.trusted.now (map string_bytes c.wanted.now) c.limits.now.roles };
 
+    /// The workflow with this judge: each file is judged when its turn comes, and each wanted path
+    /// is searched on its own, in order.
     fn in_order<J: Judge>(&self, judge: &mut J) -> Result<Outcome, NoMemory> {
-        in_order(self, judge)
+        let (trusted, end) = advance(self.alloc, self.trusted, self.repo, self.moment, judge)?;
+        let searches = searches(self, &trusted, end, judge)?;
+        close(self, trusted, end, searches.as_slice(), judge)
     }
-}
-
-/// The workflow with this judge: each file is judged when its turn comes, and each wanted path is
-/// searched on its own, in order.
-fn in_order<J: Judge>(cycle: &Cycle, judge: &mut J) -> Result<Outcome, NoMemory>
-    ensures { IfOk result (λ o. o ≡ spec.workflow (file_in cycle.now.repo.now.metadata)
-        (file_in cycle.now.repo.now.targets) cycle.now.moment cycle.now.trusted.now
-        (map string_bytes cycle.now.wanted.now) cycle.now.limits.now.roles) }
-{
-    let (trusted, end) = advance(cycle.alloc, cycle.trusted, cycle.repo, cycle.moment, judge)?;
-    let searches = searches(cycle, &trusted, end, judge)?;
-    close(cycle, trusted, end, searches.as_slice(), judge)
 }
 
 /// The outcome of a cycle whose searches are done.

@@ -7,65 +7,40 @@ use cjson::NoMemory;
 use keys::Judge;
 use memory::{Cache, Kept};
 
-/// Does work in order by what it remembers, and asks the judge what it doesn't.
-pub(crate) trait Recall {
-    fn in_order<T: Ordered, J: Judge>(
-        &mut self,
-        task: &T,
-        judge: &mut J,
-    ) -> Result<Outcome, NoMemory>
-        ensures { IfOk result (λ o. o ≡ T.outcome task.now) };
-}
-
-/// Remembers nothing.
+/// What is remembered: what a cache has, or nothing. It counts what the cache answered.
 #[derive(Drop)]
-pub(crate) struct Nothing;
-
-impl Recall for Nothing {
-    fn in_order<T: Ordered, J: Judge>(
-        &mut self,
-        task: &T,
-        judge: &mut J,
-    ) -> Result<Outcome, NoMemory> {
-        task.in_order(judge)
-    }
-}
-
-/// Remembers what the cache has, and counts what the cache answered.
-pub(crate) struct Recalling<'a> {
-    cache: &'a mut Cache,
+pub(crate) struct Recall {
+    cache: Option<Cache>,
     taken_over: u64,
 }
 
-impl<'a> Drop for Recalling<'a> {
-    fn drop(self) {
-        let Recalling { cache, taken_over } = self;
-    }
-}
-
-impl<'a> Recalling<'a> {
-    pub(crate) fn new(cache: &'a mut Cache) -> Recalling<'a> {
-        Recalling {
+impl Recall {
+    pub(crate) fn of(cache: Option<Cache>) -> Recall {
+        Recall {
             cache,
             taken_over: 0,
         }
     }
 
-    /// How many questions the cache answered; it stays at the greatest number.
+    /// How many questions the cache answered in the last work.
     pub(crate) fn taken_over(&self) -> u64 {
         self.taken_over
     }
-}
 
-impl Recall for Recalling<'_> {
-    fn in_order<T: Ordered, J: Judge>(
+    /// Does work in order by what is remembered, and asks the judge what isn't.
+    pub(crate) fn in_order<T: Ordered, J: Judge>(
         &mut self,
         task: &T,
         judge: &mut J,
-    ) -> Result<Outcome, NoMemory> {
-        let mut kept = Kept::new(self.cache, judge);
+    ) -> Result<Outcome, NoMemory>
+        ensures { IfOk result (λ o. o ≡ T.outcome task.now) }
+    {
+        let Some(cache) = &mut self.cache else {
+            return task.in_order(judge);
+        };
+        let mut kept = Kept::new(cache, judge);
         let outcome = task.in_order(&mut kept);
-        self.taken_over = self.taken_over.saturating_add(kept.taken_over());
+        self.taken_over = kept.taken_over();
         outcome
     }
 }

@@ -8,7 +8,7 @@ ghost use Rattle.cycle.specs.Gathered.{AreGathered, all_accepted};
 use crate::limits::Limits;
 use crate::order::Cycle;
 use crate::outcome::Outcome;
-use crate::recall::{Nothing, Recall};
+use crate::recall::Recall;
 use crate::workers::{alone, with_plan, without_plan};
 use cjson::NoMemory;
 use crew::{Gate, Plan};
@@ -42,7 +42,7 @@ pub fn run_alone(
         wanted,
         limits,
     };
-    alone(&cycle, &mut Nothing)
+    alone(&cycle, &mut Recall::of(None))
 }
 
 /// The same cycle, where up to 64 workers decide ahead, in threads of their own, what is likely to
@@ -78,16 +78,16 @@ pub fn run<R: Threads + Wait + Sync, G: Gate + Sync>(
         wanted,
         limits,
     };
-    beside_workers(rt, &cycle, workers, gate, &mut Nothing)
+    beside_workers(rt, &cycle, workers, gate, &mut Recall::of(None))
 }
 
 /// The cycle in order, while workers decide ahead what it is likely to ask.
-pub(crate) fn beside_workers<R: Threads + Wait + Sync, G: Gate + Sync, M: Recall>(
+pub(crate) fn beside_workers<R: Threads + Wait + Sync, G: Gate + Sync>(
     rt: &R,
     cycle: &Cycle,
     workers: usize,
     gate: &G,
-    memory: &mut M,
+    memory: &mut Recall,
 ) -> Result<Outcome, NoMemory>
     requires { workers ≤ 64 }
     ensures { IfOk result (λ o. o ≡ spec.workflow (file_in cycle.now.repo.now.metadata)

@@ -38,7 +38,7 @@ struct Shared<'s, C, G> {
 }
 
 /// The work in order, where each question is decided when it is asked.
-pub(crate) fn alone<T: Ordered, M: Recall>(task: &T, memory: &mut M) -> Result<Outcome, NoMemory>
+pub(crate) fn alone<T: Ordered>(task: &T, memory: &mut Recall) -> Result<Outcome, NoMemory>
     ensures { IfOk result (λ o. o ≡ T.outcome task.now) }
 {
     let mut judge = Alone::new();
@@ -51,10 +51,10 @@ pub(crate) fn alone<T: Ordered, M: Recall>(task: &T, memory: &mut M) -> Result<O
 }
 
 /// The work in order beside no worker.
-pub(crate) fn without_plan<T: Ordered, G: Gate, M: Recall>(
+pub(crate) fn without_plan<T: Ordered, G: Gate>(
     task: &T,
     gate: &G,
-    memory: &mut M,
+    memory: &mut Recall,
 ) -> Result<Outcome, NoMemory>
     ensures { IfOk result (λ o. o ≡ T.outcome task.now) }
 {
@@ -65,20 +65,14 @@ pub(crate) fn without_plan<T: Ordered, G: Gate, M: Recall>(
 }
 
 /// The work in order, while workers decide the questions of the plan.
-pub(crate) fn with_plan<
-    R: Threads + Wait + Sync,
-    T: Ordered,
-    P: Questions + Sync,
-    G: Gate + Sync,
-    M: Recall,
->(
+pub(crate) fn with_plan<R: Threads + Wait + Sync, T: Ordered, P: Questions + Sync, G: Gate + Sync>(
     rt: &R,
     alloc: Global,
     task: &T,
     plan: &P,
     workers: usize,
     gate: &G,
-    memory: &mut M,
+    memory: &mut Recall,
 ) -> Result<Outcome, NoMemory>
     requires { workers ≤ 64 }
     ensures { IfOk result (λ o. o ≡ T.outcome task.now) }
@@ -122,14 +116,14 @@ fn hands_for(alloc: Global, count: usize, workers: usize) -> Result<Vec<Hand>, N
 
 /// Starts the workers, works in order, and takes the workers in.
 #[tactic(auto, using(board::proofs::SeatLemmas::free_kept))]
-fn with_workers<'s, E, R: Threads, T: Ordered, P: Questions + Sync, G: Gate + Sync, M: Recall>(
+fn with_workers<'s, E, R: Threads, T: Ordered, P: Questions + Sync, G: Gate + Sync>(
     rt: &R,
     scope: &Scope<'s, E>,
     task: &T,
     shared: &Shared<'s, P, G>,
     seat: Seat,
     hands: Vec<Hand>,
-    memory: &mut M,
+    memory: &mut Recall,
 ) -> Result<Outcome, NoMemory>
     requires seat { IsFree shared.now.board.now seat }
     requires truths { shared.now.board.now.truths ≡ P.truths shared.now.checks.now }
@@ -139,7 +133,7 @@ fn with_workers<'s, E, R: Threads, T: Ordered, P: Questions + Sync, G: Gate + Sy
     let (seat, workers) = start_all(scope, shared, seat, hands);
     shared.gate.begin();
     let (board, plan) = (shared.board, shared.checks);
-    let (mut seat, outcome) = judged::<T, P, Brand, M>(task, board, seat, plan, memory);
+    let (mut seat, outcome) = judged::<T, P, Brand>(task, board, seat, plan, memory);
     board.stop(&mut seat);
     shared.gate.end();
     retire(take_in(rt, board, seat, workers));
@@ -148,12 +142,12 @@ fn with_workers<'s, E, R: Threads, T: Ordered, P: Questions + Sync, G: Gate + Sy
 
 /// The work in order, by what the board knows.
 #[tactic(auto, using(board::proofs::SeatLemmas::free_kept))]
-fn judged<T: Ordered, P: Questions, K: Sitting, M: Recall>(
+fn judged<T: Ordered, P: Questions, K: Sitting>(
     task: &T,
     board: &Board,
     seat: Seat,
     plan: &P,
-    memory: &mut M,
+    memory: &mut Recall,
 ) -> (Seat, Result<Outcome, NoMemory>)
     requires start { seat ≡ K.start }
     requires free { IsFree board.now seat }
@@ -169,17 +163,8 @@ fn judged<T: Ordered, P: Questions, K: Sitting, M: Recall>(
         taken_over,
         alone,
     };
-    (judge.into_seat(), counted(outcome, stats))
-}
-
-/// The same answer with these counts.
-fn counted(outcome: Result<Outcome, NoMemory>, stats: Stats) -> Result<Outcome, NoMemory>
-    ensures { result ≡ outcome }
-{
-    match outcome {
-        Ok(outcome) => Ok(outcome.counted(stats)),
-        Err(NoMemory) => Err(NoMemory),
-    }
+    let outcome = outcome.map(|outcome| outcome.counted(stats));
+    (judge.into_seat(), outcome)
 }
 
 /// Starts a worker, if it can be started.

@@ -6,5 +6,5 @@ pub mod Bin
 pub mod Edge
 pub mod Search
 pub mod Query
-pub mod Delegator
+pub mod Binned
 pub mod Values

@@ -9,17 +9,12 @@ use std::alloc::Global;
 use std::marker::Model;
 
 /// A delegated role that a search accepted.
+#[derive(Drop)]
 pub struct Accepted {
     /// The role's name.
     pub role: Text,
     /// The version of its file.
     pub version: u64,
-}
-
-impl Drop for Accepted {
-    fn drop(self) {
-        let Accepted { role, version } = self;
-    }
 }
 
 impl Accepted {

@@ -10,8 +10,8 @@ ghost use Rattle.deleg.specs.Pattern.{is_match};
 ghost use Rattle.deleg.specs.Prefix.{path_digest};
 ghost use Rattle.meta.specs.Delegated.{roles_in};
 ghost use Rattle.deleg.specs.Edge as spec;
-ghost use Rattle.deleg.specs.Delegator as delegator;
-ghost use Rattle.deleg.specs.Delegator.{edges_by, roles_by};
+ghost use Rattle.deleg.specs.Binned as known;
+ghost use Rattle.deleg.specs.Binned.{edges_by, roles_by};
 ghost use Rattle.deleg.specs.Values.{edge_of};
 
 use crate::bin::bin_name;
@@ -23,21 +23,24 @@ use keys::{KeyRing, RoleKeys};
 use meta::{Bins, Delegation, HashPrefix, PathPattern, Paths, Roles, Targets};
 use std::alloc::Global;
 
-/// A delegation to a role, with the keys of the file that has it.
+/// A delegation to a role, with the keys of the file that has it (TUF 1.0 section 4.5).
 #[derive(Clone, Copy)]
-pub(crate) struct Edge<'a> {
+pub struct Edge<'a> {
+    /// The keys of the file that has it.
     pub ring: &'a KeyRing,
+    /// The name of the role.
     pub name: &'a str,
+    /// Which of the keys must sign the role's file, and how many.
     pub keys: &'a RoleKeys,
     pub terminating: bool,
     /// Which paths it is for; None stands for every path.
     pub paths: Option<&'a Paths>,
 }
 
-/// The delegation at a place of a targets file. Where the file has bins, that to the bin of this
-/// name is the only one.
-pub(crate) fn edge_at<'a>(targets: &'a Targets, bin: &'a str, place: usize) -> Option<Edge<'a>>
-    ensures { option_map edge_of result ≡ slice_get (edges_by bin.now targets.now) place }
+/// The delegation at a place of a targets file, from 0. Where the file has bins, that to the bin of
+/// this name is the only one; else the name doesn't matter.
+pub fn edge_at<'a>(targets: &'a Targets, bin: &'a str, place: usize) -> Option<Edge<'a>>
+    ensures edge { option_map edge_of result ≡ slice_get (edges_by bin.now targets.now) place }
 {
     let delegations = targets.delegations()?;
     let ring = delegations.ring();
@@ -76,10 +79,8 @@ fn binned<'a>(ring: &'a KeyRing, bins: &'a Bins, name: &'a str) -> Edge<'a>
 pub(crate) fn edge_count(targets: &Targets, bin: &str) -> usize
     ensures { result ≡ length (edges_by bin.now targets.now) }
 {
-    match targets.delegations() {
-        Some(delegations) => role_count(delegations.roles()),
-        None => 0,
-    }
+    let delegations = targets.delegations();
+    delegations.map_or(0, |delegations| role_count(delegations.roles()))
 }
 
 fn role_count(roles: &Roles) -> usize
@@ -93,7 +94,7 @@ fn role_count(roles: &Roles) -> usize
 
 /// The name of the path's bin, where the file has bins.
 pub(crate) fn bin_of(alloc: Global, targets: &Targets, path: &str) -> Result<Text, NoMemory>
-    ensures { IfOk result (λ bin. bin ≡ delegator.bin_of targets.now path.now) }
+    ensures { IfOk result (λ bin. bin ≡ known.bin_of targets.now path.now) }
 {
     let name = match targets.delegations() {
         Some(delegations) => bin_in(alloc, delegations.roles(), path)?,
@@ -104,7 +105,7 @@ pub(crate) fn bin_of(alloc: Global, targets: &Targets, path: &str) -> Result<Tex
 
 fn bin_in(alloc: Global, roles: &Roles, path: &str) -> Result<String, NoMemory>
     ensures { IfOk result (λ name.
-        string_bytes name ≡ delegator.bin_in path.now (roles_in roles.now)) }
+        string_bytes name ≡ known.bin_in path.now (roles_in roles.now)) }
 {
     match roles {
         Roles::Listed(_) => Ok(String::new(alloc)),

@@ -2,7 +2,6 @@
 
 ghost use Rattle.std.specs.Prelude.{◌≡◌, IfOk, drop, slice_get, option_map};
 ghost use Rattle.deleg.specs.Edge as spec;
-ghost use Rattle.deleg.specs.Delegator.{delegator_targets};
 ghost use Rattle.deleg.specs.Query as query;
 ghost use Rattle.deleg.specs.Values.{edge_of};
 
@@ -15,71 +14,38 @@ use meta::{Part, Targets};
 use std::alloc::Global;
 use std::marker::Model;
 
-/// The targets file whose delegations are tried.
-#[derive(Drop)]
-enum Delegator<'a> {
-    Trusted(&'a Targets),
-    Accepted(Part<Targets>),
-}
-
-fn targets_in<'a>(file: &'a Delegator<'_>) -> &'a Targets
-    ensures { result.now ≡ delegator_targets file.now }
-{
-    match file {
-        Delegator::Trusted(targets) => targets,
-        Delegator::Accepted(part) => part.reading(),
-    }
-}
-
 /// A targets file, the name of the bin of the path that is searched for, and how many of the file's
 /// delegations were tried; seen as those that are left.
-pub(crate) struct Frame<'a> {
-    file: Delegator<'a>,
+pub(crate) struct Frame {
+    file: Part<Targets>,
     bin: Text,
     tried: usize,
 }
 
-impl<'a> Drop for Frame<'a> {
+impl Drop for Frame {
     fn drop(self) {
         let Frame { file, bin, tried } = self;
     }
 }
 
-impl<'a> Model for Frame<'a> {
+impl Model for Frame {
     ghost use Rattle.std.specs.Prelude.{List, drop};
     ghost use Rattle.deleg.specs.Edge as spec;
-    ghost use Rattle.deleg.specs.Delegator.{edges_by, delegator_targets};
+    ghost use Rattle.deleg.specs.Binned.{edges_by};
 
     ghost Value = { List spec.Edge };
 
-    ghost view = { λ f. drop f.tried (edges_by f.bin (delegator_targets f.file)) };
+    ghost view = { λ f. drop f.tried (edges_by f.bin f.file.reading) };
 }
 
-impl<'a> Frame<'a> {
-    pub(crate) fn of_trusted(
-        alloc: Global,
-        targets: &'a Targets,
-        path: &str,
-    ) -> Result<Frame<'a>, NoMemory>
-        ensures { IfOk result (λ f. f ≡ spec.edges targets.now path.now) }
+impl Frame {
+    /// A file none of whose delegations were tried.
+    pub(crate) fn of(alloc: Global, file: Part<Targets>, path: &str) -> Result<Frame, NoMemory>
+        ensures { IfOk result (λ f. f ≡ spec.edges file.reading path.now) }
     {
+        let bin = bin_of(alloc, file.reading(), path)?;
         Ok(Frame {
-            file: Delegator::Trusted(targets),
-            bin: bin_of(alloc, targets, path)?,
-            tried: 0,
-        })
-    }
-
-    pub(crate) fn of_accepted(
-        alloc: Global,
-        part: Part<Targets>,
-        path: &str,
-    ) -> Result<Frame<'a>, NoMemory>
-        ensures { IfOk result (λ f. f ≡ spec.edges part.reading path.now) }
-    {
-        let bin = bin_of(alloc, part.reading(), path)?;
-        Ok(Frame {
-            file: Delegator::Accepted(part),
+            file,
             bin,
             tried: 0,
         })
@@ -89,14 +55,14 @@ impl<'a> Frame<'a> {
     pub(crate) fn next(&self) -> Option<Edge<'_>>
         ensures { option_map edge_of result ≡ slice_get self.now 0 }
     {
-        edge_at(targets_in(&self.file), self.bin.as_str(), self.tried)
+        edge_at(self.file.reading(), self.bin.as_str(), self.tried)
     }
 
     /// Leaves out the first delegation that is left.
     pub(crate) fn skip(&mut self)
         ensures { self.new ≡ drop 1 self.old }
     {
-        if self.tried < edge_count(targets_in(&self.file), self.bin.as_str()) {
+        if self.tried < edge_count(self.file.reading(), self.bin.as_str()) {
             self.tried += 1;
         }
     }
@@ -114,10 +80,8 @@ impl<'a> Frame<'a> {
     fn starts_passed(&self, path: &str, seen: &[Accepted]) -> bool
         ensures { result ≡ query.starts_passed path.now seen.now self.now }
     {
-        match self.next() {
-            Some(edge) => is_passed(&edge, path, seen),
-            None => false,
-        }
+        let next = self.next();
+        next.is_some_and(|edge| is_passed(&edge, path, seen))
     }
 }
 

@@ -15,7 +15,7 @@ use crate::walk::walk;
 use cjson::NoMemory;
 use cjson::text::Text;
 use keys::Judge;
-use meta::{Moment, Repo, Targets};
+use meta::{Moment, Part, Repo, Targets};
 use rolechain::Trusted;
 use std::alloc::Global;
 
@@ -58,20 +58,20 @@ pub fn search<J: Judge>(
         path,
         limit,
     };
-    search_from(&query, targets.reading(), judge)
+    search_from(&query, targets, judge)
 }
 
 /// The search from the top-level targets file on.
 fn search_from<J: Judge>(
     query: &Query,
-    targets: &Targets,
+    targets: &Part<Targets>,
     judge: &mut J,
 ) -> Result<Searched, NoMemory>
     ensures { let q = quest_of query.now in
         IfOk result (λ s.
-        s ≡ spec.search_from q.files q.now q.top q.snap q.path q.most targets.now) }
+        s ≡ spec.search_from q.files q.now q.top q.snap q.path q.most targets.now.reading) }
 {
-    if let Some(target) = target_of(targets, query.path) {
+    if let Some(target) = target_of(targets.reading(), query.path) {
         let role = Text::new(String::from_str(query.alloc, "targets")?);
         let found = Found::Listed {
             role,
@@ -81,6 +81,6 @@ fn search_from<J: Judge>(
         return Ok(Searched::new(found, Vec::new(query.alloc)));
     }
     let mut stack = Vec::new(query.alloc);
-    stack.push(Frame::of_trusted(query.alloc, targets, query.path)?)?;
+    stack.push(Frame::of(query.alloc, targets.copy()?, query.path)?)?;
     walk(query, stack, judge)
 }

@@ -17,14 +17,14 @@ use keys::Judge;
 use meta::{Part, Stop, Targets};
 
 /// Tries the delegations of the files on the stack, the last file's first.
-pub(crate) fn walk<'a, J: Judge>(
+pub(crate) fn walk<J: Judge>(
     query: &Query,
-    mut stack: Vec<Frame<'a>>,
+    mut stack: Vec<Frame>,
     judge: &mut J,
 ) -> Result<Searched, NoMemory>
     ensures { IfOk result (λ s.
         s ≡ spec.outlook (quest_of query.now)
-        (spec.pending query.now.path.now stack.entry.items) []) }
+        (spec.pending query.now.path.now stack.items) []) }
 {
     let mut seen = Vec::new(query.alloc);
     while let Some(frame) = next_frame(query, &mut stack, seen.as_slice()) {
@@ -37,7 +37,7 @@ pub(crate) fn walk<'a, J: Judge>(
 
 /// Takes the last file that has a delegation to visit, up to that delegation; None where no more is
 /// tried.
-fn next_frame<'a>(query: &Query, stack: &mut Vec<Frame<'a>>, seen: &[Accepted]) -> Option<Frame<'a>>
+fn next_frame(query: &Query, stack: &mut Vec<Frame>, seen: &[Accepted]) -> Option<Frame>
     ensures none { let q = quest_of query.now in
         IfNone result (spec.Ends q (spec.pending q.path stack.old.items) seen.now found.NotFound
         seen.now) }
@@ -61,21 +61,21 @@ fn next_frame<'a>(query: &Query, stack: &mut Vec<Frame<'a>>, seen: &[Accepted]) 
 
 /// Visits the role of the file's first delegation: what the search found, or None where it goes on
 /// with the delegations that are now on the stack.
-fn visit<'a, J: Judge>(
+fn visit<J: Judge>(
     query: &Query,
-    frame: Frame<'a>,
-    stack: &mut Vec<Frame<'a>>,
+    frame: Frame,
+    stack: &mut Vec<Frame>,
     seen: &mut Vec<Accepted>,
     judge: &mut J,
 ) -> Result<Option<Found>, NoMemory>
     requires { spec.IsNext query.now.path.now seen.old.items frame }
     ensures goes_on { let q = quest_of query.now in
         IfOk result (λ o. IfNone o (spec.GoesOn q
-        (spec.pending_with q.path frame.entry stack.old.items) seen.old.items
+        (spec.pending_with q.path frame stack.old.items) seen.old.items
         (spec.pending q.path stack.new.items) seen.new.items)) }
     ensures ends { let q = quest_of query.now in
         IfOk result (λ o. IfSome o (λ f. spec.Ends q
-        (spec.pending_with q.path frame.entry stack.old.items) seen.old.items f seen.new.items)) }
+        (spec.pending_with q.path frame stack.old.items) seen.old.items f seen.new.items)) }
 {
     if seen.len() >= query.limit.saturating_sub(1) {
         return Ok(Some(Found::LimitReached));
@@ -94,7 +94,7 @@ fn visit<'a, J: Judge>(
         return Ok(Some(found));
     }
     put_back(frame, terminating, stack)?;
-    stack.push(Frame::of_accepted(query.alloc, part, query.path)?)?;
+    stack.push(Frame::of(query.alloc, part, query.path)?)?;
     Ok(None)
 }
 
@@ -130,13 +130,9 @@ fn accept(
 }
 
 /// Puts the file back without its first delegation; after a terminating one nothing else is tried.
-fn put_back<'a>(
-    mut frame: Frame<'a>,
-    terminating: bool,
-    stack: &mut Vec<Frame<'a>>,
-) -> Result<(), NoMemory>
+fn put_back(mut frame: Frame, terminating: bool, stack: &mut Vec<Frame>) -> Result<(), NoMemory>
     ensures { IfOk result (λ _. stack.new.items
-        ≡ (if terminating then [] else stack.old.items ++ drop 1 frame.entry ∷ [])) }
+        ≡ (if terminating then [] else stack.old.items ++ drop 1 frame ∷ [])) }
 {
     if terminating {
         stack.clear();

@@ -70,10 +70,8 @@ fn listed_bytes<'a>(
         ≡ spec.listed_bytes (expectation expect.now) (file_in files.now) }
 {
     refuse_if(matches!(expect.listed, Listed::Absent), Fault::NotListed)?;
-    match files.get(expect.name) {
-        Some(bytes) => Ok(bytes.as_slice()),
-        None => Err(Fault::Missing),
-    }
+    let bytes = files.get(expect.name).ok_or(Fault::Missing)?;
+    Ok(bytes.as_slice())
 }
 
 /// What the bytes of a file are read as, within the limit of its kind.
@@ -83,7 +81,7 @@ fn read_candidate<A: Reading + Drop>(alloc: Global, bytes: &[u8]) -> Result<Cand
 {
     let doc = read_document(alloc, bytes)?;
     let reading = A::read(alloc, &doc)?;
-    let part = Part::new(Vec::from_slice(alloc, bytes)?, reading);
+    let part = Part::new(alloc, Vec::from_slice(alloc, bytes)?, reading)?;
     Ok(Candidate { part, doc })
 }
 

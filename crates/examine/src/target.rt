@@ -41,8 +41,5 @@ pub fn target_file<'a>(
 fn file_of<'a>(files: &'a BTreeMap<String, Vec<u8>>, name: &str) -> Option<&'a [u8]>
     ensures { option_map (λ b. b.now) result ≡ file_in files.now name.now }
 {
-    match files.get(name) {
-        Some(bytes) => Some(bytes.as_slice()),
-        None => None,
-    }
+    Some(files.get(name)?.as_slice())
 }

@@ -12,10 +12,7 @@ use moment::Moment;
 pub(crate) fn is_version_wrong(due: Option<u64>, header: &Header) -> bool
     ensures { result ≡ spec.is_version_wrong due header.now }
 {
-    match due {
-        Some(due) => due != header.version.get(),
-        None => false,
-    }
+    due.is_some_and(|due| due != header.version.get())
 }
 
 /// Whether the file expires no later than the moment (TUF 1.0 section 5).
@@ -45,10 +42,7 @@ pub(crate) fn falls_short(old: Option<&Snapshot>, new: &Snapshot) -> bool
     ensures { result ≡ option_map_or (λ s. spec.lists_less s new.now)
         (option_map (λ s. s.now) old.entry) false }
 {
-    match old {
-        Some(old) => lists_less(old, new),
-        None => false,
-    }
+    old.is_some_and(|old| lists_less(old, new))
 }
 
 /// Both snapshots list their files in byte order of their names, so what keeps a file stands close

@@ -149,10 +149,7 @@ impl Hand {
         if place == 0 {
             return pop_below(&mut self.own, self.count, self.from, self.end);
         }
-        match self.others.get_mut(place - 1) {
-            Some(other) => other.steal(),
-            None => None,
-        }
+        self.others.get_mut(place - 1)?.steal()
     }
 
     /// Where a number comes if the parts of all workers are taken in turns: the first number of

@@ -18,7 +18,7 @@ pub enum Algorithm {
 /// A question about a metadata file or a target. Its answer is a matter of computing: no role,
 /// version or date bears on it. The names and the place say where the question comes from, and not
 /// what is true.
-#[derive(Clone, Copy)]
+#[derive(Clone, Copy, PartialEq)]
 pub enum Ask<'a> {
     /// Whether the entry's text is the hexadecimal, in either case, of a valid signature of the
     /// message (TUF 1.0 section 4.2).
@@ -54,50 +54,7 @@ impl Ask<'_> {
         ensures parts { IsTrue result ↔ IsSame self.now other.now }
         ensures truth { IsTrue result → truth self.now ≡ truth other.now }
     {
-        match (*self, *other) {
-            (
-                Ask::Signature {
-                    file,
-                    place,
-                    public,
-                    message,
-                    sig,
-                },
-                Ask::Signature {
-                    file: other_file,
-                    place: other_place,
-                    public: other_public,
-                    message: other_message,
-                    sig: other_sig,
-                },
-            ) => {
-                file == other_file
-                    && place == other_place
-                    && public.bytes() == other_public.bytes()
-                    && message == other_message
-                    && sig == other_sig
-            }
-            (
-                Ask::Digest {
-                    file,
-                    algorithm,
-                    bytes,
-                    digest,
-                },
-                Ask::Digest {
-                    file: other_file,
-                    algorithm: other_algorithm,
-                    bytes: other_bytes,
-                    digest: other_digest,
-                },
-            ) => {
-                file == other_file
-                    && algorithm == other_algorithm
-                    && bytes == other_bytes
-                    && digest == other_digest
-            }
-            _ => false,
-        }
+        self == other
     }
 }
 

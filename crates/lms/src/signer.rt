@@ -43,6 +43,7 @@ impl From<AllocError> for SignFault {
 }
 
 /// A secret key: a tree of one-time keys, of which each signs one message (RFC 8554 section 5).
+#[derive(Drop)]
 pub struct Secret {
     alloc: Global,
     kind: Kind,
@@ -50,19 +51,6 @@ pub struct Secret {
     seed: [u8; 32],
     used: u32,
     nodes: Vec<Node>,
-}
-
-impl Drop for Secret {
-    fn drop(self) {
-        let Secret {
-            alloc,
-            kind,
-            id,
-            seed,
-            used,
-            nodes,
-        } = self;
-    }
 }
 
 impl Model for Secret {

@@ -4,15 +4,10 @@ use std::alloc::{AllocError, Global};
 
 /// Bins that a `succinct` line has made: so many bits of a digest tell one, and their names begin
 /// with the prefix.
+#[derive(Drop)]
 pub struct Bins {
     bits: u32,
     prefix: String,
-}
-
-impl Drop for Bins {
-    fn drop(self) {
-        let Bins { bits, prefix } = self;
-    }
 }
 
 impl Bins {
@@ -31,10 +26,7 @@ impl Bins {
         if prefix != self.prefix.as_str() || digits.len() != width {
             return false;
         }
-        match number(digits) {
-            Some(number) => number.checked_shr(self.bits).unwrap_or(0) == 0,
-            None => false,
-        }
+        number(digits).is_some_and(|number| number.checked_shr(self.bits).unwrap_or(0) == 0)
     }
 }
 

@@ -121,20 +121,18 @@ fn read_words<'a>(alloc: Global, words: &mut Words<'a>) -> Result<Line<'a>, Refu
 }
 
 fn read_key<'a>(words: &mut Words<'a>) -> Result<Line<'a>, Refusal> {
-    let byte = words.key_byte()?;
-    let height = words.height()?;
-    let width = words.width()?;
     Ok(Line::Key {
-        byte,
-        width,
-        height,
+        byte: words.key_byte()?,
+        height: words.height()?,
+        width: words.width()?,
     })
 }
 
 fn read_quorum(alloc: Global, words: &mut Words<'_>) -> Result<Quorum, Refusal> {
-    let threshold = words.whole()?;
-    let keys = words.keys(alloc)?;
-    Ok(Quorum { threshold, keys })
+    Ok(Quorum {
+        threshold: words.whole()?,
+        keys: words.keys(alloc)?,
+    })
 }
 
 fn read_top<'a>(alloc: Global, words: &mut Words<'a>) -> Result<Line<'a>, Refusal> {
@@ -147,15 +145,11 @@ fn read_top<'a>(alloc: Global, words: &mut Words<'a>) -> Result<Line<'a>, Refusa
 }
 
 fn read_target<'a>(alloc: Global, words: &mut Words<'a>) -> Result<Line<'a>, Refusal> {
-    let role = words.word()?;
-    let path = words.path()?;
-    let bytes = words.bytes(alloc)?;
-    let digests = read_digests(words)?;
     Ok(Line::Target(TargetLine {
-        role,
-        path,
-        bytes,
-        digests,
+        role: words.word()?,
+        path: words.path()?,
+        bytes: words.bytes(alloc)?,
+        digests: read_digests(words)?,
     }))
 }
 
@@ -169,42 +163,29 @@ fn read_digests(words: &mut Words<'_>) -> Result<Digests, Refusal> {
 }
 
 fn read_delegate<'a>(alloc: Global, words: &mut Words<'a>) -> Result<Line<'a>, Refusal> {
-    let from = words.word()?;
-    let to = words.role()?;
-    let quorum = read_quorum(alloc, words)?;
-    let terminating = words.choice("stop", "go")?;
-    let by_paths = words.choice("paths", "prefixes")?;
-    let list = words.word()?;
     Ok(Line::Delegate(DelegateLine {
-        from,
-        to,
-        quorum,
-        terminating,
-        by_paths,
-        list,
+        from: words.word()?,
+        to: words.role()?,
+        quorum: read_quorum(alloc, words)?,
+        terminating: words.choice("stop", "go")?,
+        by_paths: words.choice("paths", "prefixes")?,
+        list: words.word()?,
     }))
 }
 
 fn read_succinct<'a>(alloc: Global, words: &mut Words<'a>) -> Result<Line<'a>, Refusal> {
-    let from = words.word()?;
-    let quorum = read_quorum(alloc, words)?;
-    let bits = words.bits()?;
-    let prefix = words.role()?;
     Ok(Line::Succinct(SuccinctLine {
-        from,
-        quorum,
-        bits,
-        prefix,
+        from: words.word()?,
+        quorum: read_quorum(alloc, words)?,
+        bits: words.bits()?,
+        prefix: words.role()?,
     }))
 }
 
 fn read_write<'a>(alloc: Global, words: &mut Words<'a>) -> Result<Line<'a>, Refusal> {
-    let role = words.word()?;
-    let version = words.whole()?;
-    let keys = words.keys(alloc)?;
     Ok(Line::Write(WriteLine {
-        role,
-        version,
-        keys,
+        role: words.word()?,
+        version: words.whole()?,
+        keys: words.keys(alloc)?,
     }))
 }

@@ -42,7 +42,7 @@ pub fn key_object(alloc: Global, public: &Public) -> Result<Value, AllocError> {
 }
 
 /// What a role says of its keys (TUF 1.0 section 4.3).
-pub fn role_object(alloc: Global, ids: Vec<Value>, threshold: u64) -> Result<Value, AllocError> {
+pub fn quorum_object(alloc: Global, ids: Vec<Value>, threshold: u64) -> Result<Value, AllocError> {
     json!(in alloc; { "keyids": ids, "threshold": threshold })
 }
 
@@ -72,36 +72,6 @@ pub fn target_object(alloc: Global, bytes: &[u8], digests: Digests) -> Result<Va
     let hashes = hashes_object(alloc, bytes, digests)?;
     let length = bytes.len();
     json!(in alloc; { "hashes": hashes, "length": length })
-}
-
-/// The members that files of all kinds have.
-pub fn common_members(
-    alloc: Global,
-    kind: &str,
-    expires: &str,
-    version: u64,
-) -> Result<Map<String, Value>, AllocError> {
-    let mut members = Map::new(alloc);
-    put(
-        alloc,
-        &mut members,
-        "_type",
-        Value::try_from_str(alloc, kind)?,
-    )?;
-    put(
-        alloc,
-        &mut members,
-        "expires",
-        Value::try_from_str(alloc, expires)?,
-    )?;
-    put(
-        alloc,
-        &mut members,
-        "spec_version",
-        Value::try_from_str(alloc, "1.0.0")?,
-    )?;
-    put(alloc, &mut members, "version", Value::from(version))?;
-    Ok(members)
 }
 
 /// The texts that commas join, as a list.

@@ -3,8 +3,8 @@
 use crate::bins::Bins;
 use crate::line::{DelegateLine, Line, Quorum, SuccinctLine, TargetLine, WriteLine};
 use crate::objects::{
-    common_members, delegation_object, listing_object, put, role_object, succinct_object,
-    target_name, target_object,
+    delegation_object, listing_object, put, quorum_object, succinct_object, target_name,
+    target_object,
 };
 use crate::refusal::Refusal;
 use crate::ring::{ids_of, new_signer, place_of, places_of, put_keys};
@@ -15,6 +15,9 @@ use seals::{Signer, seal_text};
 use serde_json::{Map, Value, json};
 use std::alloc::{AllocError, Global};
 use std::collections::BTreeMap;
+
+/// The version of the standard that files name.
+const SPEC_VERSION: &str = "1.0.0";
 
 /// What the file of `targets` or of a delegated role will say.
 struct Role {
@@ -248,8 +251,8 @@ impl Repository {
         if self.tops.len() < 4 {
             return Err(Refusal::Line);
         }
-        let members = self.root_members(line.version)?;
-        let bytes = self.sealed(members, &line.keys)?;
+        let object = self.root_object(line.version)?;
+        let bytes = self.sealed(object, &line.keys)?;
         let name = names::root_name(self.alloc, line.version)?;
         self.put_metadata(name.as_str(), bytes)
     }
@@ -258,8 +261,8 @@ impl Repository {
         if !self.is_made(line.role) {
             return Err(Refusal::Line);
         }
-        let members = self.timestamp_members(line.version)?;
-        let bytes = self.sealed(members, &line.keys)?;
+        let object = self.timestamp_object(line.version)?;
+        let bytes = self.sealed(object, &line.keys)?;
         self.put_metadata("timestamp.json", bytes)
     }
 
@@ -267,8 +270,8 @@ impl Repository {
         if !self.is_made(line.role) {
             return Err(Refusal::Line);
         }
-        let members = self.snapshot_members(line.version)?;
-        let bytes = self.sealed(members, &line.keys)?;
+        let object = self.snapshot_object(line.version)?;
+        let bytes = self.sealed(object, &line.keys)?;
         self.snapshot = Some(listing_object(self.alloc, &bytes, line.version)?);
         let name = names::versioned(self.alloc, self.consistent, line.version, "snapshot.json")?;
         self.put_metadata(name.as_str(), bytes)
@@ -277,8 +280,8 @@ impl Repository {
     /// Writes the file of `targets` or of a delegated role.
     fn write_role(&mut self, line: &WriteLine<'_>) -> Result<(), Refusal> {
         let _listing = self.listing_role(line.role)?;
-        let members = self.role_members(line.role, line.version)?;
-        let bytes = self.sealed(members, &line.keys)?;
+        let object = self.role_object(line.role, line.version)?;
+        let bytes = self.sealed(object, &line.keys)?;
         let listed = names::role_name(self.alloc, line.role)?;
         let listing = listing_object(self.alloc, &bytes, line.version)?;
         put(self.alloc, &mut self.listed, listed.as_str(), listing)?;
@@ -287,19 +290,18 @@ impl Repository {
     }
 
     /// What a root file says (TUF 1.0 section 4.3).
-    fn root_members(&self, version: u64) -> Result<Map<String, Value>, Refusal> {
-        let mut members = common_members(self.alloc, "root", self.expires.as_str(), version)?;
-        let keys = self.root_keys()?;
-        let roles = self.root_roles()?;
-        put(
-            self.alloc,
-            &mut members,
-            "consistent_snapshot",
-            Value::Bool(self.consistent),
-        )?;
-        put(self.alloc, &mut members, "keys", Value::Object(keys))?;
-        put(self.alloc, &mut members, "roles", Value::Object(roles))?;
-        Ok(members)
+    fn root_object(&self, version: u64) -> Result<Value, Refusal> {
+        let keys = Value::Object(self.root_keys()?);
+        let roles = Value::Object(self.root_roles()?);
+        Ok(json!(in self.alloc; {
+            "_type": "root",
+            "consistent_snapshot": self.consistent,
+            "expires": self.expires.as_str(),
+            "keys": keys,
+            "roles": roles,
+            "spec_version": SPEC_VERSION,
+            "version": version
+        })?)
     }
 
     /// The keys of the top-level roles.
@@ -316,57 +318,62 @@ impl Repository {
         let mut roles = Map::new(self.alloc);
         for (name, quorum) in self.tops.iter() {
             let ids = ids_of(self.alloc, &self.signers, &quorum.keys)?;
-            let object = role_object(self.alloc, ids, quorum.threshold)?;
+            let object = quorum_object(self.alloc, ids, quorum.threshold)?;
             put(self.alloc, &mut roles, name.as_str(), object)?;
         }
         Ok(roles)
     }
 
     /// What a timestamp file says (TUF 1.0 section 4.6).
-    fn timestamp_members(&self, version: u64) -> Result<Map<String, Value>, Refusal> {
-        let Some(snapshot) = &self.snapshot else {
-            return Err(Refusal::Line);
-        };
-        let mut members = common_members(self.alloc, "timestamp", self.expires.as_str(), version)?;
-        let meta = json!(in self.alloc; { "snapshot.json": snapshot })?;
-        put(self.alloc, &mut members, "meta", meta)?;
-        Ok(members)
+    fn timestamp_object(&self, version: u64) -> Result<Value, Refusal> {
+        let snapshot = self.snapshot.as_ref().ok_or(Refusal::Line)?;
+        Ok(json!(in self.alloc; {
+            "_type": "timestamp",
+            "expires": self.expires.as_str(),
+            "meta": { "snapshot.json": snapshot },
+            "spec_version": SPEC_VERSION,
+            "version": version
+        })?)
     }
 
     /// What a snapshot file says (TUF 1.0 section 4.4).
-    fn snapshot_members(&self, version: u64) -> Result<Map<String, Value>, Refusal> {
-        let mut members = common_members(self.alloc, "snapshot", self.expires.as_str(), version)?;
-        put(
-            self.alloc,
-            &mut members,
-            "meta",
-            Value::Object(self.listed.clone()?),
-        )?;
-        Ok(members)
+    fn snapshot_object(&self, version: u64) -> Result<Value, Refusal> {
+        let listed = Value::Object(self.listed.clone()?);
+        Ok(json!(in self.alloc; {
+            "_type": "snapshot",
+            "expires": self.expires.as_str(),
+            "meta": listed,
+            "spec_version": SPEC_VERSION,
+            "version": version
+        })?)
     }
 
     /// What the file of `targets` or of a delegated role says (TUF 1.0 section 4.5).
-    fn role_members(&self, name: &str, version: u64) -> Result<Map<String, Value>, Refusal> {
-        let Some(role) = self.roles.get(name) else {
-            return Err(Refusal::Line);
-        };
-        let mut members = common_members(self.alloc, "targets", self.expires.as_str(), version)?;
-        put(
-            self.alloc,
-            &mut members,
-            "targets",
-            Value::Object(role.targets.clone()?),
-        )?;
-        if let Some(delegations) = role.delegations(self.alloc)? {
-            put(self.alloc, &mut members, "delegations", delegations)?;
+    fn role_object(&self, name: &str, version: u64) -> Result<Value, Refusal> {
+        let role = self.roles.get(name).ok_or(Refusal::Line)?;
+        let targets = Value::Object(role.targets.clone()?);
+        let mut object = json!(in self.alloc; {
+            "_type": "targets",
+            "expires": self.expires.as_str(),
+            "spec_version": SPEC_VERSION,
+            "targets": targets,
+            "version": version
+        })?;
+        if let (Value::Object(members), Some(delegations)) = (
+            &mut object,
+            role.delegations(self.alloc)?,
+        ) {
+            put(self.alloc, members, "delegations", delegations)?;
         }
-        Ok(members)
+        Ok(object)
     }
 
-    /// The file that says this, signed by the keys.
-    fn sealed(&mut self, members: Map<String, Value>, keys: &[u8]) -> Result<Vec<u8>, Refusal> {
+    /// The file that says this, which is an object, signed by the keys.
+    fn sealed(&mut self, signed: Value, keys: &[u8]) -> Result<Vec<u8>, Refusal> {
+        if !signed.is_object() {
+            return Err(Refusal::Line);
+        }
         let by = places_of(self.alloc, &self.signers, keys)?;
-        let signed = Value::from(members);
         let text = canonical(self.alloc, &signed)?;
         Ok(seal_text(self.alloc, &signed, &text, &mut self.signers, &by)?)
     }

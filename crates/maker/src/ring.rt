@@ -32,10 +32,8 @@ fn is_of_byte(signer: &Signer, byte: u8) -> bool {
 pub fn place_of(signers: &[Signer], byte: u8) -> Result<usize, Refusal>
     ensures place { IfOk result (λ p. p < length signers.now) }
 {
-    match signers.iter().position(|signer| is_of_byte(signer, byte)) {
-        Some(place) => Ok(place),
-        None => Err(Refusal::Line),
-    }
+    let place = signers.iter().position(|signer| is_of_byte(signer, byte));
+    place.ok_or(Refusal::Line)
 }
 
 /// The places of the keys of the bytes, in order.

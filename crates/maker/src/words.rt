@@ -23,9 +23,7 @@ impl<'a> Words<'a> {
 
     /// The next word, or a refusal where there is none or it is empty.
     pub fn word(&mut self) -> Result<&'a str, Refusal> {
-        let Some(rest) = self.rest else {
-            return Err(Refusal::Line);
-        };
+        let rest = self.rest.ok_or(Refusal::Line)?;
         let (word, rest) = match rest.split_once(' ') {
             Some((word, rest)) => (word, Some(rest)),
             None => (rest, None),
@@ -116,14 +114,11 @@ impl<'a> Words<'a> {
 
     /// `true` at the word `yes`, `false` at the word `no`.
     pub fn choice(&mut self, yes: &str, no: &str) -> Result<bool, Refusal> {
-        let word = self.word()?;
-        if word == yes {
-            return Ok(true);
+        match self.word()? {
+            word if word == yes => Ok(true),
+            word if word == no => Ok(false),
+            _ => Err(Refusal::Line),
         }
-        if word == no {
-            return Ok(false);
-        }
-        Err(Refusal::Line)
     }
 
     /// A role's name, which has no `/`.
@@ -161,11 +156,6 @@ fn decimal(word: &str) -> Option<u64> {
 }
 
 fn byte(word: &str) -> Result<u8, Refusal> {
-    let Some(number) = decimal(word) else {
-        return Err(Refusal::Line);
-    };
-    match u8::try_from(number) {
-        Ok(byte) => Ok(byte),
-        Err(_) => Err(Refusal::Line),
-    }
+    let number = decimal(word).ok_or(Refusal::Line)?;
+    u8::try_from(number).ok().ok_or(Refusal::Line)
 }

@@ -16,16 +16,11 @@ const MOST_BITS: u64 = 32;
 
 /// Hash bins: a role for each beginning of so many bits that a path's SHA-256 digest may have. All
 /// have these keys, and their names begin with one prefix.
+#[derive(Drop)]
 pub struct Bins {
     keys: RoleKeys,
     bits: BitCount,
     prefix: Text,
-}
-
-impl Drop for Bins {
-    fn drop(self) {
-        let Bins { keys, bits, prefix } = self;
-    }
 }
 
 impl Model for Bins {

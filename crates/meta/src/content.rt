@@ -56,19 +56,13 @@ pub fn refuse_if(fails: bool, fault: Fault) -> Result<(), Fault>
 fn is_too_long(limit: Option<u64>, bytes: &[u8]) -> bool
     ensures { result ≡ spec.is_too_long limit bytes.now }
 {
-    match limit {
-        Some(limit) => bytes.len() as u64 > limit,
-        None => false,
-    }
+    limit.is_some_and(|limit| bytes.len() as u64 > limit)
 }
 
 fn is_length_wrong(length: Option<Length>, bytes: &[u8]) -> bool
     ensures { result ≡ spec.is_length_wrong length bytes.now }
 {
-    match length {
-        Some(length) => length.get() != bytes.len() as u64,
-        None => false,
-    }
+    length.is_some_and(|length| length.get() != bytes.len() as u64)
 }
 
 fn has_no_known_hash(hashes: &Hashes) -> bool

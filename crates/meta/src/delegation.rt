@@ -17,14 +17,9 @@ use std::alloc::Global;
 use std::marker::Model;
 
 /// A pattern of paths, without a `[`.
+#[derive(Drop)]
 pub struct PathPattern {
     text: Text,
-}
-
-impl Drop for PathPattern {
-    fn drop(self) {
-        let PathPattern { text } = self;
-    }
 }
 
 impl Model for PathPattern {
@@ -67,14 +62,9 @@ fn is_pattern(text: &str) -> bool
 }
 
 /// The beginning of a path's digest: 1 to 64 digits of `0` to `9` and `a` to `f`.
+#[derive(Drop)]
 pub struct HashPrefix {
     text: Text,
-}
-
-impl Drop for HashPrefix {
-    fn drop(self) {
-        let HashPrefix { text } = self;
-    }
 }
 
 impl Model for HashPrefix {
@@ -141,22 +131,12 @@ pub enum Paths {
 }
 
 /// A delegation to a role.
+#[derive(Drop)]
 pub struct Delegation {
     name: Text,
     keys: RoleKeys,
     terminating: bool,
     paths: Paths,
-}
-
-impl Drop for Delegation {
-    fn drop(self) {
-        let Delegation {
-            name,
-            keys,
-            terminating,
-            paths,
-        } = self;
-    }
 }
 
 impl Model for Delegation {
@@ -207,15 +187,11 @@ impl FromJson for Delegation {
     ghost form = { spec.delegation };
 
     fn from_json(alloc: Global, value: &Value) -> Result<Delegation, Misread> {
-        let name = needed(alloc, value, "name")?;
-        let keys = RoleKeys::from_json(alloc, value)?;
-        let terminating = flag(alloc, value, "terminating")?;
-        let paths = read_paths(alloc, value)?;
         Ok(Delegation {
-            name,
-            keys,
-            terminating,
-            paths,
+            name: needed(alloc, value, "name")?,
+            keys: RoleKeys::from_json(alloc, value)?,
+            terminating: flag(alloc, value, "terminating")?,
+            paths: read_paths(alloc, value)?,
         })
     }
 }

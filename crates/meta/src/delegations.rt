@@ -26,15 +26,10 @@ pub enum Roles {
 }
 
 /// The delegations of a targets file (TUF 1.0 section 4.5).
+#[derive(Drop)]
 pub struct Delegations {
     ring: KeyRing,
     roles: Roles,
-}
-
-impl Drop for Delegations {
-    fn drop(self) {
-        let Delegations { ring, roles } = self;
-    }
 }
 
 impl Model for Delegations {

@@ -39,10 +39,8 @@ fn is_of_version_one(value: &Value) -> bool
         ≡ form_of.has_text (codes "spec_version") (spec.begins_with (codes "1."))
         (view value.now) }
 {
-    match value.get("spec_version").and_then(Value::as_str) {
-        Some(found) => found.as_bytes().starts_with(b"1."),
-        None => false,
-    }
+    let found = value.get("spec_version").and_then(Value::as_str);
+    found.is_some_and(|found| found.as_bytes().starts_with(b"1."))
 }
 
 fn expires(value: &Value) -> Option<Moment>

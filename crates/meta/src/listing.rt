@@ -52,13 +52,10 @@ impl FromJson for Listing {
     ghost form = { spec.listing };
 
     fn from_json(alloc: Global, value: &Value) -> Result<Listing, Misread> {
-        let version = needed(alloc, value, "version")?;
-        let length = optional(alloc, value, "length")?;
-        let hashes = optional(alloc, value, "hashes")?;
         Ok(Listing {
-            version,
-            length,
-            hashes,
+            version: needed(alloc, value, "version")?,
+            length: optional(alloc, value, "length")?,
+            hashes: optional(alloc, value, "hashes")?,
         })
     }
 }

@@ -3,21 +3,17 @@
 ghost use Rattle.std.specs.Prelude.{◌≡◌, ◌≤◌, ℕ, length, Result, Ok, IfOk};
 ghost use Rattle.cjson.specs.Document.{Document};
 ghost use Rattle.cjson.specs.DocOf.{doc_of};
-ghost use Rattle.meta.specs.Reads.{ReadsFile, document_of, root_of, timestamp_of, snapshot_of};
-ghost use Rattle.meta.specs.Reads.{targets_of};
+ghost use Rattle.meta.specs.Reads.{ReadsFile, document_of};
 ghost use Rattle.meta.specs.Answers.{Answers};
 ghost use Rattle.meta.specs.Part as spec;
 ghost use Rattle.meta.specs.declared.fault.Fault.{Fault};
 
 use crate::content::refuse_if;
 use crate::fault::{Fault, ReadFault, Stop};
-use crate::root::{Root, read_root};
-use crate::snapshot::{Snapshot, read_snapshot};
-use crate::targets::{Targets, read_targets};
-use crate::timestamp::{Timestamp, read_timestamp};
 use cjson::{Doc, DocFault, NoMemory, signed_bytes};
 use std::alloc::Global;
 use std::marker::Model;
+use std::sync::Arc;
 
 /// What is read from a file of some kind.
 pub trait Reading: Sized {
@@ -36,72 +32,18 @@ pub trait Reading: Sized {
         ensures value { result ≡ limit };
 }
 
-impl Reading for Root {
-    ghost of_document = { root_of };
-
-    ghost limit = { spec.root_limit };
-
-    fn read(alloc: Global, doc: &Doc) -> Result<Root, ReadFault> {
-        read_root(alloc, doc)
-    }
-
-    fn limit() -> u64 {
-        512_000
-    }
-}
-
-impl Reading for Timestamp {
-    ghost of_document = { timestamp_of };
-
-    ghost limit = { spec.timestamp_limit };
-
-    fn read(alloc: Global, doc: &Doc) -> Result<Timestamp, ReadFault> {
-        read_timestamp(alloc, doc)
-    }
-
-    fn limit() -> u64 {
-        16_384
-    }
-}
-
-impl Reading for Snapshot {
-    ghost of_document = { snapshot_of };
-
-    ghost limit = { spec.snapshot_limit };
-
-    fn read(alloc: Global, doc: &Doc) -> Result<Snapshot, ReadFault> {
-        read_snapshot(alloc, doc)
-    }
-
-    fn limit() -> u64 {
-        2_000_000
-    }
-}
-
-impl Reading for Targets {
-    ghost of_document = { targets_of };
-
-    ghost limit = { spec.targets_limit };
-
-    fn read(alloc: Global, doc: &Doc) -> Result<Targets, ReadFault> {
-        read_targets(alloc, doc)
-    }
-
-    fn limit() -> u64 {
-        5_000_000
-    }
-}
-
-/// A metadata file: its bytes, which are within its kind's limit, and what is read from them.
+/// A metadata file: its bytes, which are within its kind's limit, and what is read from them. Its
+/// copies share both.
+#[derive(Drop)]
 pub struct Part<A: Reading> {
+    file: Arc<File<A>>,
+}
+
+/// The bytes of a file, and what is read from them.
+#[derive(Drop)]
+struct File<A> {
     bytes: Vec<u8>,
     reading: A,
-}
-
-impl<A: Reading + Drop> Drop for Part<A> {
-    fn drop(self) {
-        let Part { bytes, reading } = self;
-    }
 }
 
 impl<A: Reading> Model for Part<A> {
@@ -110,20 +52,26 @@ impl<A: Reading> Model for Part<A> {
 
     ghost Value = { spec.Part A };
 
-    ghost view = { λ p. record { bytes = p.bytes.items; reading = p.reading } };
+    ghost view = { λ p. record {
+      bytes = p.file.value.bytes.items;
+      reading = p.file.value.reading;
+    } };
 
-    ghost invariant = { λ p. (spec.reading_of A.of_document p.bytes.items ≡ Ok p.reading)
-        × (length p.bytes.items ≤ A.limit) };
+    ghost invariant = { λ p.
+        (spec.reading_of A.of_document p.file.value.bytes.items ≡ Ok p.file.value.reading)
+        × (length p.file.value.bytes.items ≤ A.limit) };
 }
 
 impl<A: Reading + Drop> Part<A> {
     /// A file of bytes that were read, within the limit of its kind.
-    pub fn new(bytes: Vec<u8>, reading: A) -> Part<A>
+    pub fn new(alloc: Global, bytes: Vec<u8>, reading: A) -> Result<Part<A>, NoMemory>
         requires read { spec.reading_of A.of_document bytes.items ≡ Ok reading }
         requires limit { length bytes.items ≤ A.limit }
-        ensures value { result ≡ record { bytes = bytes.items; reading = reading } }
+        ensures value { IfOk result (λ p. p
+            ≡ record { bytes = bytes.items; reading = reading }) }
     {
-        Part { bytes, reading }
+        let file = Arc::new(alloc, File { bytes, reading })?;
+        Ok(Part { file })
     }
 
     /// The file of these bytes: `TooLong` over the limit of its kind, else what its reading
@@ -134,18 +82,15 @@ impl<A: Reading + Drop> Part<A> {
         refuse_if(bytes.len() as u64 > A::limit(), Fault::TooLong)?;
         let doc = read_document(alloc, &bytes)?;
         let reading = A::read(alloc, &doc)?;
-        Ok(Part::new(bytes, reading))
+        Ok(Part::new(alloc, bytes, reading)?)
     }
 
-    /// An equal file, made by reading the bytes again.
-    pub fn copy(&self, alloc: Global) -> Result<Part<A>, NoMemory>
+    /// An equal file, which shares what this one has. It takes no memory.
+    pub fn copy(&self) -> Result<Part<A>, NoMemory>
         ensures equal { IfOk result (λ p. p ≡ self.now) }
     {
-        match Part::read(alloc, self.bytes.clone()?) {
-            Ok(part) => Ok(part),
-            Err(Stop::NoMemory) => Err(NoMemory),
-            Err(Stop::Refused(_)) => unreachable!(),
-        }
+        let file = self.file.clone()?;
+        Ok(Part { file })
     }
 
     /// The file's bytes, within the limit of its kind.
@@ -153,7 +98,7 @@ impl<A: Reading + Drop> Part<A> {
         ensures value { result.now ≡ self.now.bytes }
         ensures limit { length result.now ≤ A.limit }
     {
-        &self.bytes
+        &self.file.bytes
     }
 
     /// What is read from the bytes.
@@ -161,7 +106,7 @@ impl<A: Reading + Drop> Part<A> {
         ensures value { result.now ≡ self.now.reading }
         ensures read { spec.reading_of A.of_document self.now.bytes ≡ Ok result.now }
     {
-        &self.reading
+        &self.file.reading
     }
 }
 

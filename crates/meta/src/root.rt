@@ -3,13 +3,14 @@
 ghost use Rattle.std.specs.Prelude.{◌≡◌};
 ghost use Rattle.serde_json.specs.View.{view};
 ghost use Rattle.meta.specs.Metadata as spec;
-ghost use Rattle.meta.specs.Reads.{ReadsFile, root_of};
+ghost use Rattle.meta.specs.Part.{root_limit};
+ghost use Rattle.meta.specs.Reads.{root_of};
 ghost use Rattle.cjson.specs.Reads.{Reads};
-ghost use Rattle.cjson.specs.DocOf.{doc_of};
 
 use crate::delegation::flag;
 use crate::fault::ReadFault;
 use crate::header::{Header, read_header};
+use crate::part::Reading;
 use cjson::form::needed;
 use cjson::{Doc, Misread};
 use keys::{KeyRing, RoleKeys};
@@ -18,6 +19,7 @@ use std::alloc::Global;
 use std::marker::Model;
 
 /// What a root file says (TUF 1.0 section 4.3).
+#[derive(Drop)]
 pub struct Root {
     header: Header,
     ring: KeyRing,
@@ -26,20 +28,6 @@ pub struct Root {
     snapshot: RoleKeys,
     targets: RoleKeys,
     consistent: bool,
-}
-
-impl Drop for Root {
-    fn drop(self) {
-        let Root {
-            header,
-            ring,
-            root,
-            timestamp,
-            snapshot,
-            targets,
-            consistent,
-        } = self;
-    }
 }
 
 impl Model for Root {
@@ -109,31 +97,31 @@ impl Root {
     }
 }
 
-/// Reads a document as a root file (TUF 1.0 section 4.3).
-pub fn read_root(alloc: Global, doc: &Doc) -> Result<Root, ReadFault>
-    ensures read { ReadsFile (root_of (doc_of doc.now)) result }
-{
-    Ok(parse(alloc, doc.tree())?)
+impl Reading for Root {
+    ghost of_document = { root_of };
+
+    ghost limit = { root_limit };
+
+    fn read(alloc: Global, doc: &Doc) -> Result<Root, ReadFault> {
+        Ok(parse(alloc, doc.tree())?)
+    }
+
+    fn limit() -> u64 {
+        512_000
+    }
 }
 
 fn parse(alloc: Global, value: &Value) -> Result<Root, Misread>
     ensures { Reads (spec.root (view value.now)) result }
 {
-    let header = read_header(alloc, "root", value)?;
-    let ring = needed(alloc, value, "keys")?;
-    let root = role_of(alloc, value, "root")?;
-    let timestamp = role_of(alloc, value, "timestamp")?;
-    let snapshot = role_of(alloc, value, "snapshot")?;
-    let targets = role_of(alloc, value, "targets")?;
-    let consistent = flag(alloc, value, "consistent_snapshot")?;
     Ok(Root {
-        header,
-        ring,
-        root,
-        timestamp,
-        snapshot,
-        targets,
-        consistent,
+        header: read_header(alloc, "root", value)?,
+        ring: needed(alloc, value, "keys")?,
+        root: role_of(alloc, value, "root")?,
+        timestamp: role_of(alloc, value, "timestamp")?,
+        snapshot: role_of(alloc, value, "snapshot")?,
+        targets: role_of(alloc, value, "targets")?,
+        consistent: flag(alloc, value, "consistent_snapshot")?,
     })
 }
 

@@ -3,13 +3,14 @@
 ghost use Rattle.std.specs.Prelude.{◌≡◌};
 ghost use Rattle.serde_json.specs.View.{view};
 ghost use Rattle.meta.specs.Metadata as spec;
-ghost use Rattle.meta.specs.Reads.{ReadsFile, snapshot_of};
+ghost use Rattle.meta.specs.Part.{snapshot_limit};
+ghost use Rattle.meta.specs.Reads.{snapshot_of};
 ghost use Rattle.cjson.specs.Reads.{Reads};
-ghost use Rattle.cjson.specs.DocOf.{doc_of};
 
 use crate::fault::ReadFault;
 use crate::header::{Header, read_header};
 use crate::listing::Listing;
+use crate::part::Reading;
 use cjson::form::FromJson;
 use cjson::list::Items;
 use cjson::members::{FromMember, read_members};
@@ -20,17 +21,12 @@ use std::alloc::Global;
 use std::marker::Model;
 
 /// A file's name with its listing (TUF 1.0 section 4.4).
+#[derive(Drop)]
 pub struct Named {
     /// The name of the file, without its version.
     pub name: Text,
     /// How the file is listed.
     pub listing: Listing,
-}
-
-impl Drop for Named {
-    fn drop(self) {
-        let Named { name, listing } = self;
-    }
 }
 
 impl FromMember for Named {
@@ -44,15 +40,10 @@ impl FromMember for Named {
 }
 
 /// What a snapshot file says (TUF 1.0 section 4.4).
+#[derive(Drop)]
 pub struct Snapshot {
     header: Header,
     files: Items<Named>,
-}
-
-impl Drop for Snapshot {
-    fn drop(self) {
-        let Snapshot { header, files } = self;
-    }
 }
 
 impl Model for Snapshot {
@@ -79,11 +70,18 @@ impl Snapshot {
     }
 }
 
-/// Reads a document as a snapshot file (TUF 1.0 section 4.4).
-pub fn read_snapshot(alloc: Global, doc: &Doc) -> Result<Snapshot, ReadFault>
-    ensures read { ReadsFile (snapshot_of (doc_of doc.now)) result }
-{
-    Ok(parse(alloc, doc.tree())?)
+impl Reading for Snapshot {
+    ghost of_document = { snapshot_of };
+
+    ghost limit = { snapshot_limit };
+
+    fn read(alloc: Global, doc: &Doc) -> Result<Snapshot, ReadFault> {
+        Ok(parse(alloc, doc.tree())?)
+    }
+
+    fn limit() -> u64 {
+        2_000_000
+    }
 }
 
 fn parse(alloc: Global, value: &Value) -> Result<Snapshot, Misread>

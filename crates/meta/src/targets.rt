@@ -5,15 +5,16 @@ ghost use Rattle.serde_json.specs.View.{view};
 ghost use Rattle.meta.specs.Answers.{Answers};
 ghost use Rattle.meta.specs.Content.{content};
 ghost use Rattle.meta.specs.Metadata as spec;
-ghost use Rattle.meta.specs.Reads.{ReadsFile, targets_of};
+ghost use Rattle.meta.specs.Part.{targets_limit};
+ghost use Rattle.meta.specs.Reads.{targets_of};
 ghost use Rattle.cjson.specs.Reads.{Reads};
-ghost use Rattle.cjson.specs.DocOf.{doc_of};
 
 use crate::content::Content;
 use crate::delegations::Delegations;
 use crate::fault::{ReadFault, Stop};
 use crate::hashes::Hashes;
 use crate::header::{Header, read_header};
+use crate::part::Reading;
 use cjson::form::{needed, optional};
 use cjson::list::Items;
 use cjson::members::{FromMember, read_members};
@@ -26,6 +27,7 @@ use std::alloc::Global;
 use std::marker::Model;
 
 /// A listed target (TUF 1.0 section 4.5).
+#[derive(Drop)]
 pub struct Target {
     /// The target's path.
     pub path: Text,
@@ -33,16 +35,6 @@ pub struct Target {
     pub length: Length,
     /// The file's digests.
     pub hashes: Hashes,
-}
-
-impl Drop for Target {
-    fn drop(self) {
-        let Target {
-            path,
-            length,
-            hashes,
-        } = self;
-    }
 }
 
 impl Target {
@@ -84,32 +76,20 @@ impl FromMember for Target {
     ghost member_form = { spec.target };
 
     fn from_member(alloc: Global, name: &str, value: &Value) -> Result<Target, Misread> {
-        let length = needed(alloc, value, "length")?;
-        let hashes = needed(alloc, value, "hashes")?;
-        let path = Text::new(String::from_str(alloc, name)?);
         Ok(Target {
-            path,
-            length,
-            hashes,
+            length: needed(alloc, value, "length")?,
+            hashes: needed(alloc, value, "hashes")?,
+            path: Text::new(String::from_str(alloc, name)?),
         })
     }
 }
 
 /// What a targets file says (TUF 1.0 section 4.5).
+#[derive(Drop)]
 pub struct Targets {
     header: Header,
     targets: Items<Target>,
     delegations: Option<Delegations>,
-}
-
-impl Drop for Targets {
-    fn drop(self) {
-        let Targets {
-            header,
-            targets,
-            delegations,
-        } = self;
-    }
 }
 
 impl Model for Targets {
@@ -147,11 +127,18 @@ impl Targets {
     }
 }
 
-/// Reads a document as a targets file (TUF 1.0 section 4.5).
-pub fn read_targets(alloc: Global, doc: &Doc) -> Result<Targets, ReadFault>
-    ensures read { ReadsFile (targets_of (doc_of doc.now)) result }
-{
-    Ok(parse(alloc, doc.tree())?)
+impl Reading for Targets {
+    ghost of_document = { targets_of };
+
+    ghost limit = { targets_limit };
+
+    fn read(alloc: Global, doc: &Doc) -> Result<Targets, ReadFault> {
+        Ok(parse(alloc, doc.tree())?)
+    }
+
+    fn limit() -> u64 {
+        5_000_000
+    }
 }
 
 fn parse(alloc: Global, value: &Value) -> Result<Targets, Misread>

@@ -3,13 +3,14 @@
 ghost use Rattle.std.specs.Prelude.{◌≡◌};
 ghost use Rattle.serde_json.specs.View.{view};
 ghost use Rattle.meta.specs.Metadata as spec;
-ghost use Rattle.meta.specs.Reads.{ReadsFile, timestamp_of};
+ghost use Rattle.meta.specs.Part.{timestamp_limit};
+ghost use Rattle.meta.specs.Reads.{timestamp_of};
 ghost use Rattle.cjson.specs.Reads.{Reads};
-ghost use Rattle.cjson.specs.DocOf.{doc_of};
 
 use crate::fault::ReadFault;
 use crate::header::{Header, read_header};
 use crate::listing::Listing;
+use crate::part::Reading;
 use cjson::form::needed;
 use cjson::{Doc, Misread};
 use serde_json::Value;
@@ -17,15 +18,10 @@ use std::alloc::Global;
 use std::marker::Model;
 
 /// What a timestamp file says (TUF 1.0 section 4.6).
+#[derive(Drop)]
 pub struct Timestamp {
     header: Header,
     snapshot: Listing,
-}
-
-impl Drop for Timestamp {
-    fn drop(self) {
-        let Timestamp { header, snapshot } = self;
-    }
 }
 
 impl Model for Timestamp {
@@ -52,11 +48,18 @@ impl Timestamp {
     }
 }
 
-/// Reads a document as a timestamp file (TUF 1.0 section 4.6).
-pub fn read_timestamp(alloc: Global, doc: &Doc) -> Result<Timestamp, ReadFault>
-    ensures read { ReadsFile (timestamp_of (doc_of doc.now)) result }
-{
-    Ok(parse(alloc, doc.tree())?)
+impl Reading for Timestamp {
+    ghost of_document = { timestamp_of };
+
+    ghost limit = { timestamp_limit };
+
+    fn read(alloc: Global, doc: &Doc) -> Result<Timestamp, ReadFault> {
+        Ok(parse(alloc, doc.tree())?)
+    }
+
+    fn limit() -> u64 {
+        16_384
+    }
 }
 
 fn parse(alloc: Global, value: &Value) -> Result<Timestamp, Misread>

@@ -80,7 +80,7 @@ fn read(alloc: Global, text: &str) -> Result<String> {
 
 /// What a copy of the state tells, and whether it writes the text.
 fn copied(alloc: Global, trusted: &Trusted, text: &str) -> Result<String> {
-    let copy = trusted.copy(alloc)?;
+    let copy = trusted.copy()?;
     let mut lines = about(alloc, &copy)?;
     let written = copy.to_text(alloc)?;
     let is_same = written.as_slice() == text.as_bytes();

@@ -10,5 +10,4 @@ pub mod Advance
 pub mod Roots
 pub mod Answers
 pub mod Kept
-pub mod Current
 pub mod Text

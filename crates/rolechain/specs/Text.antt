@@ -4,7 +4,6 @@ use Rattle.cjson.specs.Document.{tree_of}
 use Rattle.cjson.specs.Checks.{◌>>=◌, refuse_if, or_refuse}
 use Rattle.meta.specs.Part.{Part, part_of, root_limit, timestamp_limit, snapshot_limit, targets_limit}
 use Rattle.meta.specs.Reads.{root_of, timestamp_of, snapshot_of, targets_of}
-use Rattle.meta.specs.Metadata.{Root, Snapshot, Targets}
 use Rattle.meta.specs.declared.fault.Fault.{Fault}
 use Rattle.meta.specs.declared.fault.Fault.TheVariants as fault
 use Rattle.rolechain.specs.State.{State, first}
@@ -35,23 +34,13 @@ root_state bytes = do
   Ok (first root)
 
 -- the state that the files give, each read in turn
-abbrev pub with_timestamp_in : Part Root → Option (Part Snapshot) → Option (Part Targets)
-    → Option (List ℕ) → Result State StateFault
-with_timestamp_in root snapshot targets bytes = do
-  timestamp ← part_in (part_of timestamp_of timestamp_limit) bytes
-  Ok (record { root = root; timestamp = timestamp; snapshot = snapshot; targets = targets })
-
-abbrev pub with_targets_in : Part Root → Option (Part Snapshot) → Option (List ℕ)
-    → Option (List ℕ) → Result State StateFault
-with_targets_in root snapshot bytes timestamp = do
-  targets ← part_in (part_of targets_of targets_limit) bytes
-  with_timestamp_in root snapshot targets timestamp
-
 abbrev pub state_in : Kept → Result State StateFault
 state_in k = do
   root ← or_state_fault (part_of root_of root_limit k.root)
   snapshot ← part_in (part_of snapshot_of snapshot_limit) k.snapshot
-  with_targets_in root snapshot k.targets k.timestamp
+  targets ← part_in (part_of targets_of targets_limit) k.targets
+  timestamp ← part_in (part_of timestamp_of timestamp_limit) k.timestamp
+  Ok (record { root = root; timestamp = timestamp; snapshot = snapshot; targets = targets })
 
 -- the files of a state's text, which is spelled just so
 abbrev pub kept_in : List ℕ → Result Kept StateFault

@@ -2,7 +2,6 @@
 //! 5.3 to 5.6).
 #![tactic(auto)]
 
-mod draft;
 mod end;
 mod expected;
 mod fault;

@@ -9,9 +9,9 @@ ghost use Rattle.rolechain.specs.Advance as spec;
 ghost use Rattle.rolechain.specs.Expected.{next_root};
 ghost use Rattle.rolechain.specs.Answers.{Leaves};
 
-use crate::draft::Draft;
 use crate::end::{Halt, Step, or_halt};
 use crate::expected::due_root;
+use crate::state::Trusted;
 use crate::steps::Round;
 use examine::{examine_root, is_expired};
 use keys::Judge;
@@ -27,7 +27,7 @@ const LAST_VERSION: u64 = i64::MAX as u64;
 /// The roots that follow, the last of which must not be expired (TUF 1.0 section 5.3).
 pub(crate) fn root_step<J: Judge>(
     round: &Round,
-    state: &mut Draft,
+    state: &mut Trusted,
     judge: &mut J,
 ) -> Result<(), Halt>
     ensures { Leaves (spec.root_step (file_in round.now.files.now) round.now.moment state.old)
@@ -41,7 +41,7 @@ pub(crate) fn root_step<J: Judge>(
 }
 
 /// The chain of roots.
-fn follow<J: Judge>(round: &Round, state: &mut Draft, judge: &mut J) -> Result<(), Halt>
+fn follow<J: Judge>(round: &Round, state: &mut Trusted, judge: &mut J) -> Result<(), Halt>
     ensures { Leaves (spec.followed (file_in round.now.files.now) round.now.moment 256 state.old)
         result state.new }
 {

@@ -2,11 +2,12 @@
 
 ghost use Rattle.std.specs.Prelude.{◌≡◌, IfOk, IfSome, option_map};
 ghost use Rattle.rolechain.specs.State as spec;
+ghost use Rattle.rolechain.specs.Advance.{with_root, with_timestamp, with_snapshot, with_targets};
 ghost use Rattle.rolechain.specs.Parts.{AreRead, IsRead};
 
+use crate::rotation::is_rotated;
 use cjson::NoMemory;
 use meta::{Part, Reading, Root, Snapshot, Targets, Timestamp};
-use std::alloc::Global;
 use std::marker::Model;
 
 /// What is trusted: a root file and, each where trusted, a timestamp, a snapshot and a top-level
@@ -114,15 +115,15 @@ impl Trusted {
         self.timestamp.is_some() && self.snapshot.is_some() && self.targets.is_some()
     }
 
-    /// An equal state.
-    pub fn copy(&self, alloc: Global) -> Result<Trusted, NoMemory>
+    /// An equal state, which shares its files with this one. It takes no memory.
+    pub fn copy(&self) -> Result<Trusted, NoMemory>
         ensures equal { IfOk result (λ t. t ≡ self.now) }
     {
         Ok(Trusted {
-            root: self.root.copy(alloc)?,
-            timestamp: copy_of(alloc, &self.timestamp)?,
-            snapshot: copy_of(alloc, &self.snapshot)?,
-            targets: copy_of(alloc, &self.targets)?,
+            root: self.root.copy()?,
+            timestamp: copy_of(&self.timestamp)?,
+            snapshot: copy_of(&self.snapshot)?,
+            targets: copy_of(&self.targets)?,
         })
     }
 
@@ -132,16 +133,46 @@ impl Trusted {
     {
         self.root.reading().header().version.get()
     }
+
+    /// Trusts the next root; where keys were rotated, the timestamp and the snapshot are dropped.
+    pub(crate) fn trust_root(&mut self, next: Part<Root>)
+        ensures { self.new ≡ with_root self.old next }
+    {
+        note_read(&next);
+        if is_rotated(self.root.reading(), next.reading()) {
+            self.timestamp = None;
+            self.snapshot = None;
+        }
+        self.root = next;
+    }
+
+    pub(crate) fn trust_timestamp(&mut self, next: Part<Timestamp>)
+        ensures { self.new ≡ with_timestamp self.old next }
+    {
+        note_read(&next);
+        self.timestamp = Some(next);
+    }
+
+    pub(crate) fn trust_snapshot(&mut self, next: Part<Snapshot>)
+        ensures { self.new ≡ with_snapshot self.old next }
+    {
+        note_read(&next);
+        self.snapshot = Some(next);
+    }
+
+    pub(crate) fn trust_targets(&mut self, next: Part<Targets>)
+        ensures { self.new ≡ with_targets self.old next }
+    {
+        note_read(&next);
+        self.targets = Some(next);
+    }
 }
 
-fn copy_of<A: Reading + Drop>(
-    alloc: Global,
-    part: &Option<Part<A>>,
-) -> Result<Option<Part<A>>, NoMemory>
+fn copy_of<A: Reading + Drop>(part: &Option<Part<A>>) -> Result<Option<Part<A>>, NoMemory>
     ensures { IfOk result (λ p. p ≡ part.now) }
 {
     match part {
-        Some(part) => Ok(Some(part.copy(alloc)?)),
+        Some(part) => Ok(Some(part.copy()?)),
         None => Ok(None),
     }
 }

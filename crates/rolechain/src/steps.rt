@@ -8,9 +8,9 @@ ghost use Rattle.rolechain.specs.Advance as spec;
 ghost use Rattle.rolechain.specs.Expected as due;
 ghost use Rattle.rolechain.specs.Answers.{Leaves};
 
-use crate::draft::Draft;
 use crate::end::{Halt, Step, or_halt};
 use crate::expected::{due_snapshot, due_targets, due_timestamp, place_of, snapshot_name};
+use crate::state::Trusted;
 use examine::{
     examine_first_timestamp, examine_next_timestamp, examine_snapshot, examine_targets, is_expired,
 };
@@ -30,7 +30,7 @@ pub(crate) struct Round<'a> {
 /// The timestamp (TUF 1.0 section 5.4).
 pub(crate) fn timestamp_step<J: Judge>(
     round: &Round,
-    state: &mut Draft,
+    state: &mut Trusted,
     judge: &mut J,
 ) -> Result<(), Halt>
     ensures { Leaves (spec.timestamp_step (file_in round.now.files.now) round.now.moment state.old)
@@ -46,7 +46,7 @@ pub(crate) fn timestamp_step<J: Judge>(
 /// The snapshot (TUF 1.0 section 5.5).
 pub(crate) fn snapshot_step<J: Judge>(
     round: &Round,
-    state: &mut Draft,
+    state: &mut Trusted,
     judge: &mut J,
 ) -> Result<(), Halt>
     ensures { Leaves (spec.snapshot_step (file_in round.now.files.now) round.now.moment state.old)
@@ -60,7 +60,7 @@ pub(crate) fn snapshot_step<J: Judge>(
 /// The top-level targets file (TUF 1.0 section 5.6).
 pub(crate) fn targets_step<J: Judge>(
     round: &Round,
-    state: &mut Draft,
+    state: &mut Trusted,
     judge: &mut J,
 ) -> Result<(), Halt>
     ensures { Leaves (spec.targets_step (file_in round.now.files.now) round.now.moment state.old)
@@ -74,7 +74,7 @@ pub(crate) fn targets_step<J: Judge>(
 /// The timestamp that is trusted next, or none where the trusted one stays.
 fn newer_timestamp<J: Judge>(
     round: &Round,
-    state: &Draft,
+    state: &Trusted,
     judge: &mut J,
 ) -> Result<Option<Part<Timestamp>>, Stop>
     ensures { Answers (spec.newer_timestamp (file_in round.now.files.now) round.now.moment
@@ -133,7 +133,7 @@ fn next_timestamp<J: Judge>(
 /// The snapshot that the trusted timestamp lists.
 fn listed_snapshot<J: Judge>(
     round: &Round,
-    state: &Draft,
+    state: &Trusted,
     judge: &mut J,
 ) -> Result<Part<Snapshot>, Stop>
     ensures { Answers (spec.listed_snapshot (file_in round.now.files.now) round.now.moment
@@ -147,7 +147,7 @@ fn listed_snapshot<J: Judge>(
 
 fn next_snapshot<J: Judge>(
     round: &Round,
-    state: &Draft,
+    state: &Trusted,
     timestamp: &Timestamp,
     judge: &mut J,
 ) -> Result<Part<Snapshot>, Stop>
@@ -160,14 +160,21 @@ fn next_snapshot<J: Judge>(
     let listing = timestamp.snapshot();
     let name = snapshot_name(round.alloc, root, listing)?;
     let expect = due_snapshot(root, listing, name.as_str());
-    let old = state.old_snapshot();
+    let old = old_snapshot(state);
     examine_snapshot(round.alloc, &expect, old, round.files, round.moment, judge)
+}
+
+/// What the trusted snapshot says.
+fn old_snapshot(state: &Trusted) -> Option<&Snapshot>
+    ensures { option_map (λ s. s.now) result ≡ spec.reading_in state.now.snapshot }
+{
+    Some(state.snapshot()?.reading())
 }
 
 /// The targets file that the trusted snapshot lists.
 fn listed_targets<J: Judge>(
     round: &Round,
-    state: &Draft,
+    state: &Trusted,
     judge: &mut J,
 ) -> Result<Part<Targets>, Stop>
     ensures { Answers (spec.listed_targets (file_in round.now.files.now) round.now.moment

@@ -8,8 +8,7 @@ ghost use Rattle.meta.specs.Part.{part_of};
 ghost use Rattle.rolechain.specs.Kept as spec;
 ghost use Rattle.rolechain.specs.Parts.{AreRead};
 ghost use Rattle.rolechain.specs.Text.{ReadsState, or_state_fault, of_fault, root_state, state_of};
-ghost use Rattle.rolechain.specs.Text.{state_in, kept_in, part_in, with_targets_in};
-ghost use Rattle.rolechain.specs.Text.{with_timestamp_in};
+ghost use Rattle.rolechain.specs.Text.{state_in, kept_in, part_in};
 
 use crate::fault::StateFault;
 use crate::state::Trusted;
@@ -74,15 +73,11 @@ impl FromJson for Kept {
     ghost form = { spec.kept };
 
     fn from_json(alloc: Global, value: &Value) -> Result<Kept, Misread> {
-        let root = needed(alloc, value, "root")?;
-        let snapshot = optional(alloc, value, "snapshot")?;
-        let targets = optional(alloc, value, "targets")?;
-        let timestamp = optional(alloc, value, "timestamp")?;
         Ok(Kept {
-            root,
-            snapshot,
-            targets,
-            timestamp,
+            root: needed(alloc, value, "root")?,
+            snapshot: optional(alloc, value, "snapshot")?,
+            targets: optional(alloc, value, "targets")?,
+            timestamp: optional(alloc, value, "timestamp")?,
         })
     }
 }
@@ -215,10 +210,7 @@ fn respelled(alloc: Global, kept: &Kept) -> Result<Vec<u8>, NoMemory>
 fn bytes_of(hex: &Option<Hex>) -> Option<&[u8]>
     ensures { option_map (λ b. b.now) result ≡ hex.now }
 {
-    match hex {
-        Some(hex) => Some(hex.bytes.as_slice()),
-        None => None,
-    }
+    Some(hex.as_ref()?.bytes.as_slice())
 }
 
 fn has_long(kept: &Kept) -> bool
@@ -233,49 +225,18 @@ fn has_long(kept: &Kept) -> bool
 fn is_over(limit: u64, hex: &Option<Hex>) -> bool
     ensures { result ≡ spec.is_over limit hex.now }
 {
-    match hex {
-        Some(hex) => hex.bytes.len() as u64 > limit,
-        None => false,
-    }
+    let bytes = bytes_of(hex);
+    bytes.is_some_and(|bytes| bytes.len() as u64 > limit)
 }
 
+/// The state that the files give, each read in turn.
 fn state_in(alloc: Global, kept: Kept) -> Result<Trusted, StateFault>
     ensures { ReadsState (state_in kept) result }
 {
-    let Kept {
-        root,
-        snapshot,
-        targets,
-        timestamp,
-    } = kept;
-    let root = read_part(alloc, root.bytes)?;
-    let snapshot = part_in(alloc, snapshot)?;
-    with_targets_in(alloc, root, snapshot, targets, timestamp)
-}
-
-fn with_targets_in(
-    alloc: Global,
-    root: Part<Root>,
-    snapshot: Option<Part<Snapshot>>,
-    targets: Option<Hex>,
-    timestamp: Option<Hex>,
-) -> Result<Trusted, StateFault>
-    ensures { ReadsState (with_targets_in root snapshot targets timestamp) result }
-{
-    let targets = part_in(alloc, targets)?;
-    with_timestamp_in(alloc, root, snapshot, targets, timestamp)
-}
-
-fn with_timestamp_in(
-    alloc: Global,
-    root: Part<Root>,
-    snapshot: Option<Part<Snapshot>>,
-    targets: Option<Part<Targets>>,
-    timestamp: Option<Hex>,
-) -> Result<Trusted, StateFault>
-    ensures { ReadsState (with_timestamp_in root snapshot targets timestamp) result }
-{
-    let timestamp = part_in(alloc, timestamp)?;
+    let root = read_part(alloc, kept.root.bytes)?;
+    let snapshot = part_in(alloc, kept.snapshot)?;
+    let targets = part_in(alloc, kept.targets)?;
+    let timestamp = part_in(alloc, kept.timestamp)?;
     Ok(Trusted::of(root, timestamp, snapshot, targets))
 }
 

@@ -61,7 +61,7 @@ pub fn all_read<R: Files + AllocGlobal + Clone + Drop>(
 pub fn keeper_of(alloc: Global, made: &[Made], word: &str) -> Result<Keeper> {
     let capacity = capacity_of(word).context("no such capacity")?;
     let first = made.first().context("no repository")?;
-    let trusted = first.trusted.copy(alloc)?;
+    let trusted = first.trusted.copy()?;
     Ok(Keeper::new(alloc, trusted, capacity)?)
 }
 

@@ -30,18 +30,6 @@ pub struct Cycles<'a> {
     pub keep: usize,
 }
 
-/// The outcomes of all cycles, and the keeper that has the state after the last one.
-struct Replayed {
-    outcomes: Vec<Outcome>,
-    keeper: Keeper,
-}
-
-impl Drop for Replayed {
-    fn drop(self) {
-        let Replayed { outcomes, keeper } = self;
-    }
-}
-
 /// Replays what the words name: the moment is read first, then the state file, and then the
 /// folders, as [`replay_from`] does.
 pub fn replay<R: Threads + Wait + Sync, S: System, M: Folder + Drop, T: Folder + Drop, W: Write>(
@@ -133,23 +121,10 @@ fn replay_in<R: Threads + Wait + Sync, S: System, W: Write>(
         (state_text (state_after (start_of cycles.now.start) repos.now)) ≡ true)) }
     ensures refused { IfErr result (λ f. f ≢ Failure.Folder) }
 {
-    let done = run_cycles(rt, alloc, cycles, repos)?;
-    keep_last(alloc, system, cycles.start.state, &done)?;
-    tell_all(alloc, done.outcomes.as_slice(), cycles.start.wanted, out)
-}
-
-/// Stores the state after the last cycle. After a refusal its place holds what it held.
-fn keep_last<S: System>(
-    alloc: Global,
-    system: &mut S,
-    path: &str,
-    done: &Replayed,
-) -> Result<(), Failure>
-    ensures kept { OnOk result (S.keeps system.new path.now (state_text done.now.keeper) ≡ true) }
-    ensures unchanged { OnErr result (S.keeps system.new ≡ S.keeps system.old) }
-    ensures refused { IfErr result (λ f. f ≢ Failure.Folder) }
-{
-    keep_state(alloc, system, path, done.keeper.trusted())
+    let mut keeper = keeper_of(alloc, cycles)?;
+    let outcomes = outcomes(rt, alloc, &cycles.start, repos, &mut keeper)?;
+    keep_state(alloc, system, cycles.start.state, keeper.trusted())?;
+    tell_all(alloc, outcomes.as_slice(), cycles.start.wanted, out)
 }
 
 /// Prints the lines of the cycles, and answers the status of the last one.
@@ -201,24 +176,6 @@ fn rounds_of<'a>(
     Ok(rounds)
 }
 
-/// The outcomes of all cycles, and the keeper after the last one.
-fn run_cycles<R: Threads + Wait + Sync>(
-    rt: &R,
-    alloc: Global,
-    cycles: &Cycles<'_>,
-    repos: &[Repo],
-) -> Result<Replayed, Failure>
-    ensures outcomes { IfOk result (λ r. r.outcomes.items
-        ≡ outcomes_of (start_of cycles.now.start) repos.now) }
-    ensures state { IfOk result (λ r. r.keeper
-        ≡ state_after (start_of cycles.now.start) repos.now) }
-    ensures refused { IfErr result (λ f. (f ≡ Failure.Words) ⊎ (f ≡ Failure.Memory)) }
-{
-    let mut keeper = keeper_of(alloc, cycles)?;
-    let outcomes = outcomes(rt, alloc, &cycles.start, repos, &mut keeper)?;
-    Ok(Replayed { outcomes, keeper })
-}
-
 /// A keeper of the state that the cycles begin with. A number of remembered files that is none is a
 /// mistake of the caller.
 fn keeper_of(alloc: Global, cycles: &Cycles<'_>) -> Result<Keeper, Failure>
@@ -228,7 +185,7 @@ fn keeper_of(alloc: Global, cycles: &Cycles<'_>) -> Result<Keeper, Failure>
     if cycles.keep == 0 || cycles.keep > KEPT {
         return Err(Failure::Words);
     }
-    let trusted = cycles.start.trusted.copy(alloc)?;
+    let trusted = cycles.start.trusted.copy()?;
     Ok(Keeper::new(alloc, trusted, cycles.keep)?)
 }
 

@@ -12,10 +12,7 @@ pub fn read_file<S: System>(system: &S, path: &str, other: Failure) -> Result<Ve
     ensures given { IfOk result (λ bytes. S.gives system.now path.now bytes.items ≡ true) }
     ensures refused { IfErr result (λ f. (f ≡ Failure.Memory) ⊎ (f ≡ other)) }
 {
-    match system.read(path) {
-        Ok(bytes) => Ok(bytes),
-        Err(error) => Err(of_io(&error, other)),
-    }
+    system.read(path).map_err(|error| of_io(&error, other))
 }
 
 /// The trusted state that the file holds.

@@ -100,23 +100,8 @@ fn verify_in<R: Threads + Wait + Sync, S: System, W: Write>(
     ensures refused { IfErr result (λ f. f ≢ Failure.Folder) }
 {
     let outcome = outcome(rt, alloc, start, repo)?;
-    keep_outcome(alloc, system, start, &outcome)?;
+    keep_state(alloc, system, start.state, outcome.trusted())?;
     tell_outcome(alloc, &outcome, start.wanted, out)
-}
-
-/// Stores the outcome's new state. After a refusal its place holds what it held.
-fn keep_outcome<S: System>(
-    alloc: Global,
-    system: &mut S,
-    start: &Start<'_>,
-    outcome: &Outcome,
-) -> Result<(), Failure>
-    ensures kept { OnOk result (S.keeps system.new start.now.state.now
-        (state_text outcome.now.trusted) ≡ true) }
-    ensures unchanged { OnErr result (S.keeps system.new ≡ S.keeps system.old) }
-    ensures refused { IfErr result (λ f. f ≢ Failure.Folder) }
-{
-    keep_state(alloc, system, start.state, outcome.trusted())
 }
 
 /// The workflow's outcome, by the number of workers that the start names.

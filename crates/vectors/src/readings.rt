@@ -63,7 +63,7 @@ fn copied<A: Reading + Shown + Drop>(
     part: &Part<A>,
     given: &[u8],
 ) -> Result<String> {
-    let copy = part.copy(alloc)?;
+    let copy = part.copy()?;
     let mut text = String::new(alloc);
     copy.reading().push(alloc, &mut text)?;
     let same = yes_or_no(copy.bytes() == given);

@@ -1,4 +1,4 @@
-use Rattle.std.proofs.Common.{ap, ◌∙◌}
+use Rattle.std.proofs.Common.{ap, ◌∙◌, refl}
 use Rattle.examine.specs.Expecting.{file_in}
 use Rattle.deleg.proofs.Walking.{preorder}
 use Rattle.deleg.proofs.Starting.{starts_in}
@@ -9,5 +9,5 @@ returns-clause-preorder g c = λ snap. preorder (file_in c.args.repo.now.metadat
 
 pub returns-clause-searched : goal.returns-clause-searched
 returns-clause-searched g c =
-    starts_in (file_in c.args.repo.now.metadata) c.args.now c.args.trusted.now c.args.path.now c.args.limit c.reading.result.now c.in-Some.snapshot.now c.in-Some-targets.targets.now c.reading-2.result.now c.reading-3.result.now c.search_from.result
-    (c.reading.ensures.value ∙ ap (λ p. p.reading) c.root.ensures.value) c.in-Some.ensures.value c.in-Some-targets.ensures.value c.reading-2.ensures.value c.reading-3.ensures.value c.search_from.ensures
+    starts_in (file_in c.args.repo.now.metadata) c.args.now c.args.trusted.now c.args.path.now c.args.limit c.reading.result.now c.in-Some.snapshot.now c.in-Some-targets.targets.now c.reading-2.result.now c.in-Some-targets.targets.now.reading c.search_from.result
+    (c.reading.ensures.value ∙ ap (λ p. p.reading) c.root.ensures.value) c.in-Some.ensures.value c.in-Some-targets.ensures.value c.reading-2.ensures.value refl c.search_from.ensures

@@ -21,7 +21,7 @@ pub returns-clause-goes_on : goal.returns-clause-goes_on
 returns-clause-goes_on g c =
     visit_goes_on (quest_of c.args.query.now) c.args.seen.now.items c.args.stack.now.items c.put_back.new.stack.items c.push.new.self.items c.args.frame (edge_of c.in-Some.edge) c.new-role.result c.in-Some.edge.terminating c.in-Ok.part c.accept.new.seen.items c.requires c.in-Some.ensures
     (c.new-role.ensures.value ∙ c.in_ok-from_str.ensures.ok) refl (omega arith) c.in-Ok.ensures c.in_ok-found.ensures.accepted (sym c.in_default-2.is ∙ c.in_ok-found.ensures.found)
-    c.in_ok-put_back.ensures (c.in_ok-push.ensures.items ∙ ap (λ (es : List Edge). c.put_back.new.stack.items ++ es ∷ []) c.in_ok-of_accepted.ensures)
+    c.in_ok-put_back.ensures (c.in_ok-push.ensures.items ∙ ap (λ (es : List Edge). c.put_back.new.stack.items ++ es ∷ []) c.in_ok-of.ensures)
 
 pub returns-in-Err-Refused-clause-goes_on : goal.returns-in-Err-Refused-clause-goes_on
 returns-in-Err-Refused-clause-goes_on = search rules

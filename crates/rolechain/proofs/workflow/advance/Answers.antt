@@ -16,8 +16,8 @@ returns-clause-ready g c =
     let files = file_in c.args.repo.now.metadata in
     let now = c.args.now in
     let s = c.args.trusted.now in
-    let same : advanced_of (c.in_ok-state.state, c.in_ok-end.end) ≡ spec.advanced files now s =
-    ap (λ t. advanced_of (t, c.in_ok-end.end)) c.in_ok-state.ensures.state ∙ ends _ _ _ _ _ c.in_ok-end.was c.steps.ensures c.end_of.ensures ∙ ap (spec.advanced files now) c.of-draft.ensures in
+    let same : advanced_of (c.steps.new.state, c.in_ok-end.end) ≡ spec.advanced files now s =
+    ends _ _ _ _ _ c.in_ok-end.was c.steps.ensures c.end_of.ensures ∙ ap (spec.advanced files now) c.in_ok-state.ensures.equal in
     subst (λ a. a.end ≡ end.Ready → is_ready a.state ≡ true) (sym same) (advanced-ready files now s)
 
 pub returns-clause-roots : goal.returns-clause-roots
@@ -25,8 +25,8 @@ returns-clause-roots g c =
     let files = file_in c.args.repo.now.metadata in
     let now = c.args.now in
     let s = c.args.trusted.now in
-    let same : advanced_of (c.in_ok-state.state, c.in_ok-end.end) ≡ spec.advanced files now s =
-    ap (λ t. advanced_of (t, c.in_ok-end.end)) c.in_ok-state.ensures.state ∙ ends _ _ _ _ _ c.in_ok-end.was c.steps.ensures c.end_of.ensures ∙ ap (spec.advanced files now) c.of-draft.ensures in
+    let same : advanced_of (c.steps.new.state, c.in_ok-end.end) ≡ spec.advanced files now s =
+    ends _ _ _ _ _ c.in_ok-end.was c.steps.ensures c.end_of.ensures ∙ ap (spec.advanced files now) c.in_ok-state.ensures.equal in
     subst (λ a. IsLongestChain files now spec.most_roots s.root a.state.root) (sym same) (advanced-longest files now s)
 
 pub returns-clause-drop : goal.returns-clause-drop
@@ -34,6 +34,6 @@ returns-clause-drop g c =
     let files = file_in c.args.repo.now.metadata in
     let now = c.args.now in
     let s = c.args.trusted.now in
-    let same : advanced_of (c.in_ok-state.state, c.in_ok-end.end) ≡ spec.advanced files now s =
-    ap (λ t. advanced_of (t, c.in_ok-end.end)) c.in_ok-state.ensures.state ∙ ends _ _ _ _ _ c.in_ok-end.was c.steps.ensures c.end_of.ensures ∙ ap (spec.advanced files now) c.of-draft.ensures in
+    let same : advanced_of (c.steps.new.state, c.in_ok-end.end) ≡ spec.advanced files now s =
+    ends _ _ _ _ _ c.in_ok-end.was c.steps.ensures c.end_of.ensures ∙ ap (spec.advanced files now) c.in_ok-state.ensures.equal in
     subst (λ a. is_early a.end ≡ true → IsDropped files now s a.state) (sym same) (advanced-early files now s)

@@ -1,4 +1,4 @@
-use Rattle.std.proofs.Common.{◌≡◌, IfOk, inr, map, string_bytes, subst, true}
+use Rattle.std.proofs.Common.{◌≡◌, ◌∙◌, IfOk, ap, inr, map, string_bytes, subst, true}
 use Rattle.update.specs.Told.{IsTold, state_text}
 use Rattle.update.proofs.Told.{after_answer, after_failure}
 use Rattle.update.proofs.verification.verify_in.Goals as goal
@@ -10,10 +10,10 @@ returns-clause-told g c =
 
 pub returns-clause-kept : goal.returns-clause-kept
 returns-clause-kept g c = after_answer c.tell_outcome.result
-    (subst (λ o. g.S.System.keeps c.keep_outcome.new.system c.args.start.now.state.now (state_text o.trusted) ≡ true) c.in_ok-outcome.ensures.workflow
-    c.in_ok-keep_outcome.ensures.kept)
+    (subst (λ s. g.S.System.keeps c.keep_state.new.system c.args.start.now.state.now (state_text s) ≡ true) (c.trusted.ensures.value ∙ ap (λ o. o.trusted) c.in_ok-outcome.ensures.workflow)
+    c.in_ok-keep_state.ensures.kept)
 
 pub returns-clause-order : goal.returns-clause-order
 returns-clause-order g c = after_failure c.tell_outcome.result
-    (inr (subst (λ o. g.S.System.keeps c.keep_outcome.new.system c.args.start.now.state.now (state_text o.trusted) ≡ true) c.in_ok-outcome.ensures.workflow
-    c.in_ok-keep_outcome.ensures.kept))
+    (inr (subst (λ s. g.S.System.keeps c.keep_state.new.system c.args.start.now.state.now (state_text s) ≡ true) (c.trusted.ensures.value ∙ ap (λ o. o.trusted) c.in_ok-outcome.ensures.workflow)
+    c.in_ok-keep_state.ensures.kept))

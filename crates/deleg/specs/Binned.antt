@@ -1,15 +1,9 @@
--- The targets file whose delegations are tried.
+-- The delegations of a targets file, where the name of the path's bin is known.
 use Rattle.std.specs.Prelude.{ℕ, List, [], ◌∷◌, map}
 use Rattle.std.specs.Option.{option_map_or}
 use Rattle.meta.specs.Metadata.{Delegation, Roles, listed, binned, Targets}
 use Rattle.deleg.specs.Bin.{bin_name}
 use Rattle.deleg.specs.Edge as spec
-use Rattle.deleg.specs.declared.frame.Delegator.{Delegator}
-use Rattle.deleg.specs.declared.frame.Delegator.TheVariants.{Trusted, Accepted}
-
-abbrev pub delegator_targets : Delegator → Targets
-delegator_targets (Trusted targets) = targets.now
-delegator_targets (Accepted part) = part.reading
 
 -- the name of the path's bin, where a file delegates to bins
 abbrev pub bin_in : List ℕ → Roles → List ℕ
