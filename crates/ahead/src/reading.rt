@@ -1,7 +1,7 @@
 //! The metadata that a run is likely to read.
 
 use crate::document::Document;
-use crate::wanted::{bins, edges_in, followed};
+use crate::wanted::{edges_in, followed};
 use cjson::NoMemory;
 use examine::Listed;
 use meta::names::{root_name, versioned};
@@ -23,57 +23,31 @@ pub(crate) struct Read<A: Reading> {
     pub reading: A,
 }
 
-/// A role's targets file, and where it leads for the wanted paths: which of the delegations that it
-/// lists are followed, and the names of the bins.
+/// A role's targets file, and the places of the delegations that are followed for the wanted paths,
+/// each with the name of its bin where the file has bins.
+#[derive(Drop)]
 pub(crate) struct RoleFile {
     pub document: usize,
     pub targets: Targets,
-    pub followed: Vec<bool>,
-    pub bins: BTreeSet<String>,
-}
-
-impl Drop for RoleFile {
-    fn drop(self) {
-        let RoleFile {
-            document,
-            targets,
-            followed,
-            bins,
-        } = self;
-    }
+    pub followed: BTreeSet<(usize, String)>,
 }
 
 /// The targets files, and by the roles' names where each stands among them. None stands for a file
 /// that isn't there or can't be read.
+#[derive(Drop)]
 pub(crate) struct Roles {
     pub files: Vec<RoleFile>,
     pub places: BTreeMap<String, Option<usize>>,
 }
 
-impl Drop for Roles {
-    fn drop(self) {
-        let Roles { files, places } = self;
-    }
-}
-
 /// What was read ahead, each file once. A file stands here only where the one that leads to it
 /// could be read.
+#[derive(Drop)]
 pub struct Ahead {
     pub(crate) roots: Vec<Read<Root>>,
     pub(crate) timestamp: Option<Read<Timestamp>>,
     pub(crate) snapshot: Option<Read<Snapshot>>,
     pub(crate) roles: Roles,
-}
-
-impl Drop for Ahead {
-    fn drop(self) {
-        let Ahead {
-            roots,
-            timestamp,
-            snapshot,
-            roles,
-        } = self;
-    }
 }
 
 /// Where is read, and for which paths: at most so many targets files, and at most so many
@@ -244,7 +218,6 @@ fn role_file(
     Ok(Some(RoleFile {
         document: read.document,
         followed: followed(scope.alloc, &read.reading, scope.wanted)?,
-        bins: bins(scope.alloc, &read.reading, scope.wanted)?,
         targets: read.reading,
     }))
 }

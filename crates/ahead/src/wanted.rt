@@ -3,85 +3,61 @@
 use crate::reading::{Ahead, RoleFile, Scope, last_root};
 use cjson::NoMemory;
 use cjson::text::Text;
-use deleg::{Edge, bin_name, edge_at, is_matched, target_of};
+use deleg::{Edge, bin_of, edge_at, edge_count, is_for, target_of};
 use examine::target_file;
 use keys::Algorithm;
-use meta::{Delegation, Delegations, Repo, Roles, Target, Targets};
+use meta::{Repo, Target, Targets};
 use std::alloc::Global;
 use std::collections::BTreeSet;
 
-/// Which delegations of a file are followed for some wanted path: those that match it, in order, up
-/// to the first that is terminating; none for a path that the file itself lists.
+/// The delegations of a file that are followed for some wanted path, by their places, and where the
+/// file has bins with the name of the bin: those for the path, in order, up to the first that is
+/// terminating; none for a path that the file itself lists.
 pub(crate) fn followed(
     alloc: Global,
     targets: &Targets,
     wanted: &[String],
-) -> Result<Vec<bool>, NoMemory> {
-    let mut marks = Vec::new(alloc);
-    let Some(Roles::Listed(roles)) = targets.delegations().map(Delegations::roles) else {
-        return Ok(marks);
-    };
-    marks.resize(roles.as_slice().len(), false)?;
+) -> Result<BTreeSet<(usize, String)>, NoMemory> {
+    let mut places = BTreeSet::new(alloc);
     for path in wanted {
         if target_of(targets, path.as_str()).is_none() {
-            follow(roles.as_slice(), path.as_str(), &mut marks);
+            follow(alloc, targets, path.as_str(), &mut places)?;
         }
     }
-    Ok(marks)
+    Ok(places)
 }
 
-/// The names of the bins that a file's wanted paths lie in, each once; none where the file has no
-/// bins, and none for a path that the file itself lists.
-pub(crate) fn bins(
+/// Adds the delegations that are followed for the path.
+fn follow(
     alloc: Global,
     targets: &Targets,
-    wanted: &[String],
-) -> Result<BTreeSet<String>, NoMemory> {
-    let mut names = BTreeSet::new(alloc);
-    let Some(Roles::Binned(bins)) = targets.delegations().map(Delegations::roles) else {
-        return Ok(names);
-    };
-    for path in wanted {
-        if target_of(targets, path.as_str()).is_none() {
-            names.insert(bin_name(alloc, bins, path.as_str())?)?;
-        }
-    }
-    Ok(names)
-}
-
-/// Marks the delegations that match the path, in order, up to the first that is terminating.
-fn follow(roles: &[Delegation], path: &str, marks: &mut Vec<bool>) {
-    for (mark, delegation) in marks.iter_mut().zip(roles) {
-        if is_matched(delegation.paths(), path) {
-            *mark = true;
-            if delegation.is_terminating() {
-                break;
+    path: &str,
+    places: &mut BTreeSet<(usize, String)>,
+) -> Result<(), NoMemory> {
+    let bin = bin_of(alloc, targets, path)?;
+    for place in 0..edge_count(targets, bin.as_str()) {
+        match edge_at(targets, bin.as_str(), place) {
+            Some(edge) if is_for(&edge, path) => {
+                places.insert((place, String::from_str(alloc, bin.as_str())?))?;
+                if edge.terminating {
+                    break;
+                }
             }
+            _ => {}
         }
     }
+    Ok(())
 }
 
 /// The delegations of a file that are followed.
 pub(crate) fn edges_in<'a>(alloc: Global, file: &'a RoleFile) -> Result<Vec<Edge<'a>>, NoMemory> {
     let mut edges = Vec::new(alloc);
-    add_marked(file, &mut edges)?;
-    for bin in file.bins.iter() {
-        if let Some(edge) = edge_at(&file.targets, bin.as_str(), 0) {
+    for (place, bin) in file.followed.iter() {
+        if let Some(edge) = edge_at(&file.targets, bin.as_str(), *place) {
             edges.push(edge)?;
         }
     }
     Ok(edges)
-}
-
-/// Adds those that are marked.
-fn add_marked<'a>(file: &'a RoleFile, edges: &mut Vec<Edge<'a>>) -> Result<(), NoMemory> {
-    for (place, marked) in file.followed.iter().enumerate() {
-        match edge_at(&file.targets, "", place) {
-            Some(edge) if *marked => edges.push(edge)?,
-            _ => {}
-        }
-    }
-    Ok(())
 }
 
 /// A listed digest of a wanted target, and the file that it should be the digest of.

@@ -1,6 +1,6 @@
 //! What ends a measurement early.
 
-use cjson::{CanonicalFault, Misread, NoMemory};
+use cjson::{CanonicalFault, NoMemory, ReadFault};
 use cycle::StateFault;
 use lms::SignFault;
 use seals::MakeFault;
@@ -46,8 +46,8 @@ impl From<SignFault> for Trouble {
     }
 }
 
-impl From<Misread> for Trouble {
-    fn from(_error: Misread) -> Trouble {
+impl From<ReadFault> for Trouble {
+    fn from(_error: ReadFault) -> Trouble {
         Trouble::Part
     }
 }

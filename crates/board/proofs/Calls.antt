@@ -10,8 +10,10 @@ use Rattle.board.specs.Looks.{IsVerdict, word_of_look}
 use Rattle.board.specs.Moment.{truth, IsDecided}
 use Rattle.board.proofs.Keeps.{not_open, not_taken}
 use Rattle.board.proofs.SeatLemmas.{keeps_all}
+use Rattle.board.specs.declared.view.View.{View}
 use Rattle.board.specs.Steps.{Sat, newcomer, holding, released, having_seen, having_done}
-use Rattle.board.specs.Seats.{BoardValue, SeatValue, IsSeatOf, IsKept}
+use Rattle.atomic_table.specs.Seated.{TableId}
+use Rattle.board.specs.Seats.{BoardValue, SeatValue, IsSeatOf, IsKept, HasAll, Keeps}
 
 module _ (b b' : BoardValue) (s s' : SeatValue) (is : b ≡ b') (at : s ≡ s') (sits : IsSeatOf b' s') where
   pub same_table : s.board ≡ b.id
@@ -68,6 +70,14 @@ module _ (me me' : Sat) (held : Option ℕ) (published : ℕ) (k : IsKept me hel
 pub kept_new : (me : Sat) (truths : List Bool) → me ≡ (newcomer truths, []) → IsKept me None 0
 unfolding IsDistinct
 kept_new me truths e = subst (λ (m : Sat). IsKept m None 0) (sym e) (record { no_slot = refl; holds = refl; counted = refl; most = omega arith; once = tt; within = λ j e. absurd (none-some j e) })
+
+-- a seat whose table and view are another's
+pub same_seat : (t t' : TableId) (v v' : View) (s : SeatValue) → ◌≡◌ {A = SeatValue} (record { board = t; view = v }) s → t' ≡ t → v' ≡ v → ◌≡◌ {A = SeatValue} (record { board = t'; view = v' }) s
+same_seat t t' v v' s at table view = cc
+
+-- a seat of the same table, whose view has all that it had
+pub keeps_seat : (t t' : TableId) (v w : View) (s : SeatValue) → ◌≡◌ {A = SeatValue} (record { board = t; view = v }) s → t' ≡ t → HasAll v w → Keeps s (record { board = t'; view = w })
+keeps_seat t t' v w s at table all = keeps_all _ _ (table ∙ ap (λ (z : SeatValue). z.board) at) (subst (λ (z : SeatValue). HasAll z.view w) at all)
 
 -- the answer of a look and the word
 pub verdict_word : (l : Look) → IsVerdict l → IsDecided (word_of_look l)

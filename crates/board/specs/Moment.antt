@@ -4,7 +4,7 @@ use Rattle.std.specs.Prelude.{◌≡◌, ◌↔◌, ◌⊎◌, ℕ, ◌+◌, ◌
 use Rattle.std.specs.List.{Contains}
 use mathlib.Core.Option.{some}
 use lib.ListN.{get_elem?}
-use Rattle.board.specs.declared.view.View.{View}
+pub use Rattle.board.specs.declared.view.View.{View}
 
 -- whether check j is true
 abbrev pub truth : List Bool → ℕ → Bool

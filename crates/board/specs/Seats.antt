@@ -3,8 +3,7 @@ use Rattle.std.specs.Prelude.{◌≡◌, ◌≤◌, ◌<◌, ◌++◌, ℕ, Bool
 use Rattle.std.specs.List.{IsDistinct}
 use Rattle.atomic_table.specs.Seated.{TableId}
 use Rattle.board.specs.declared.checks.TheConstants.{MOST_CHECKS}
-use Rattle.board.specs.declared.view.View.{View}
-use Rattle.board.specs.Steps.{Sat, newcomer}
+use Rattle.board.specs.Steps.{View, Sat, newcomer}
 
 -- which board it is, and the truths of its checks
 pub record BoardValue : Type 0 where

@@ -2,8 +2,7 @@
 use Rattle.std.specs.Prelude.{◌≡◌, ◌≢◌, ◌≤◌, ℕ, ◌+◌, Bool, true, false, List, [], ◌∷◌, ◌++◌, length, Some, None, ◌||◌, nat_eq}
 use Rattle.std.specs.List.{IsDistinct}
 use Rattle.atomic_table.specs.Table.{Me, Step}
-use Rattle.board.specs.declared.view.View.{View}
-use Rattle.board.specs.Moment.{truth, Knows, IsDecided}
+pub use Rattle.board.specs.Moment.{View, truth, Knows, IsDecided}
 
 -- ---- what a seat knows after a step
 
@@ -13,48 +12,28 @@ newcomer truths = record { truths = truths; right = None; seen = []; done = []; 
 
 -- it has the right to check j
 abbrev pub holding : View → ℕ → View
-holding v j =
-    record { truths = v.truths; right = Some j; seen = v.seen; done = v.done; halted = v.halted }
+holding v j = record v { right = Some j }
 
 -- it has no right
 abbrev pub released : View → View
-released v =
-    record { truths = v.truths; right = None; seen = v.seen; done = v.done; halted = v.halted }
+released v = record v { right = None }
 
 -- it has seen the verdict of check j
 abbrev pub having_seen : View → ℕ → View
-having_seen v j = record {
-  truths = v.truths;
-  right = v.right;
-  seen = v.seen ++ j ∷ [];
-  done = v.done;
-  halted = v.halted;
-}
+having_seen v j = record v { seen = v.seen ++ j ∷ [] }
 
 -- it gave the verdict of check j, and spent its right
 abbrev pub having_done : View → ℕ → View
-having_done v j = record {
-  truths = v.truths;
-  right = None;
-  seen = v.seen ++ j ∷ [];
-  done = v.done ++ j ∷ [];
-  halted = v.halted;
-}
+having_done v j = record v { right = None; seen = v.seen ++ j ∷ []; done = v.done ++ j ∷ [] }
 
 -- it knows of a stop
 abbrev pub halting : View → View
-halting v =
-    record { truths = v.truths; right = v.right; seen = v.seen; done = v.done; halted = true }
+halting v = record v { halted = true }
 
 -- it has its own right, and what both have seen and done
 abbrev pub joined : View → View → View
-joined v w = record {
-  truths = v.truths;
-  right = v.right;
-  seen = v.seen ++ w.seen;
-  done = v.done ++ w.done;
-  halted = v.halted || w.halted;
-}
+joined v w =
+    record v { seen = v.seen ++ w.seen; done = v.done ++ w.done; halted = v.halted || w.halted }
 
 -- ---- what a step tells
 

@@ -81,26 +81,8 @@ impl Board {
         ensures seen { IsVerdict result → seat.new.view ≡ having_seen seat.old.view j }
         ensures same { ¬ IsVerdict result → seat.new.view ≡ seat.old.view }
     {
-        self.read(&mut seat.inner, j)
-    }
-
-    // Reads the word of check `j`.
-    fn read(&self, seat: &mut Inner, j: usize) -> Look
-        requires table { seat.old.table_id ≡ self.now.id }
-        requires truths { seat.old.me.0.truths ≡ self.now.truths }
-        requires check { j < length self.now.truths }
-        ensures table { seat.new.table_id ≡ seat.old.table_id }
-        ensures kept { HasAll seat.old.me.0 seat.new.me.0 }
-        ensures valid { result ≡ Look.Valid → truth self.now.truths j ≡ true }
-        ensures invalid { result ≡ Look.Invalid → truth self.now.truths j ≡ false }
-        ensures taken { seat.old.me.0.right ≡ Some j → result ≡ Look.Taken }
-        ensures known { Knows seat.old.me.0 j → IsVerdict result }
-        ensures seen { IsVerdict result
-            → seat.new.me ≡ (having_seen seat.old.me.0 j, seat.old.me.1) }
-        ensures same { ¬ IsVerdict result → seat.new.me ≡ seat.old.me }
-    {
         let shared = &self.table.shared;
-        let found = shared.load::<LookAt>(seat, j + 1);
+        let found = shared.load::<LookAt>(&mut seat.inner, j + 1);
         Look::of_word(found)
     }
 
@@ -118,29 +100,12 @@ impl Board {
         ensures unknown { IsTrue result → ¬ Knows seat.old.view j }
         ensures lost { result ≡ false → seat.new ≡ seat.old }
     {
-        if !self.take(&mut seat.inner, j) {
-            return false;
-        }
-        seat.held = Some(j);
-        true
-    }
-
-    // Takes check `j` where it is open. True where it was.
-    fn take(&self, seat: &mut Inner, j: usize) -> bool
-        requires table { seat.old.table_id ≡ self.now.id }
-        requires check { j < length self.now.truths }
-        requires free { seat.old.me.0.right ≡ None }
-        ensures table { seat.new.table_id ≡ seat.old.table_id }
-        ensures kept { HasAll seat.old.me.0 seat.new.me.0 }
-        ensures won { IsTrue result → seat.new.me ≡ (holding seat.old.me.0 j, seat.old.me.1) }
-        ensures unknown { IsTrue result → ¬ Knows seat.old.me.0 j }
-        ensures lost { result ≡ false → seat.new.me ≡ seat.old.me }
-    {
         let shared = &self.table.shared;
-        let found = shared.compare_exchange::<Claim>(seat, j + 1, OPEN, TAKEN);
+        let found = shared.compare_exchange::<Claim>(&mut seat.inner, j + 1, OPEN, TAKEN);
         if found != OPEN {
             return false;
         }
+        seat.held = Some(j);
         true
     }
 
@@ -157,27 +122,11 @@ impl Board {
             seat.new.view ≡ having_done seat.old.view j) }
     {
         let Some(j) = seat.held else { unreachable!() };
-        self.tell(&mut seat.inner, j, verdict);
-        seat.held = None;
-        seat.published += 1;
-    }
-
-    // Stores the verdict of check `j`.
-    fn tell(&self, seat: &mut Inner, j: usize, verdict: bool)
-        requires table { seat.old.table_id ≡ self.now.id }
-        requires truths { seat.old.me.0.truths ≡ self.now.truths }
-        requires check { j < length self.now.truths }
-        requires right { seat.old.me.0.right ≡ Some j }
-        requires truth { verdict ≡ truth self.now.truths j }
-        ensures table { seat.new.table_id ≡ seat.old.table_id }
-        ensures kept { HasAll seat.old.me.0 seat.new.me.0 }
-        ensures done { seat.new.me ≡ (having_done seat.old.me.0 j, seat.old.me.1) }
-        ensures once { IsDistinct nat_eq seat.new.me.0.done }
-        ensures most { length seat.new.me.0.done ≤ MOST_CHECKS }
-    {
         let word = if verdict { VALID } else { INVALID };
         let shared = &self.table.shared;
-        shared.store::<Publish>(seat, j + 1, word);
+        shared.store::<Publish>(&mut seat.inner, j + 1, word);
+        seat.held = None;
+        seat.published += 1;
     }
 
     /// Opens the check again that the seat has the right to, undecided, and spends the right.
@@ -190,20 +139,9 @@ impl Board {
         ensures view { seat.new.view ≡ released seat.old.view }
     {
         let Some(j) = seat.held else { unreachable!() };
-        self.open(&mut seat.inner, j);
-        seat.held = None;
-    }
-
-    // Opens check `j` again.
-    fn open(&self, seat: &mut Inner, j: usize)
-        requires table { seat.old.table_id ≡ self.now.id }
-        requires check { j < length self.now.truths }
-        requires right { seat.old.me.0.right ≡ Some j }
-        ensures table { seat.new.table_id ≡ seat.old.table_id }
-        ensures released { seat.new.me ≡ (released seat.old.me.0, seat.old.me.1) }
-    {
         let shared = &self.table.shared;
-        shared.store::<GiveBack>(seat, j + 1, OPEN);
+        shared.store::<GiveBack>(&mut seat.inner, j + 1, OPEN);
+        seat.held = None;
     }
 
     /// Tells all seats to stop, for good. No check is changed by it.
@@ -213,17 +151,8 @@ impl Board {
         ensures kept { Keeps seat.old seat.new }
         ensures view { seat.new.view ≡ halting seat.old.view }
     {
-        self.halt(&mut seat.inner);
-    }
-
-    // Sets the stop word.
-    fn halt(&self, seat: &mut Inner)
-        requires table { seat.old.table_id ≡ self.now.id }
-        ensures table { seat.new.table_id ≡ seat.old.table_id }
-        ensures halted { seat.new.me ≡ (halting seat.old.me.0, seat.old.me.1) }
-    {
         let shared = &self.table.shared;
-        shared.store::<Stop>(seat, STOP, 1);
+        shared.store::<Stop>(&mut seat.inner, STOP, 1);
     }
 
     /// Whether some seat said to stop. It stays true once a seat has found it so.

@@ -5,7 +5,7 @@ use Rattle.cjson.proofs.OnLiterals.{cjson_on_literals}
 use Rattle.cjson.specs.Option.{◌>>=◌}
 use Rattle.cjson.specs.Canon.{canon, has_whole_numbers}
 use Rattle.cjson.specs.Document.{Document, tree_of, document}
-use Rattle.cjson.specs.Form.{Form, optional, whole, text, ok, hex_bytes}
+use Rattle.cjson.specs.Form.{Form, optional, greatest, whole, text, ok, hex_bytes}
 use Rattle.cjson.specs.declared.fault.DocFault.TheVariants.{NotJson, NotObject, Float, BadSignatures}
 
 -- ---- canonical texts
@@ -92,19 +92,19 @@ two_entries = refl
 abbrev read_as : {A : Type 0} → Form A → List ℕ → Option A
 read_as form json = read json >>= form
 
-pub greatest_whole : read_as (whole 1) (codes "9223372036854775807") ≡ Some 9223372036854775807
+pub greatest_whole : read_as (whole 1 greatest) (codes "9223372036854775807") ≡ Some 9223372036854775807
 unfolding cjson_on_literals
 greatest_whole = refl
 
-pub past_whole : read_as (whole 1) (codes "9223372036854775808") ≡ None
+pub past_whole : read_as (whole 1 greatest) (codes "9223372036854775808") ≡ None
 unfolding cjson_on_literals
 past_whole = refl
 
-pub below_whole : read_as (whole 1) (codes "0") ≡ None
+pub below_whole : read_as (whole 1 greatest) (codes "0") ≡ None
 unfolding cjson_on_literals
 below_whole = refl
 
-pub no_whole : read_as (whole 1) (codes "\"1\"") ≡ None
+pub no_whole : read_as (whole 1 greatest) (codes "\"1\"") ≡ None
 unfolding cjson_on_literals
 no_whole = refl
 

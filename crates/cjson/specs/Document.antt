@@ -2,14 +2,13 @@
 -- section 4.2).
 use Rattle.std.specs.Prelude.{ℕ, List, codes, if◌then◌else◌, Option, None, option_map, option_and_then, Result, Ok}
 use Rattle.std.specs.Str.{is_utf8}
-use Rattle.serde_json.specs.Data.{Data, object}
+use Rattle.serde_json.specs.Data.{object}
 use Rattle.serde_json.specs.Read.{read}
 use Rattle.serde_json.specs.Find.{get, as_object}
 use Rattle.cjson.specs.Checks.{◌>>=◌, or_refuse}
 use Rattle.cjson.specs.Canon.{canon}
-use Rattle.cjson.specs.Form.{needed, list}
-use Rattle.cjson.specs.Entry.{entry}
-use Rattle.cjson.specs.declared.doc.Entry.{Entry}
+use Rattle.cjson.specs.Form.{Data, needed, list}
+use Rattle.cjson.specs.Entry.{entry, Entry}
 use Rattle.cjson.specs.declared.fault.DocFault.{DocFault}
 use Rattle.cjson.specs.declared.fault.DocFault.TheVariants.{NotJson, NotObject, Float, BadSignatures}
 

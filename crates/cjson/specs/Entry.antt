@@ -2,7 +2,7 @@
 use Rattle.std.specs.Prelude.{codes, Some}
 use Rattle.cjson.specs.Option.{◌>>=◌}
 use Rattle.cjson.specs.Form.{Form, needed, text}
-use Rattle.cjson.specs.declared.doc.Entry.{Entry}
+pub use Rattle.cjson.specs.declared.doc.Entry.{Entry}
 
 abbrev pub entry : Form Entry
 entry d = do

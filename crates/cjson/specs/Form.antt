@@ -1,7 +1,7 @@
 -- The forms of a JSON member. A form reads a tree, or gives nothing where the tree hasn't that
 -- form.
-use Rattle.std.specs.Prelude.{ℕ, ◌^◌, ◌&&◌, nat_lt, nat_le, if◌then◌else◌, List, [], ◌∷◌, Bool, true, false, Option, Some, None, option_map, option_and_then, Result, Ok, Err, ⊤}
-use Rattle.serde_json.specs.Data.{Data, Items, no_items, item, Members, no_members, member}
+use Rattle.std.specs.Prelude.{ℕ, ◌&&◌, nat_le, if◌then◌else◌, List, [], ◌∷◌, Bool, true, false, Option, Some, None, option_map, option_and_then, Result, Ok, Err, ⊤}
+pub use Rattle.serde_json.specs.Data.{Data, Items, no_items, item, Members, no_members, member}
 use Rattle.serde_json.specs.Find.{get, as_str, as_number, as_u64, as_array, as_object}
 use Rattle.hex.specs.Hex.{decode_sized}
 use Rattle.cjson.specs.Option.{◌>>=◌}
@@ -74,12 +74,16 @@ has_text name test d = text_passes test (option_and_then as_str (get name d))
 abbrev pub text : Form (List ℕ)
 text d = as_str d
 
--- a whole number from `least` to 9223372036854775807
-abbrev pub whole : ℕ → Form ℕ
-whole least d = do
+-- the greatest version, threshold or length
+abbrev pub greatest : ℕ
+greatest = 9223372036854775807
+
+-- a whole number from `least` to `most`
+abbrev pub whole : ℕ → ℕ → Form ℕ
+whole least most d = do
   number ← as_number d
   n ← as_u64 number
-  if nat_le least n && nat_lt n (2 ^ 63) then Some n else None
+  if nat_le least n && nat_le n most then Some n else None
 
 -- the value, where there is one
 abbrev pub ok : {A E : Type 0} → Result A E → Option A

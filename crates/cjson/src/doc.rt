@@ -6,7 +6,7 @@ ghost use Rattle.cjson.specs.Canon.{canon};
 
 mod read;
 
-use crate::fault::Misread;
+use crate::fault::ReadFault;
 use crate::form::{FromJson, needed};
 use crate::list::Items;
 use crate::text::Text;
@@ -16,6 +16,7 @@ use std::alloc::Global;
 
 /// An entry of `signatures`: the id of a key and a signature, as the file spells them (TUF 1.0
 /// section 4.2). Both are texts of any length, and are compared with nothing here.
+#[derive(Drop)]
 pub struct Entry {
     /// The id of the key that is said to have signed.
     pub keyid: Text,
@@ -23,18 +24,12 @@ pub struct Entry {
     pub sig: Text,
 }
 
-impl Drop for Entry {
-    fn drop(self) {
-        let Entry { keyid, sig } = self;
-    }
-}
-
 impl FromJson for Entry {
     ghost use Rattle.cjson.specs.Entry as spec;
 
     ghost form = { spec.entry };
 
-    fn from_json(alloc: Global, value: &Value) -> Result<Entry, Misread> {
+    fn from_json(alloc: Global, value: &Value) -> Result<Entry, ReadFault> {
         let keyid = needed(alloc, value, "keyid")?;
         let sig = needed(alloc, value, "sig")?;
         Ok(Entry { keyid, sig })

@@ -2,7 +2,7 @@
 
 ghost use Rattle.std.specs.Prelude.{◌≡◌};
 ghost use Rattle.cjson.specs.declared.fault.CanonicalFault.TheVariants as canon;
-ghost use Rattle.cjson.specs.declared.fault.Misread.TheVariants as misread;
+ghost use Rattle.cjson.specs.declared.fault.ReadFault.TheVariants as read;
 ghost use Rattle.cjson.specs.Faults.{doc_fault_of};
 
 use std::alloc::{AllocError, AllocFailed};
@@ -44,10 +44,10 @@ pub enum DocFault {
     NoMemory,
 }
 
-/// Why a tree was not read as a value of some form.
+/// Why a tree or a document was not read as a value of some form.
 #[derive(Clone, Copy, Debug, PartialEq, Eq, Error)]
-pub enum Misread {
-    /// The tree hasn't the form.
+pub enum ReadFault {
+    /// It hasn't the form.
     #[error("not of the form")]
     Malformed,
     /// Memory was refused.
@@ -94,26 +94,26 @@ impl From<CanonicalFault> for DocFault {
     }
 }
 
-impl From<AllocError> for Misread {
-    ghost from_gives = { λ _ e. e ≡ misread.NoMemory };
+impl From<AllocError> for ReadFault {
+    ghost from_gives = { λ _ e. e ≡ read.NoMemory };
 
-    fn from(_refused: AllocError) -> Misread {
-        Misread::NoMemory
+    fn from(_refused: AllocError) -> ReadFault {
+        ReadFault::NoMemory
     }
 }
 
-impl<T: Drop> From<AllocFailed<T>> for Misread {
-    ghost from_gives = { λ _ e. e ≡ misread.NoMemory };
+impl<T: Drop> From<AllocFailed<T>> for ReadFault {
+    ghost from_gives = { λ _ e. e ≡ read.NoMemory };
 
-    fn from(_refused: AllocFailed<T>) -> Misread {
-        Misread::NoMemory
+    fn from(_refused: AllocFailed<T>) -> ReadFault {
+        ReadFault::NoMemory
     }
 }
 
-impl From<NoMemory> for Misread {
-    ghost from_gives = { λ _ e. e ≡ misread.NoMemory };
+impl From<NoMemory> for ReadFault {
+    ghost from_gives = { λ _ e. e ≡ read.NoMemory };
 
-    fn from(_refused: NoMemory) -> Misread {
-        Misread::NoMemory
+    fn from(_refused: NoMemory) -> ReadFault {
+        ReadFault::NoMemory
     }
 }

@@ -6,7 +6,7 @@ ghost use Rattle.serde_json.specs.View.{view};
 ghost use Rattle.cjson.specs.Form as form_of;
 ghost use Rattle.cjson.specs.Reads.{Reads};
 
-use crate::fault::{Misread, NoMemory};
+use crate::fault::{NoMemory, ReadFault};
 use serde_json::Value;
 use std::alloc::Global;
 
@@ -15,7 +15,7 @@ pub trait FromJson: Sized {
     ghost form: { Data → Option Self };
 
     /// What `value` is read as; `Malformed` where it hasn't the form.
-    fn from_json(alloc: Global, value: &Value) -> Result<Self, Misread>
+    fn from_json(alloc: Global, value: &Value) -> Result<Self, ReadFault>
         ensures read { Reads (form (view value.now)) result };
 }
 
@@ -23,10 +23,10 @@ pub trait FromJson: Sized {
 ///
 /// `Malformed` is answered where `value` is no object, has no member of that name, or has one of
 /// another form.
-pub fn needed<T: FromJson>(alloc: Global, value: &Value, name: &str) -> Result<T, Misread>
+pub fn needed<T: FromJson>(alloc: Global, value: &Value, name: &str) -> Result<T, ReadFault>
     ensures read { Reads (form_of.needed name.now T.form (view value.now)) result }
 {
-    let member = value.get(name).ok_or(Misread::Malformed)?;
+    let member = value.get(name).ok_or(ReadFault::Malformed)?;
     T::from_json(alloc, member)
 }
 
@@ -34,7 +34,11 @@ pub fn needed<T: FromJson>(alloc: Global, value: &Value, name: &str) -> Result<T
 ///
 /// `None` is answered where `value` has no member of that name, also where it is no object, and
 /// `Malformed` where the member has another form. A member that is `null` isn't absent.
-pub fn optional<T: FromJson>(alloc: Global, value: &Value, name: &str) -> Result<Option<T>, Misread>
+pub fn optional<T: FromJson>(
+    alloc: Global,
+    value: &Value,
+    name: &str,
+) -> Result<Option<T>, ReadFault>
     ensures read { Reads (form_of.optional name.now T.form (view value.now)) result }
 {
     match value.get(name) {
@@ -45,13 +49,13 @@ pub fn optional<T: FromJson>(alloc: Global, value: &Value, name: &str) -> Result
 
 /// What was read, or None where the value hasn't the form. Only where memory was refused to the
 /// reader, it is refused here.
-pub fn if_formed<T>(read: Result<T, Misread>) -> Result<Option<T>, NoMemory>
+pub fn if_formed<T>(read: Result<T, ReadFault>) -> Result<Option<T>, NoMemory>
     ensures value { (o : Option T) → Reads o read → IfOk result (λ x. x ≡ o) }
-    ensures memory { IfErr result (λ _. read ≡ Err Misread.NoMemory) }
+    ensures memory { IfErr result (λ _. read ≡ Err ReadFault.NoMemory) }
 {
     match read {
         Ok(x) => Ok(Some(x)),
-        Err(Misread::Malformed) => Ok(None),
-        Err(Misread::NoMemory) => Err(NoMemory),
+        Err(ReadFault::Malformed) => Ok(None),
+        Err(ReadFault::NoMemory) => Err(NoMemory),
     }
 }

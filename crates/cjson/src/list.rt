@@ -5,7 +5,7 @@ ghost use Rattle.serde_json.specs.View.{items_view};
 ghost use Rattle.cjson.specs.Form as form_of;
 ghost use Rattle.cjson.specs.Reads.{Reads};
 
-use crate::fault::Misread;
+use crate::fault::ReadFault;
 use crate::form::FromJson;
 use serde_json::Value;
 use std::alloc::Global;
@@ -53,13 +53,13 @@ impl<T> Items<T> {
 impl<T: FromJson + Drop> FromJson for Items<T> {
     ghost form = { form_of.list T.form };
 
-    fn from_json(alloc: Global, value: &Value) -> Result<Items<T>, Misread> {
-        let found = value.as_array().ok_or(Misread::Malformed)?;
+    fn from_json(alloc: Global, value: &Value) -> Result<Items<T>, ReadFault> {
+        let found = value.as_array().ok_or(ReadFault::Malformed)?;
         read_each(alloc, found)
     }
 }
 
-fn read_each<T: FromJson + Drop>(alloc: Global, found: &[Value]) -> Result<Items<T>, Misread>
+fn read_each<T: FromJson + Drop>(alloc: Global, found: &[Value]) -> Result<Items<T>, ReadFault>
     ensures { Reads (form_of.each T.form (items_view found.now)) result }
 {
     let mut items = Vec::with_capacity(alloc, found.len())?;

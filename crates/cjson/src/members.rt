@@ -6,7 +6,7 @@ ghost use Rattle.serde_json.specs.View.{view, members_view};
 ghost use Rattle.cjson.specs.Form as form_of;
 ghost use Rattle.cjson.specs.Reads.{Reads};
 
-use crate::fault::Misread;
+use crate::fault::ReadFault;
 use crate::list::Items;
 use serde_json::{Map, Value};
 use std::alloc::Global;
@@ -16,24 +16,27 @@ pub trait FromMember: Sized {
     ghost member_form: { List ℕ → Data → Option Self };
 
     /// What the member `name` with this value is read as; `Malformed` where it hasn't the form.
-    fn from_member(alloc: Global, name: &str, value: &Value) -> Result<Self, Misread>
+    fn from_member(alloc: Global, name: &str, value: &Value) -> Result<Self, ReadFault>
         ensures read { Reads (member_form name.now (view value.now)) result };
 }
 
 /// What the members of an object are read as, in the order of their names' bytes.
 ///
 /// `Malformed` is answered where `value` is no object, or some member hasn't the form.
-pub fn read_members<T: FromMember + Drop>(alloc: Global, value: &Value) -> Result<Items<T>, Misread>
+pub fn read_members<T: FromMember + Drop>(
+    alloc: Global,
+    value: &Value,
+) -> Result<Items<T>, ReadFault>
     ensures read { Reads (form_of.members T.member_form (view value.now)) result }
 {
-    let found = value.as_object().ok_or(Misread::Malformed)?;
+    let found = value.as_object().ok_or(ReadFault::Malformed)?;
     read_each_member(alloc, found)
 }
 
 fn read_each_member<T: FromMember + Drop>(
     alloc: Global,
     found: &Map<String, Value>,
-) -> Result<Items<T>, Misread>
+) -> Result<Items<T>, ReadFault>
     ensures { Reads (form_of.each_member T.member_form (members_view found.now.entries)) result }
 {
     let mut items = Vec::with_capacity(alloc, found.len())?;

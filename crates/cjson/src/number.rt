@@ -4,64 +4,62 @@ ghost use Rattle.std.specs.Prelude.{◌≡◌, ◌≤◌, IfSome, Option, Some, 
 ghost use Rattle.serde_json.specs.View.{view};
 ghost use Rattle.cjson.specs.Form as form_of;
 
-use crate::fault::Misread;
+use crate::fault::ReadFault;
 use crate::form::FromJson;
 use hex::FromHex;
 use serde_json::Value;
 use std::alloc::Global;
 use std::marker::Model;
 
-/// A whole number from `least` to 9223372036854775807.
-fn whole(value: &Value, least: u64) -> Option<u64>
-    ensures value { result ≡ form_of.whole least (view value.now) }
-    ensures range { IfSome result (λ n. (least ≤ n) × (n ≤ 9223372036854775807)) }
+/// A whole number from `least` to `most`.
+fn whole(value: &Value, least: u64, most: u64) -> Option<u64>
+    ensures value { result ≡ form_of.whole least most (view value.now) }
+    ensures range { IfSome result (λ n. (least ≤ n) × (n ≤ most)) }
 {
-    value
-        .as_u64()
-        .filter(|n| *n >= least && *n <= i64::MAX as u64)
+    value.as_u64().filter(|n| least <= *n && *n <= most)
 }
 
-/// A whole number from `LEAST` to 9223372036854775807; `Malformed` for any other value.
+/// A whole number from `LEAST` to `MOST`; `Malformed` for any other value.
 #[derive(Clone, Copy)]
-pub struct AtLeast<const LEAST: u64> {
+pub struct Within<const LEAST: u64, const MOST: u64> {
     number: u64,
 }
 
 /// A version or a threshold: a whole number from 1 to 9223372036854775807.
-pub type Positive = AtLeast<1>;
+pub type Positive = Within<1, 9_223_372_036_854_775_807>;
 
 /// A length: a whole number from 0 to 9223372036854775807.
-pub type Length = AtLeast<0>;
+pub type Length = Within<0, 9_223_372_036_854_775_807>;
 
-impl<const LEAST: u64> Model for AtLeast<LEAST> {
+impl<const LEAST: u64, const MOST: u64> Model for Within<LEAST, MOST> {
     ghost use Rattle.std.specs.Prelude.{ℕ, ◌≤◌};
 
     ghost Value = { ℕ };
 
     ghost view = { λ p. p.number };
 
-    ghost invariant = { λ p. (LEAST ≤ p.number) × (p.number ≤ 9223372036854775807) };
+    ghost invariant = { λ p. (LEAST ≤ p.number) × (p.number ≤ MOST) };
 
     ghost inverse = { λ n. record { number = n } };
 }
 
-impl<const LEAST: u64> AtLeast<LEAST> {
-    /// The number, from `LEAST` to 9223372036854775807.
+impl<const LEAST: u64, const MOST: u64> Within<LEAST, MOST> {
+    /// The number, from `LEAST` to `MOST`.
     pub fn get(&self) -> u64
         ensures value { result ≡ self.now }
         ensures least { LEAST ≤ result }
-        ensures most { result ≤ 9223372036854775807 }
+        ensures most { result ≤ MOST }
     {
         self.number
     }
 }
 
-impl<const LEAST: u64> FromJson for AtLeast<LEAST> {
-    ghost form = { form_of.whole LEAST };
+impl<const LEAST: u64, const MOST: u64> FromJson for Within<LEAST, MOST> {
+    ghost form = { form_of.whole LEAST MOST };
 
-    fn from_json(_alloc: Global, value: &Value) -> Result<AtLeast<LEAST>, Misread> {
-        let number = whole(value, LEAST).ok_or(Misread::Malformed)?;
-        Ok(AtLeast { number })
+    fn from_json(_alloc: Global, value: &Value) -> Result<Within<LEAST, MOST>, ReadFault> {
+        let number = whole(value, LEAST, MOST).ok_or(ReadFault::Malformed)?;
+        Ok(Within { number })
     }
 }
 
@@ -70,9 +68,9 @@ impl<const LEAST: u64> FromJson for AtLeast<LEAST> {
 impl<const N: usize> FromJson for [u8; N] {
     ghost form = { form_of.hex_bytes N };
 
-    fn from_json(_alloc: Global, value: &Value) -> Result<[u8; N], Misread> {
-        let text = value.as_str().ok_or(Misread::Malformed)?;
-        <[u8; N] as FromHex>::from_hex(text).map_err(|_| Misread::Malformed)
+    fn from_json(_alloc: Global, value: &Value) -> Result<[u8; N], ReadFault> {
+        let text = value.as_str().ok_or(ReadFault::Malformed)?;
+        <[u8; N] as FromHex>::from_hex(text).map_err(|_| ReadFault::Malformed)
     }
 }
 
@@ -82,7 +80,7 @@ impl FromJson for bool {
 
     ghost form = { as_bool };
 
-    fn from_json(_alloc: Global, value: &Value) -> Result<bool, Misread> {
-        value.as_bool().ok_or(Misread::Malformed)
+    fn from_json(_alloc: Global, value: &Value) -> Result<bool, ReadFault> {
+        value.as_bool().ok_or(ReadFault::Malformed)
     }
 }

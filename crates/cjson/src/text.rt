@@ -4,7 +4,7 @@ ghost use Rattle.std.specs.Prelude.{◌≡◌, bytes_eq, string_bytes};
 ghost use Rattle.serde_json.specs.View.{view};
 ghost use Rattle.cjson.specs.Form as form_of;
 
-use crate::fault::Misread;
+use crate::fault::ReadFault;
 use crate::form::FromJson;
 use serde_json::Value;
 use std::alloc::Global;
@@ -51,8 +51,8 @@ impl Text {
 impl FromJson for Text {
     ghost form = { form_of.text };
 
-    fn from_json(alloc: Global, value: &Value) -> Result<Text, Misread> {
-        let text = value.as_str().ok_or(Misread::Malformed)?;
+    fn from_json(alloc: Global, value: &Value) -> Result<Text, ReadFault> {
+        let text = value.as_str().ok_or(ReadFault::Malformed)?;
         Ok(Text::new(String::from_str(alloc, text)?))
     }
 }

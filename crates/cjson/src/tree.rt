@@ -3,18 +3,18 @@
 ghost use Rattle.cjson.specs.Document.{tree_of};
 ghost use Rattle.cjson.specs.Trees.{ReadsTree};
 
-use crate::fault::Misread;
+use crate::fault::ReadFault;
 use serde_json::Value;
 use std::alloc::Global;
 
 /// The tree of bytes that are JSON in UTF-8, of at most 127 levels; `Malformed` where they aren't.
 /// Of members named twice the last one counts.
-pub fn read_tree(alloc: Global, bytes: &[u8]) -> Result<Value, Misread>
+pub fn read_tree(alloc: Global, bytes: &[u8]) -> Result<Value, ReadFault>
     ensures tree { ReadsTree (tree_of bytes.now) result }
 {
     match Value::from_slice(alloc, bytes) {
         Ok(tree) => Ok(tree),
-        Err(e) if e.is_memory() => Err(Misread::NoMemory),
-        Err(_) => Err(Misread::Malformed),
+        Err(e) if e.is_memory() => Err(ReadFault::NoMemory),
+        Err(_) => Err(ReadFault::Malformed),
     }
 }

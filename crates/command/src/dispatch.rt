@@ -15,7 +15,7 @@ use std::rt::{Clock, Files};
 use std::sync::Wait;
 use std::thread::Threads;
 use system::Machine;
-use update::{init, read_file};
+use update::init;
 
 /// Does what the words after the program's name ask for, or without a word verifies the sample
 /// repository, and answers the exit status: 0 where all wanted targets are good, 1 where one is
@@ -69,13 +69,10 @@ fn perform_task<R: Files + Clock + AllocGlobal + Clone + Drop, T: Threads + Wait
     ensures known { IfOk result (λ status. status ≤ 2) }
 {
     match task_of(alloc, matches)? {
-        None => Err(Failure::Words),
-        Some(Task::Init { root, out: state }) => {
-            init(alloc, &mut Machine::new(rt), root, state, out)
-        }
-        Some(Task::Make { script, folder }) => make_from(rt, alloc, script, folder),
-        Some(Task::Verify(task)) => verify_on_disk(rt, threads, alloc, &task, out),
-        Some(Task::Replay(task)) => replay_on_disk(rt, threads, alloc, &task, out),
+        Task::Init { root, out: state } => init(alloc, &mut Machine::new(rt), root, state, out),
+        Task::Make { script, folder } => make(rt, alloc, script, folder),
+        Task::Verify(task) => verify_on_disk(rt, threads, alloc, &task, out),
+        Task::Replay(task) => replay_on_disk(rt, threads, alloc, &task, out),
     }
 }
 
@@ -114,17 +111,4 @@ fn refuse_words<W: Write, E: Write>(
     }
     put(out, text.as_str())?;
     Ok(0)
-}
-
-/// Writes what the script of that path makes below the folder.
-fn make_from<R: Files + Clock + AllocGlobal>(
-    rt: &R,
-    alloc: Global,
-    script: &str,
-    folder: &str,
-) -> Result<u8, Failure>
-    ensures status { IfOk result (λ status. status ≡ 0) }
-{
-    let script = read_file(&Machine::new(rt), script, Failure::Input)?;
-    make(rt, alloc, script.as_slice(), folder)
 }

@@ -5,18 +5,22 @@ use failure::{Failure, of_io};
 use folder::joined;
 use std::alloc::Global;
 use std::fs;
-use std::rt::Files;
+use std::rt::{Clock, Files};
+use system::Machine;
+use update::read_file;
 
-/// Writes what a script makes below a folder. Where the script is refused, nothing is written.
-pub fn make<R: Files + AllocGlobal>(
+/// Writes what the script of that path makes below a folder. Where the script is refused, nothing
+/// is written.
+pub fn make<R: Files + Clock + AllocGlobal>(
     rt: &R,
     alloc: Global,
-    script: &[u8],
+    script: &str,
     folder: &str,
 ) -> Result<u8, Failure>
     ensures status { IfOk result (λ status. status ≡ 0) }
 {
-    let Ok(text) = std::str::from_utf8(script) else {
+    let script = read_file(&Machine::new(rt), script, Failure::Input)?;
+    let Ok(text) = std::str::from_utf8(script.as_slice()) else {
         return Err(Failure::Input);
     };
     for (name, bytes) in maker::make(alloc, text)? {

@@ -1,6 +1,7 @@
 //! What the words of the command line ask for.
 
 use clap::ArgMatches;
+use failure::Failure;
 use std::alloc::{AllocError, Global};
 use update::Terms;
 
@@ -32,82 +33,66 @@ pub struct Replay<'a> {
 }
 
 /// What the matches ask for.
-pub fn task_of<'a>(
-    alloc: Global,
-    matches: &ArgMatches<'a>,
-) -> Result<Option<Task<'a>>, AllocError> {
-    let Some((name, inner)) = matches.subcommand() else {
-        return Ok(None);
-    };
+pub fn task_of<'a>(alloc: Global, matches: &ArgMatches<'a>) -> Result<Task<'a>, Failure> {
+    let (name, inner) = matches.subcommand().ok_or(Failure::Words)?;
     match name {
-        "init" => Ok(init_task(inner)),
-        "make" => Ok(make_task(inner)),
+        "init" => init_task(inner),
+        "make" => make_task(inner),
         "replay" => replay_task(alloc, inner),
         _ => verify_task(alloc, inner),
     }
 }
 
-fn init_task<'a>(matches: &ArgMatches<'a>) -> Option<Task<'a>> {
-    Some(Task::Init {
-        root: matches.get_str("ROOT")?,
-        out: matches.get_str("out")?,
+fn init_task<'a>(matches: &ArgMatches<'a>) -> Result<Task<'a>, Failure> {
+    Ok(Task::Init {
+        root: word(matches, "ROOT")?,
+        out: word(matches, "out")?,
     })
 }
 
-fn make_task<'a>(matches: &ArgMatches<'a>) -> Option<Task<'a>> {
-    Some(Task::Make {
-        script: matches.get_str("SCRIPT")?,
-        folder: matches.get_str("DIR")?,
+fn make_task<'a>(matches: &ArgMatches<'a>) -> Result<Task<'a>, Failure> {
+    Ok(Task::Make {
+        script: word(matches, "SCRIPT")?,
+        folder: word(matches, "DIR")?,
     })
 }
 
-fn verify_task<'a>(
-    alloc: Global,
-    matches: &ArgMatches<'a>,
-) -> Result<Option<Task<'a>>, AllocError> {
-    let wanted = all_of(alloc, matches, "PATH")?;
-    Ok(verify_words(matches, wanted))
-}
-
-fn verify_words<'a>(matches: &ArgMatches<'a>, wanted: Vec<String>) -> Option<Task<'a>> {
-    Some(Task::Verify(Verify {
-        terms: terms(matches, wanted)?,
-        metadata: matches.get_str("metadata")?,
-        targets: matches.get_str("targets")?,
+fn verify_task<'a>(alloc: Global, matches: &ArgMatches<'a>) -> Result<Task<'a>, Failure> {
+    Ok(Task::Verify(Verify {
+        terms: terms(alloc, matches)?,
+        metadata: word(matches, "metadata")?,
+        targets: word(matches, "targets")?,
     }))
 }
 
-fn replay_task<'a>(
-    alloc: Global,
-    matches: &ArgMatches<'a>,
-) -> Result<Option<Task<'a>>, AllocError> {
-    let wanted = all_of(alloc, matches, "PATH")?;
-    let folders = all_of(alloc, matches, "DIR")?;
-    Ok(replay_words(matches, wanted, folders))
-}
-
-fn replay_words<'a>(
-    matches: &ArgMatches<'a>,
-    wanted: Vec<String>,
-    folders: Vec<String>,
-) -> Option<Task<'a>> {
-    Some(Task::Replay(Replay {
-        terms: terms(matches, wanted)?,
-        keep: matches.get_one::<usize>("keep")?,
-        folders,
+fn replay_task<'a>(alloc: Global, matches: &ArgMatches<'a>) -> Result<Task<'a>, Failure> {
+    Ok(Task::Replay(Replay {
+        terms: terms(alloc, matches)?,
+        keep: number(matches, "keep")?,
+        folders: all_of(alloc, matches, "DIR")?,
     }))
 }
 
 /// What both `verify` and `replay` name.
-fn terms<'a>(matches: &ArgMatches<'a>, wanted: Vec<String>) -> Option<Terms<'a>> {
-    Some(Terms {
-        state: matches.get_str("state")?,
+fn terms<'a>(alloc: Global, matches: &ArgMatches<'a>) -> Result<Terms<'a>, Failure> {
+    Ok(Terms {
+        state: word(matches, "state")?,
         moment: matches.get_str("now"),
-        limit: matches.get_one::<usize>("limit")?,
-        workers: matches.get_one::<usize>("workers")?,
-        out: matches.get_str("out")?,
-        wanted,
+        limit: number(matches, "limit")?,
+        workers: number(matches, "workers")?,
+        out: word(matches, "out")?,
+        wanted: all_of(alloc, matches, "PATH")?,
     })
+}
+
+/// The word of that name, which has to be there.
+fn word<'a>(matches: &ArgMatches<'a>, name: &str) -> Result<&'a str, Failure> {
+    matches.get_str(name).ok_or(Failure::Words)
+}
+
+/// The number of that name, which has to be there.
+fn number(matches: &ArgMatches<'_>, name: &str) -> Result<usize, Failure> {
+    matches.get_one::<usize>(name).ok_or(Failure::Words)
 }
 
 /// All words of that name, in order.

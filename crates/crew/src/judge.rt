@@ -100,9 +100,9 @@ impl<'a, P: Questions, K: Sitting> BoardJudge<'a, P, K> {
 /// Whether deciding it costs a digest. A text of another length than the key's signatures is
 /// refused without one.
 fn is_dear(ask: &Ask) -> bool {
-    match *ask {
-        Ask::Signature { public, sig, .. } => sig.len() / 2 == public.signature_len(),
-        Ask::Digest { .. } => true,
+    match ask {
+        Ask::Signature(ask) => ask.sig.len() / 2 == ask.public.signature_len(),
+        Ask::Digest(_) => true,
     }
 }
 

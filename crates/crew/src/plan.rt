@@ -12,7 +12,7 @@ use crate::mark::mark;
 use crate::signing::sign_all;
 use ahead::{Ahead, Digest, Document, Scope, digests, read_ahead, signers_of};
 use cjson::NoMemory;
-use keys::{Ask, Direct, Judge};
+use keys::{Ask, DigestAsk, Direct, Judge, SignatureAsk};
 use lms::Public;
 use meta::Repo;
 use rolechain::Trusted;
@@ -215,19 +215,19 @@ pub(crate) fn ask_of<'b>(documents: &'b [Document], planned: &'b Planned<'_>) ->
             public,
         } => {
             let document = &documents[*document];
-            Ask::Signature {
+            Ask::Signature(SignatureAsk {
                 file: document.file.as_str(),
                 place: *place,
                 public,
                 message: document.message.as_slice(),
                 sig: document.sigs[*place].as_str(),
-            }
+            })
         }
-        Planned::Digest(listed) => Ask::Digest {
+        Planned::Digest(listed) => Ask::Digest(DigestAsk {
             file: listed.file.as_str(),
             algorithm: listed.algorithm,
             bytes: listed.bytes,
             digest: listed.digest.as_slice(),
-        },
+        }),
     }
 }

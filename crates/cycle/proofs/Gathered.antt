@@ -13,7 +13,7 @@ use Rattle.examine.specs.Checks.{Files}
 use Rattle.moment.specs.Moment.{Moment}
 use Rattle.rolechain.specs.State.{State}
 use Rattle.cjson.specs.declared.fault.NoMemory.{NoMemory}
-use Rattle.deleg.specs.Accepted.{has_role}
+use Rattle.deleg.specs.Search.{has_role}
 use Rattle.deleg.specs.declared.accepted.Accepted.{Accepted}
 use Rattle.cycle.specs.Workflow.{Outcome, workflow, is_below, with_role, with_roles}
 use Rattle.cycle.specs.Gathered.{is_ascending, has, AreGathered, all_accepted}

@@ -1,8 +1,7 @@
 -- One cycle after another, each from the state of the one before.
 use Rattle.std.specs.Prelude.{ℕ, List, [], ◌∷◌, map, string_bytes}
 use Rattle.examine.specs.Expecting.{file_in}
-use Rattle.rolechain.specs.State.{State}
-use Rattle.cycle.specs.Workflow.{Outcome, workflow}
+use Rattle.cycle.specs.Workflow.{State, Outcome, workflow}
 use Rattle.cycle.specs.declared.round.Round.{Round}
 
 -- the outcome of one cycle from the state

@@ -1,13 +1,9 @@
 -- The accepted roles of a cycle, in words that know no order of searches.
 use Rattle.std.specs.Prelude.{◌≡◌, ℕ, ◌&&◌, ◌==◌, Bool, true, List, [], ◌∷◌, map, bytes_eq}
 use Rattle.std.specs.List.{list_all, list_any, flat_map}
-use Rattle.moment.specs.Moment.{Moment}
-use Rattle.examine.specs.Checks.{Files}
-use Rattle.rolechain.specs.State.{State}
 use Rattle.rolechain.specs.Advance.{advanced}
-use Rattle.deleg.specs.Accepted.{has_role}
-use Rattle.deleg.specs.declared.accepted.Accepted.{Accepted}
-use Rattle.cycle.specs.Workflow.{is_below, roles_in, searched}
+use Rattle.deleg.specs.Search.{has_role}
+use Rattle.cycle.specs.Workflow.{Moment, Files, State, Accepted, is_below, roles_in, searched}
 
 -- each name is below all behind it in byte order, so none stands twice
 abbrev pub is_ascending : List Accepted → Bool

@@ -12,7 +12,6 @@ use crate::outcome::Outcome;
 use crate::recall::Recall;
 use crate::round::Round;
 use crate::running::beside_workers;
-use crate::stats::Stats;
 use cjson::NoMemory;
 use crew::Gate;
 use memory::Cache;
@@ -25,20 +24,11 @@ use std::thread::Threads;
 
 /// Runs cycle after cycle, each from the trusted state of the one before, and remembers verdicts on
 /// signatures. What it remembers bears on no outcome: contracts see the trusted state alone.
+#[derive(Drop)]
 pub struct Keeper {
     alloc: Global,
     trusted: Trusted,
     memory: Recall,
-}
-
-impl Drop for Keeper {
-    fn drop(self) {
-        let Keeper {
-            alloc,
-            trusted,
-            memory,
-        } = self;
-    }
 }
 
 impl Model for Keeper {
@@ -102,7 +92,7 @@ impl Keeper {
             wanted,
             limits,
         };
-        let outcome = recalled(rt, &cycle, &mut self.memory, workers, gate)?;
+        let outcome = beside_workers(rt, &cycle, workers, gate, &mut self.memory)?;
         follow(&mut self.trusted, outcome)
     }
 
@@ -150,25 +140,4 @@ fn follow(trusted: &mut Trusted, outcome: Outcome) -> Result<Outcome, NoMemory>
     let next = outcome.trusted().copy()?;
     *trusted = next;
     Ok(outcome)
-}
-
-/// A cycle by what is remembered. Its counts take the cache's answers and the workers' together.
-fn recalled<R: Threads + Wait + Sync, G: Gate + Sync>(
-    rt: &R,
-    cycle: &Cycle,
-    memory: &mut Recall,
-    workers: usize,
-    gate: &G,
-) -> Result<Outcome, NoMemory>
-    requires { workers ≤ 64 }
-    ensures { IfOk result (λ o. o ≡ spec.workflow (file_in cycle.now.repo.now.metadata)
-        (file_in cycle.now.repo.now.targets) cycle.now.moment cycle.now.trusted.now
-        (map string_bytes cycle.now.wanted.now) cycle.now.limits.now.roles) }
-{
-    let outcome = beside_workers(rt, cycle, workers, gate, memory)?;
-    let stats = outcome.stats();
-    Ok(outcome.counted(Stats {
-        taken_over: stats.taken_over.saturating_add(memory.taken_over()),
-        ..stats
-    }))
 }

@@ -45,7 +45,7 @@ pub(crate) fn alone<T: Ordered>(task: &T, memory: &mut Recall) -> Result<Outcome
     let outcome = memory.in_order(task, &mut judge)?;
     Ok(outcome.counted(Stats {
         planned: 0,
-        taken_over: 0,
+        taken_over: memory.taken_over(),
         alone: judge.decided(),
     }))
 }
@@ -160,7 +160,7 @@ fn judged<T: Ordered, P: Questions, K: Sitting>(
     let (taken_over, alone) = judge.counts();
     let stats = Stats {
         planned: plan.count() as u64,
-        taken_over,
+        taken_over: taken_over.saturating_add(memory.taken_over()),
         alone,
     };
     let outcome = outcome.map(|outcome| outcome.counted(stats));

@@ -5,7 +5,7 @@ use Rattle.std.proofs.lemmas.List.{append_cancel_left}
 use Rattle.std.proofs.lemmas.Nat.{mod-pow-add, mod_below}
 use Rattle.std.proofs.lemmas.Str.{digit_value-digit_char}
 use Rattle.std.specs.Char.{digit_char, digit_value}
-use Rattle.meta.specs.Metadata.{Bins}
+use Rattle.meta.specs.declared.delegations.Bins.{Bins}
 use Rattle.deleg.specs.Bin.{hexadecimal, width, name_of}
 
 same_digit : (a b : ℕ) → a < 16 → b < 16 → digit_char a ≡ digit_char b → a ≡ b

@@ -7,26 +7,28 @@ use Rattle.meta.specs.declared.targets.Target.{Target}
 use Rattle.meta.specs.Part.{Part}
 use Rattle.examine.specs.Checks.{Files}
 use Rattle.rolechain.specs.State.{State}
-use Rattle.deleg.specs.Accepted.{Searched}
+use Rattle.examine.specs.Expecting.{file_in}
+use Rattle.deleg.specs.declared.accepted.Searched.{Searched}
 use Rattle.deleg.specs.declared.accepted.Accepted.{Accepted}
 use Rattle.deleg.specs.Edge.{Edge, edges, followed}
 use Rattle.deleg.specs.Search.{done, settled, walk, target_of, search_from, search_in}
-use Rattle.deleg.specs.Query.{Query, outlook, pending}
+use Rattle.deleg.specs.declared.query.Query.{Query}
+use Rattle.deleg.specs.Query.{outlook, pending}
 use Rattle.deleg.specs.declared.found.Found.TheVariants.{Listed}
 
-starts : (q : Query) (m : Targets) (files : List (List Edge)) → files ≡ edges m q.path ∷ [] → None ≡ target_of m q.path
-    → outlook q (pending q.path files) [] ≡ search_from q.files q.now q.top q.snap q.path q.most m
+starts : (q : Query) (m : Targets) (files : List (List Edge)) → files ≡ edges m q.path.now ∷ [] → None ≡ target_of m q.path.now
+    → outlook q (pending q.path.now files) [] ≡ search_from (file_in q.files.now) q.moment q.root.now q.snapshot.now q.path.now q.limit m
 unfolding outlook
 starts q m files e none =
-    ap (λ (fs : List (List Edge)). settled (walk q.files q.now q.top q.snap q.path q.most (pending q.path fs) [])) e
-    ∙ ap (λ (o : Option Target). settled (option_map_or (λ t. done (Some (Listed (codes "targets") t (length {A = Accepted} [] + 1))) []) o (walk q.files q.now q.top q.snap q.path q.most (followed m q.path) []))) none
+    ap (λ (fs : List (List Edge)). settled (walk (file_in q.files.now) q.moment q.root.now q.snapshot.now q.path.now q.limit (pending q.path.now fs) [])) e
+    ∙ ap (λ (o : Option Target). settled (option_map_or (λ t. done (Some (Listed (codes "targets") t (length {A = Accepted} [] + 1))) []) o (walk (file_in q.files.now) q.moment q.root.now q.snapshot.now q.path.now q.limit (followed m q.path.now) []))) none
 
 along : {E : Type 0} (r : Result Searched E) (a b : Searched) → a ≡ b → IfOk r (λ s. s ≡ a) → IfOk r (λ s. s ≡ b)
 along (Ok s) a b e h = h ∙ e
 along (Err x) a b e h = h
 
-pub starts_from : {E : Type 0} (q : Query) (m : Targets) (files : List (List Edge)) (r : Result Searched E) → files ≡ edges m q.path ∷ [] → None ≡ target_of m q.path
-    → IfOk r (λ s. s ≡ outlook q (pending q.path files) []) → IfOk r (λ s. s ≡ search_from q.files q.now q.top q.snap q.path q.most m)
+pub starts_from : {E : Type 0} (q : Query) (m : Targets) (files : List (List Edge)) (r : Result Searched E) → files ≡ edges m q.path.now ∷ [] → None ≡ target_of m q.path.now
+    → IfOk r (λ s. s ≡ outlook q (pending q.path.now files) []) → IfOk r (λ s. s ≡ search_from (file_in q.files.now) q.moment q.root.now q.snapshot.now q.path.now q.limit m)
 starts_from q m files r e none h = along r _ _ (starts q m files e none) h
 
 in_state : (files : Files) (now : Moment) (t : State) (path : List ℕ) (most : ℕ) (top : Root) (snap : Part Snapshot) (m : Part Targets) → top ≡ t.root.reading → Some snap ≡ t.snapshot → Some m ≡ t.targets

@@ -29,7 +29,7 @@ walk_by-keeps : (by : Edge → List Accepted → Visited) → ((e : Edge) (s : L
 walk_by-keeps by k [] seen s h = h
 walk_by-keeps by k (e ∷ es) seen s h =
     let first : length s ≤ length (by e s).accepted = k e s in
-    go_on-keeps seen e.to.terminating (walk_by by es) (by e s).found (by e s).accepted (omega arith) (λ u more. walk_by-keeps by k es seen u more)
+    go_on-keeps seen e.terminating (walk_by by es) (by e s).found (by e s).accepted (omega arith) (λ u more. walk_by-keeps by k es seen u more)
 
 -- ---- two walks whose visits agree
 
@@ -44,7 +44,7 @@ walk_by-same : (by by' : Edge → List Accepted → Visited) (n : ℕ) → ((e :
 walk_by-same by by' n k agree [] s h = refl
 walk_by-same by by' n k agree (e ∷ es) s h =
     let first : length s ≤ length (by e s).accepted = k e s in
-    go_on-same e.to.terminating (walk_by by es) (walk_by by' es) (by e s).found (by e s).accepted (walk_by-same by by' n k agree es (by e s).accepted (omega arith))
+    go_on-same e.terminating (walk_by by es) (walk_by by' es) (by e s).found (by e s).accepted (walk_by-same by by' n k agree es (by e s).accepted (omega arith))
     ∙ ap (λ v. and_then e (walk_by by' es) v) (agree e s h)
 
 -- ---- a walk over two lists
@@ -58,7 +58,7 @@ go_on-go_on false r r' q None t h = h
 walk_by-append : (by : Edge → List Accepted → Visited) (es fs : List Edge) (s : List Accepted) → walk_by by (es ++ fs) s ≡ go_on false (walk_by by fs) (walk_by by es s).found (walk_by by es s).accepted
 walk_by-append by [] fs s = refl
 walk_by-append by (e ∷ es) fs s =
-    go_on-go_on e.to.terminating (walk_by by (es ++ fs)) (walk_by by es) (walk_by by fs) (by e s).found (by e s).accepted (walk_by-append by es fs (by e s).accepted)
+    go_on-go_on e.terminating (walk_by by (es ++ fs)) (walk_by by es) (walk_by by fs) (by e s).found (by e s).accepted (walk_by-append by es fs (by e s).accepted)
 
 settled-terminating : (r : List Accepted → Visited) (o : Option Found) (t : List Accepted) → settled (go_on true r o t) ≡ settled (done o t)
 settled-terminating r (Some f) t = refl
@@ -90,9 +90,9 @@ module _ (files : Files) (now : Moment) (top : Root) (snap : Snapshot) (path : L
       option-keeps s (target_of p.reading path) _ _ (λ t. more) (omega arith)
 
   at-keeps : (d : ℕ) (e : Edge) (s : List Accepted) → Keeps s (at d e s)
-  at-keeps zero e s = cond-keeps s (is_visited s e.to.name) _ _ (omega arith) (omega arith)
+  at-keeps zero e s = cond-keeps s (is_visited s e.name) _ _ (omega arith) (omega arith)
   at-keeps (suc d) e s =
-      cond-keeps s (is_visited s e.to.name) _ _ (omega arith)
+      cond-keeps s (is_visited s e.name) _ _ (omega arith)
       (cond-keeps s (nat_le most (length s + 1)) _ _ (omega arith)
       (enter-keeps (walk_by (at d)) (λ es u. walk_by-keeps (at d) (at-keeps d) es u u (omega arith)) e s (looked e)))
 
@@ -102,7 +102,7 @@ module _ (files : Files) (now : Moment) (top : Root) (snap : Snapshot) (path : L
   enter-same by by' e s h (Err fault) = refl
   enter-same by by' e s h (Ok p) =
       let more : length (accepting e p s) ≡ length s + 1 = omega (arith, length-append {A = Accepted}) in
-      ap (λ (v : Visited). option_map_or (λ t. done (Some (Listed e.to.name t (length (accepting e p s) + 1))) (accepting e p s)) (target_of p.reading path) v) (h (followed p.reading path) (accepting e p s) more)
+      ap (λ (v : Visited). option_map_or (λ t. done (Some (Listed e.name t (length (accepting e p s) + 1))) (accepting e p s)) (target_of p.reading path) v) (h (followed p.reading path) (accepting e p s) more)
 
   -- the depth doesn't matter, where it reaches the limit
   deep_enough : (d : ℕ) (e : Edge) (s : List Accepted) → most ≤ length s + suc d → at d e s ≡ at (suc d) e s
@@ -110,7 +110,7 @@ module _ (files : Files) (now : Moment) (top : Root) (snap : Snapshot) (path : L
       let full : nat_le most (length s + 1) ≡ true = le-leb most (length s + 1) (omega arith) in
       rw full refl
   deep_enough (suc d) e s h =
-      ap (λ (v : Visited). cond (is_visited s e.to.name) (done None s) (cond (nat_le most (length s + 1)) (done (Some LimitReached) s) v))
+      ap (λ (v : Visited). cond (is_visited s e.name) (done None s) (cond (nat_le most (length s + 1)) (done (Some LimitReached) s) v))
       (enter-same (walk_by (at d)) (walk_by (at (suc d))) e s
       (λ es u more. walk_by-same (at d) (at (suc d)) (length s + 1) (at-keeps d) (λ f t q. deep_enough d f t (omega arith)) es u (omega arith)) (looked e))
 
@@ -125,33 +125,33 @@ module _ (files : Files) (now : Moment) (top : Root) (snap : Snapshot) (path : L
   -- the equations of the search, with no depth
   pub preorder : IsPreorder files now top snap path most
   preorder e s =
-      ap (λ (v : Visited). cond (is_visited s e.to.name) (done None s) (cond (nat_le most (length s + 1)) (done (Some LimitReached) s) v))
+      ap (λ (v : Visited). cond (is_visited s e.name) (done None s) (cond (nat_le most (length s + 1)) (done (Some LimitReached) s) v))
       (enter-same (walk_by (at most)) on e s (λ es u more. below_same es u) (looked e))
 
   -- what is pending after a delegation that was tried
   abbrev pub left : Edge → List Edge → List Edge
-  left e es = cond e.to.terminating [] es
+  left e es = cond e.terminating [] es
 
   -- a role that was visited
-  pub walk-skips : (e : Edge) (es : List Edge) (s : List Accepted) → is_visited s e.to.name ≡ true → on (e ∷ es) s ≡ cond e.to.terminating (done (Some NotFound) s) (on es s)
+  pub walk-skips : (e : Edge) (es : List Edge) (s : List Accepted) → is_visited s e.name ≡ true → on (e ∷ es) s ≡ cond e.terminating (done (Some NotFound) s) (on es s)
   walk-skips e es s h = rw h refl
 
   -- as many roles as are allowed
-  pub walk-stops : (e : Edge) (es : List Edge) (s : List Accepted) → is_visited s e.to.name ≡ false → most ≤ length s + 1 → on (e ∷ es) s ≡ done (Some LimitReached) s
+  pub walk-stops : (e : Edge) (es : List Edge) (s : List Accepted) → is_visited s e.name ≡ false → most ≤ length s + 1 → on (e ∷ es) s ≡ done (Some LimitReached) s
   walk-stops e es s h full = let f : nat_le most (length s + 1) ≡ true = le-leb most (length s + 1) full in rw (h, f) refl
 
   -- a role that is checked
-  checked : (e : Edge) (s : List Accepted) → is_visited s e.to.name ≡ false → length s + 1 < most → at (suc most) e s ≡ entered path (walk_by (at most)) e s (looked e)
+  checked : (e : Edge) (s : List Accepted) → is_visited s e.name ≡ false → length s + 1 < most → at (suc most) e s ≡ entered path (walk_by (at most)) e s (looked e)
   checked e s h room = let f : nat_le most (length s + 1) ≡ false = lt-leb most (length s + 1) room in rw (h, f) refl
 
-  pub walk-refused : (e : Edge) (es : List Edge) (s : List Accepted) (fault : Fault) → is_visited s e.to.name ≡ false → length s + 1 < most → looked e ≡ Err fault
-      → on (e ∷ es) s ≡ done (Some (RoleRefused e.to.name fault)) s
+  pub walk-refused : (e : Edge) (es : List Edge) (s : List Accepted) (fault : Fault) → is_visited s e.name ≡ false → length s + 1 < most → looked e ≡ Err fault
+      → on (e ∷ es) s ≡ done (Some (RoleRefused e.name fault)) s
   walk-refused e es s fault h room r = ap (λ (v : Visited). and_then e (on es) v) (checked e s h room ∙ ap (entered path (walk_by (at most)) e s) r)
 
-  pub walk-finds : (e : Edge) (es : List Edge) (s : List Accepted) (p : Part Targets) (t : Target) → is_visited s e.to.name ≡ false → length s + 1 < most → looked e ≡ Ok p → target_of p.reading path ≡ Some t
-      → on (e ∷ es) s ≡ done (Some (Listed e.to.name t (length (accepting e p s) + 1))) (accepting e p s)
+  pub walk-finds : (e : Edge) (es : List Edge) (s : List Accepted) (p : Part Targets) (t : Target) → is_visited s e.name ≡ false → length s + 1 < most → looked e ≡ Ok p → target_of p.reading path ≡ Some t
+      → on (e ∷ es) s ≡ done (Some (Listed e.name t (length (accepting e p s) + 1))) (accepting e p s)
   walk-finds e es s p t h room r lists =
-      let below : at (suc most) e s ≡ done (Some (Listed e.to.name t (length (accepting e p s) + 1))) (accepting e p s) =
+      let below : at (suc most) e s ≡ done (Some (Listed e.name t (length (accepting e p s) + 1))) (accepting e p s) =
       checked e s h room ∙ ap (entered path (walk_by (at most)) e s) r ∙ rw lists refl in
       ap (λ (v : Visited). and_then e (on es) v) below
 
@@ -160,9 +160,9 @@ module _ (files : Files) (now : Moment) (top : Root) (snap : Snapshot) (path : L
   joined false es fs u = ap settled (sym (walk_by-append (at (suc most)) fs es u))
 
   -- a role that is accepted and doesn't list the path: its own delegations come first
-  pub walk-descends : (e : Edge) (es : List Edge) (s : List Accepted) (p : Part Targets) → is_visited s e.to.name ≡ false → length s + 1 < most → looked e ≡ Ok p → target_of p.reading path ≡ None
+  pub walk-descends : (e : Edge) (es : List Edge) (s : List Accepted) (p : Part Targets) → is_visited s e.name ≡ false → length s + 1 < most → looked e ≡ Ok p → target_of p.reading path ≡ None
       → settled (on (e ∷ es) s) ≡ settled (on (followed p.reading path ++ left e es) (accepting e p s))
   walk-descends e es s p h room r lists =
       let below : at (suc most) e s ≡ on (followed p.reading path) (accepting e p s) =
       checked e s h room ∙ ap (entered path (walk_by (at most)) e s) r ∙ rw lists (below_same (followed p.reading path) (accepting e p s)) in
-      ap (λ (v : Visited). settled (and_then e (on es) v)) below ∙ joined e.to.terminating es (followed p.reading path) (accepting e p s)
+      ap (λ (v : Visited). settled (and_then e (on es) v)) below ∙ joined e.terminating es (followed p.reading path) (accepting e p s)

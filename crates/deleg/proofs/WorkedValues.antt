@@ -3,8 +3,10 @@ use Rattle.std.proofs.Common.{◌≡◌, ℕ, true, false, Bool, List, [], ◌�
 use Rattle.std.specs.Str.{chars}
 use Rattle.keys.specs.declared.role_keys.RoleKeys.{RoleKeys}
 use Rattle.moment.specs.Moment.{Moment}
-use Rattle.meta.specs.Metadata as metadata
-use Rattle.meta.specs.Metadata.{Delegation, Root, Snapshot, Targets, patterns}
+use Rattle.meta.specs.Metadata.{Root, Snapshot, Targets}
+use Rattle.meta.specs.declared.delegation.Paths.TheVariants.{Patterns}
+use Rattle.meta.specs.declared.delegation.Delegation.{Delegation}
+use Rattle.meta.specs.declared.delegations.Roles.TheVariants as variant
 use Rattle.meta.specs.declared.hashes.Hashes.{Hashes}
 use Rattle.meta.specs.declared.targets.Target.{Target}
 use Rattle.meta.specs.declared.header.Header.{Header}
@@ -69,7 +71,7 @@ module _ (files : Files) (now moment : Moment) (top : Root) (keys : RoleKeys) (h
   snapshot = record { header = head; files = [] }
 
   abbrev to : List ℕ → List ℕ → Bool → Delegation
-  to name pattern terminating = record { name = name; keys = keys; terminating = terminating; matcher = patterns (pattern ∷ []) }
+  to name pattern terminating = record { name = name; keys = keys; terminating = terminating; paths = Patterns (pattern ∷ []) }
 
   abbrev path : List ℕ
   path = codes "x/1"
@@ -78,7 +80,7 @@ module _ (files : Files) (now moment : Moment) (top : Root) (keys : RoleKeys) (h
   listing = record { path = path; length = 1; hashes = hashes }
 
   abbrev file : List Target → List Delegation → Targets
-  file targets roles = record { header = head; targets = targets; delegations = Some (record { ring = []; roles = metadata.listed roles }) }
+  file targets roles = record { header = head; targets = targets; delegations = Some (record { ring = []; roles = variant.Listed roles }) }
 
   -- the top-level role lists the path
   listed : search_from files now top snapshot path 1 (file (listing ∷ []) []) ≡ record { found = Listed (codes "targets") listing 1; accepted = [] }

@@ -3,7 +3,7 @@ use Rattle.std.specs.Prelude.{ℕ, zero, suc, ◌+◌, ◌-◌, ◌*◌, ◌^◌
 use Rattle.std.specs.Char.{digit_char}
 use Rattle.std.specs.Int.{w32, from_be_bytes}
 use Rattle.sha2.specs.Sha256.{sha256}
-use Rattle.meta.specs.Metadata.{Bins}
+pub use Rattle.meta.specs.declared.delegations.Bins.{Bins}
 
 -- the number that the first bits of a digest are
 abbrev pub first_bits : ℕ → List ℕ → ℕ

@@ -1,10 +1,8 @@
 pub mod Pattern
 pub mod Prefix
 pub mod Remainder
-pub mod Accepted
 pub mod Bin
 pub mod Edge
 pub mod Search
 pub mod Query
-pub mod Binned
 pub mod Values

@@ -1,26 +1,14 @@
 -- A search that is under way.
 use Rattle.std.specs.Prelude.{◌≡◌, ℕ, ◌+◌, ◌<◌, ◌&&◌, ◌||◌, not, if◌then◌else◌, List, [], ◌∷◌, ◌++◌, length, filter, Bool, true, false}
-use Rattle.moment.specs.Moment.{Moment}
-use Rattle.meta.specs.Metadata.{Root, Snapshot}
-use Rattle.examine.specs.Checks.{Files}
-use Rattle.deleg.specs.Accepted.{Searched}
-use Rattle.deleg.specs.declared.accepted.Accepted.{Accepted}
-use Rattle.deleg.specs.Edge.{Edge, is_for}
-use Rattle.deleg.specs.Search.{walk, settled, is_visited}
-use Rattle.deleg.specs.declared.found.Found.{Found}
-
--- what is looked for, and where; `most` is how many roles may be visited
-pub record Query : Type 0 where
-  pub files : Files
-  pub now : Moment
-  pub top : Root
-  pub snap : Snapshot
-  pub path : List ℕ
-  pub most : ℕ
+use Rattle.examine.specs.Expecting.{file_in}
+use Rattle.deleg.specs.Edge.{is_for}
+use Rattle.deleg.specs.Search.{Edge, Searched, Accepted, walk, settled, is_visited, Found}
+use Rattle.deleg.specs.declared.query.Query.{Query}
 
 -- what the search gives, where these delegations are pending and these roles were accepted
 unfoldable pub outlook : Query → List Edge → List Accepted → Searched
-outlook q es seen = settled (walk q.files q.now q.top q.snap q.path q.most es seen)
+outlook q es seen =
+    settled (walk (file_in q.files.now) q.moment q.root.now q.snapshot.now q.path.now q.limit es seen)
 
 -- the pending delegations of each file, the last file's first
 abbrev pub pending : List ℕ → List (List Edge) → List Edge
@@ -33,7 +21,7 @@ pending_with path es files = filter (is_for path) es ++ pending path files
 
 -- not for the path, or to a role that was visited with others to be tried after it
 abbrev pub is_passed : List ℕ → List Accepted → Edge → Bool
-is_passed path seen e = not (is_for path e) || (is_visited seen e.to.name && not e.to.terminating)
+is_passed path seen e = not (is_for path e) || (is_visited seen e.name && not e.terminating)
 
 abbrev pub starts_passed : List ℕ → List Accepted → List Edge → Bool
 starts_passed path seen [] = false
@@ -48,13 +36,13 @@ after_passed path seen (e ∷ es) =
 -- the first one is for the path, and its role wasn't visited
 abbrev pub IsNext : List ℕ → List Accepted → List Edge → Type 0
 IsNext path seen [] = ⊥
-IsNext path seen (e ∷ es) = (is_for path e ≡ true) × (is_visited seen e.to.name ≡ false)
+IsNext path seen (e ∷ es) = (is_for path e ≡ true) × (is_visited seen e.name ≡ false)
 
 -- the search goes on with other pending delegations, and with one more role accepted
 abbrev pub GoesOn : Query → List Edge → List Accepted → List Edge → List Accepted → Type 0
 GoesOn q es seen es' seen' =
     (outlook q es seen ≡ outlook q es' seen')
-    × (length seen' ≡ length seen + 1) × (length seen' < q.most)
+    × (length seen' ≡ length seen + 1) × (length seen' < q.limit)
 
 abbrev pub Ends : Query → List Edge → List Accepted → Found → List Accepted → Type 0
 Ends q es seen found seen' = outlook q es seen ≡ record { found = found; accepted = seen' }

@@ -1,18 +1,14 @@
 -- The search for a path through delegations, in preorder (TUF 1.0 section 5.6.7).
 use Rattle.std.specs.Prelude.{◌≡◌, ℕ, zero, suc, ◌+◌, ◌||◌, nat_le, if◌then◌else◌, List, [], ◌∷◌, ◌++◌, length, find, Bool, Option, Some, None, option_map, option_and_then, unwrap_or, bytes_eq, codes, Result, Ok, Err}
 use Rattle.std.specs.Option.{option_map_or}
-use Rattle.moment.specs.Moment.{Moment}
-use Rattle.meta.specs.Metadata.{Root, Snapshot, Targets}
-use Rattle.meta.specs.declared.targets.Target.{Target}
-use Rattle.meta.specs.Part.{Part}
-use Rattle.meta.specs.declared.fault.Fault.{Fault}
-use Rattle.examine.specs.Checks.{Files, targets_part}
+use Rattle.std.specs.List.{list_any}
+pub use Rattle.examine.specs.Checks.{Moment, Root, Snapshot, Targets, Target, Part, Fault, Files, targets_part}
 use Rattle.rolechain.specs.Expected.{next_targets}
-use Rattle.rolechain.specs.State.{State}
-use Rattle.deleg.specs.Accepted.{Searched, has_role}
-use Rattle.deleg.specs.declared.accepted.Accepted.{Accepted}
-use Rattle.deleg.specs.Edge.{Edge, followed}
-use Rattle.deleg.specs.declared.found.Found.{Found}
+pub use Rattle.rolechain.specs.State.{State}
+pub use Rattle.deleg.specs.declared.accepted.Searched.{Searched}
+pub use Rattle.deleg.specs.declared.accepted.Accepted.{Accepted}
+pub use Rattle.deleg.specs.Edge.{Edge, followed}
+pub use Rattle.deleg.specs.declared.found.Found.{Found}
 use Rattle.deleg.specs.declared.found.Found.TheVariants.{Listed, NotFound, LimitReached, RoleRefused}
 
 -- what came of a visit or a walk, or None where the search goes on; and the delegated roles that
@@ -27,6 +23,10 @@ done found seen = record { found = found; accepted = seen }
 abbrev pub target_of : Targets → List ℕ → Option Target
 target_of m path = find (λ t. bytes_eq t.path path) m.targets
 
+-- the role is among those that were accepted
+abbrev pub has_role : List Accepted → List ℕ → Bool
+has_role accepted role = list_any (λ a. bytes_eq a.role role) accepted
+
 -- the top-level role is visited first
 abbrev pub is_visited : List Accepted → List ℕ → Bool
 is_visited seen role = bytes_eq role (codes "targets") || has_role seen role
@@ -39,7 +39,7 @@ go_on terminating rest (Some found) seen = done (Some found) seen
 go_on terminating rest None seen = if terminating then done (Some NotFound) seen else rest seen
 
 abbrev pub and_then : Edge → (List Accepted → Visited) → Visited → Visited
-and_then e rest v = go_on e.to.terminating rest v.found v.accepted
+and_then e rest v = go_on e.terminating rest v.found v.accepted
 
 abbrev pub walk_by : (Edge → List Accepted → Visited) → List Edge → List Accepted → Visited
 walk_by visit [] seen = done None seen
@@ -55,18 +55,18 @@ in_file path walk role m seen =
     (target_of m path) (walk (followed m path) seen)
 
 abbrev pub accepting : Edge → Part Targets → List Accepted → List Accepted
-accepting e p seen = seen ++ record { role = e.to.name; version = p.reading.header.version } ∷ []
+accepting e p seen = seen ++ record { role = e.name; version = p.reading.header.version } ∷ []
 
 -- a role is entered where its file is accepted
 abbrev pub entered : List ℕ → (List Edge → List Accepted → Visited) → Edge → List Accepted
     → Result (Part Targets) Fault → Visited
-entered path walk e seen (Err fault) = done (Some (RoleRefused e.to.name fault)) seen
-entered path walk e seen (Ok p) = in_file path walk e.to.name p.reading (accepting e p seen)
+entered path walk e seen (Err fault) = done (Some (RoleRefused e.name fault)) seen
+entered path walk e seen (Ok p) = in_file path walk e.name p.reading (accepting e p seen)
 
 -- the role's file, by the keys and the threshold of the delegation that is followed
 abbrev pub examined : Files → Moment → Root → Snapshot → Edge → Result (Part Targets) Fault
 examined files now top snap e =
-    targets_part (next_targets top snap e.to.name e.ring e.to.keys) files now
+    targets_part (next_targets top snap e.name e.ring e.keys) files now
 
 -- ---- the search
 
@@ -81,9 +81,9 @@ module _ (files : Files) (now : Moment) (top : Root) (snap : Snapshot)
   -- reaches the bound.
   abbrev pub visit : ℕ → Edge → List Accepted → Visited
   visit zero e seen =
-      if is_visited seen e.to.name then done None seen else done (Some LimitReached) seen
+      if is_visited seen e.name then done None seen else done (Some LimitReached) seen
   visit (suc depth) e seen =
-      if is_visited seen e.to.name then done None seen
+      if is_visited seen e.name then done None seen
       else if nat_le most (length seen + 1) then done (Some LimitReached) seen
       else entered path (walk_by (visit depth)) e seen (examined files now top snap e)
 
@@ -95,7 +95,7 @@ module _ (files : Files) (now : Moment) (top : Root) (snap : Snapshot)
   -- its file and then below it.
   abbrev pub IsPreorder : Type 0
   IsPreorder = (e : Edge) (seen : List Accepted) → visit (suc most) e seen
-      ≡ (if is_visited seen e.to.name then done None seen
+      ≡ (if is_visited seen e.name then done None seen
       else if nat_le most (length seen + 1) then done (Some LimitReached) seen
       else entered path walk e seen (examined files now top snap e))
 

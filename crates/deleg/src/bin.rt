@@ -19,9 +19,10 @@ pub fn bin_name(alloc: Global, bins: &Bins, path: &str) -> Result<String, NoMemo
     ensures apart { (n m : ℕ) → n < 2 ^ bins.now.bits → m < 2 ^ bins.now.bits
         → spec.name_of bins.now n ≡ spec.name_of bins.now m → n ≡ m }
 {
-    let mut name = String::from_str(alloc, bins.prefix())?;
+    let bits = bins.bits.get() as u32;
+    let mut name = String::from_str(alloc, bins.prefix.as_str())?;
     name.push('-')?;
-    push_number(&mut name, first_bits(bins.bits(), path), width(bins.bits()))?;
+    push_number(&mut name, first_bits(bits, path), width(bits))?;
     Ok(name)
 }
 

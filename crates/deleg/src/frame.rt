@@ -16,26 +16,20 @@ use std::marker::Model;
 
 /// A targets file, the name of the bin of the path that is searched for, and how many of the file's
 /// delegations were tried; seen as those that are left.
+#[derive(Drop)]
 pub(crate) struct Frame {
     file: Part<Targets>,
     bin: Text,
     tried: usize,
 }
 
-impl Drop for Frame {
-    fn drop(self) {
-        let Frame { file, bin, tried } = self;
-    }
-}
-
 impl Model for Frame {
     ghost use Rattle.std.specs.Prelude.{List, drop};
     ghost use Rattle.deleg.specs.Edge as spec;
-    ghost use Rattle.deleg.specs.Binned.{edges_by};
 
     ghost Value = { List spec.Edge };
 
-    ghost view = { λ f. drop f.tried (edges_by f.bin f.file.reading) };
+    ghost view = { λ f. drop f.tried (spec.edges_by f.bin f.file.reading) };
 }
 
 impl Frame {

@@ -15,7 +15,7 @@ mod walk;
 
 pub use accepted::{Accepted, Searched};
 pub use bin::bin_name;
-pub use edge::{Edge, edge_at, is_matched};
+pub use edge::{Edge, bin_of, edge_at, edge_count, is_for};
 pub use found::Found;
 pub use pattern::matches;
 pub use prefix::prefix_matches;

@@ -3,7 +3,6 @@
 ghost use Rattle.std.specs.Prelude.{◌≡◌, option_map};
 ghost use Rattle.meta.specs.Answers.{Answers};
 ghost use Rattle.examine.specs.Expecting.{file_in};
-ghost use Rattle.deleg.specs.Accepted.{has_role};
 ghost use Rattle.deleg.specs.Search as spec;
 ghost use Rattle.deleg.specs.Values.{edge_of};
 
@@ -68,7 +67,7 @@ pub(crate) fn is_visited(seen: &[Accepted], role: &str) -> bool
 
 /// Whether the role is among those that were accepted.
 pub fn has_role(accepted: &[Accepted], role: &str) -> bool
-    ensures test { result ≡ has_role accepted.now role.now }
+    ensures test { result ≡ spec.has_role accepted.now role.now }
 {
     accepted.iter().any(|one| one.role.as_str() == role)
 }

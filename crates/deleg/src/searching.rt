@@ -5,7 +5,6 @@ ghost use Rattle.meta.specs.Metadata.{Snapshot};
 ghost use Rattle.examine.specs.Expecting.{file_in};
 ghost use Rattle.rolechain.specs.State.{is_ready};
 ghost use Rattle.deleg.specs.Search as spec;
-ghost use Rattle.deleg.specs.Values.{quest_of};
 
 use crate::accepted::Searched;
 use crate::found::Found;
@@ -13,6 +12,7 @@ use crate::frame::Frame;
 use crate::query::{Query, target_of};
 use crate::walk::walk;
 use cjson::NoMemory;
+use cjson::list::Items;
 use cjson::text::Text;
 use keys::Judge;
 use meta::{Moment, Part, Repo, Targets};
@@ -67,9 +67,8 @@ fn search_from<J: Judge>(
     targets: &Part<Targets>,
     judge: &mut J,
 ) -> Result<Searched, NoMemory>
-    ensures { let q = quest_of query.now in
-        IfOk result (λ s.
-        s ≡ spec.search_from q.files q.now q.top q.snap q.path q.most targets.now.reading) }
+    ensures { let q = query.now in IfOk result (λ s. s ≡ spec.search_from (file_in q.files.now)
+        q.moment q.root.now q.snapshot.now q.path.now q.limit targets.now.reading) }
 {
     if let Some(target) = target_of(targets.reading(), query.path) {
         let role = Text::new(String::from_str(query.alloc, "targets")?);
@@ -78,7 +77,8 @@ fn search_from<J: Judge>(
             target: target.copy(query.alloc)?,
             visited: 1,
         };
-        return Ok(Searched::new(found, Vec::new(query.alloc)));
+        let accepted = Items::new(Vec::new(query.alloc));
+        return Ok(Searched { found, accepted });
     }
     let mut stack = Vec::new(query.alloc);
     stack.push(Frame::of(query.alloc, targets.copy()?, query.path)?)?;

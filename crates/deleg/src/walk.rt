@@ -4,7 +4,6 @@ ghost use Rattle.std.specs.Prelude.{◌≡◌, ◌+◌, ◌<◌, ◌∷◌, ◌+
 ghost use Rattle.std.specs.Prelude.{if◌then◌else◌, IfOk, IfSome, IfNone};
 ghost use Rattle.deleg.specs.Query as spec;
 ghost use Rattle.deleg.specs.Search.{target_of as listed_in};
-ghost use Rattle.deleg.specs.Values.{quest_of};
 ghost use Rattle.deleg.specs.declared.found.Found.TheVariants as found;
 
 use crate::accepted::{Accepted, Searched};
@@ -12,6 +11,7 @@ use crate::found::Found;
 use crate::frame::Frame;
 use crate::query::{Query, examine, is_visited, target_of};
 use cjson::NoMemory;
+use cjson::list::Items;
 use cjson::text::Text;
 use keys::Judge;
 use meta::{Part, Stop, Targets};
@@ -23,28 +23,31 @@ pub(crate) fn walk<J: Judge>(
     judge: &mut J,
 ) -> Result<Searched, NoMemory>
     ensures { IfOk result (λ s.
-        s ≡ spec.outlook (quest_of query.now)
-        (spec.pending query.now.path.now stack.items) []) }
+        s ≡ spec.outlook query.now (spec.pending query.now.path.now stack.items) []) }
 {
     let mut seen = Vec::new(query.alloc);
     while let Some(frame) = next_frame(query, &mut stack, seen.as_slice()) {
         if let Some(found) = visit(query, frame, &mut stack, &mut seen, judge)? {
-            return Ok(Searched::new(found, seen));
+            let accepted = Items::new(seen);
+            return Ok(Searched { found, accepted });
         }
     }
-    Ok(Searched::new(Found::NotFound, seen))
+    Ok(Searched {
+        found: Found::NotFound,
+        accepted: Items::new(seen),
+    })
 }
 
 /// Takes the last file that has a delegation to visit, up to that delegation; None where no more is
 /// tried.
 fn next_frame(query: &Query, stack: &mut Vec<Frame>, seen: &[Accepted]) -> Option<Frame>
-    ensures none { let q = quest_of query.now in
-        IfNone result (spec.Ends q (spec.pending q.path stack.old.items) seen.now found.NotFound
+    ensures none { let q = query.now in
+        IfNone result (spec.Ends q (spec.pending q.path.now stack.old.items) seen.now found.NotFound
         seen.now) }
     ensures next { IfSome result (spec.IsNext query.now.path.now seen.now) }
-    ensures same { let q = quest_of query.now in
-        IfSome result (λ f. spec.outlook q (spec.pending q.path stack.old.items) seen.now
-        ≡ spec.outlook q (spec.pending_with q.path f stack.new.items) seen.now) }
+    ensures same { let q = query.now in
+        IfSome result (λ f. spec.outlook q (spec.pending q.path.now stack.old.items) seen.now
+        ≡ spec.outlook q (spec.pending_with q.path.now f stack.new.items) seen.now) }
 {
     while let Some(mut frame) = stack.pop() {
         frame.pass(query.path, seen);
@@ -69,13 +72,13 @@ fn visit<J: Judge>(
     judge: &mut J,
 ) -> Result<Option<Found>, NoMemory>
     requires { spec.IsNext query.now.path.now seen.old.items frame }
-    ensures goes_on { let q = quest_of query.now in
+    ensures goes_on { let q = query.now in
         IfOk result (λ o. IfNone o (spec.GoesOn q
-        (spec.pending_with q.path frame stack.old.items) seen.old.items
-        (spec.pending q.path stack.new.items) seen.new.items)) }
-    ensures ends { let q = quest_of query.now in
+        (spec.pending_with q.path.now frame stack.old.items) seen.old.items
+        (spec.pending q.path.now stack.new.items) seen.new.items)) }
+    ensures ends { let q = query.now in
         IfOk result (λ o. IfSome o (λ f. spec.Ends q
-        (spec.pending_with q.path frame stack.old.items) seen.old.items f seen.new.items)) }
+        (spec.pending_with q.path.now frame stack.old.items) seen.old.items f seen.new.items)) }
 {
     if seen.len() >= query.limit.saturating_sub(1) {
         return Ok(Some(Found::LimitReached));

@@ -1,36 +1,30 @@
 -- The checks of one file, in order (TUF 1.0 sections 5.3 to 5.6): the first that fails is the
 -- answer.
-use Rattle.std.specs.Prelude.{ℕ, ◌&&◌, ◌||◌, ◌==◌, nat_lt, nat_le, not, if◌then◌else◌, List, [], ◌∷◌, Bool, true, false, Option, Some, None, Result, Ok, ⊤, bytes_eq}
+use Rattle.std.specs.Prelude.{ℕ, ◌&&◌, ◌||◌, ◌==◌, nat_lt, nat_le, not, if◌then◌else◌, List, [], ◌∷◌, Bool, true, false, Option, Some, None, option_map, option_and_then, Result, Ok, ⊤, bytes_eq}
 use Rattle.std.specs.List.{list_any, list_all}
 use Rattle.std.specs.Option.{option_map_or}
-use Rattle.keys.specs.declared.key.Key.{Key}
-use Rattle.keys.specs.declared.role_keys.RoleKeys.{RoleKeys}
 use Rattle.keys.specs.Signers.{is_met}
 use Rattle.cjson.specs.Checks.{◌>>=◌, refuse_if, or_refuse}
-use Rattle.cjson.specs.Document.{Document}
-use Rattle.moment.specs.Moment.{Moment, is_before}
-use Rattle.meta.specs.Metadata.{Root, Timestamp, Snapshot, Targets}
+use Rattle.moment.specs.Moment.{is_before}
+pub use Rattle.meta.specs.Metadata.{Moment, Key, RoleKeys, Form, Root, Timestamp, Snapshot, Targets}
 use Rattle.meta.specs.declared.hashes.Hashes.{Hashes}
-use Rattle.meta.specs.declared.listing.Listing.{Listing}
+pub use Rattle.meta.specs.declared.listing.Listing.{Listing}
 use Rattle.meta.specs.declared.header.Header.{Header}
 use Rattle.meta.specs.declared.snapshot.Named.{Named}
-use Rattle.meta.specs.declared.targets.Target.{Target}
+pub use Rattle.meta.specs.declared.targets.Target.{Target}
+use Rattle.meta.specs.Metadata as form
 use Rattle.meta.specs.Content.{content}
 use Rattle.meta.specs.Names.{target_names}
-use Rattle.meta.specs.Part.{Part, root_limit, timestamp_limit, snapshot_limit, targets_limit}
-use Rattle.meta.specs.Reads.{document_of, root_of, timestamp_of, snapshot_of, targets_of}
-use Rattle.meta.specs.declared.fault.Fault.{Fault}
-use Rattle.meta.specs.declared.fault.Fault.TheVariants.{NotListed, Missing, Unsigned, VersionWrong, Rollback, Expired}
+pub use Rattle.meta.specs.Part.{Part, root_limit, timestamp_limit, snapshot_limit, targets_limit}
+pub use Rattle.meta.specs.declared.fault.Fault.{Fault}
+use Rattle.meta.specs.Reads.{Document, document_of, formed}
+pub use Rattle.meta.specs.declared.fault.Fault.TheVariants.{NotListed, Missing, Unsigned, VersionWrong, Rollback, Expired}
+use Rattle.examine.specs.declared.expectation.Listed.{Listed}
+use Rattle.examine.specs.declared.expectation.Listed.TheVariants.{Absent, As}
 
 -- the files of a repository by their names
 abbrev pub Files : Type 0
 Files = List ℕ → Option (List ℕ)
-
--- whether a file has to be listed by another, and how it is
-pub data Listed : Type 0 where
-  not_due : Listed
-  absent : Listed
-  listed_as : Listing → Listed
 
 -- what is expected of a file, whatever its kind
 pub record Expectation : Type 0 where
@@ -42,24 +36,22 @@ pub record Expectation : Type 0 where
 -- ---- what is listed
 
 abbrev pub is_absent : Listed → Bool
-is_absent absent = true
-is_absent not_due = false
-is_absent (listed_as l) = false
+is_absent Absent = true
+is_absent other = false
+
+-- the listing, where the file is listed
+abbrev pub listing : Listed → Option Listing
+listing (As l) = Some l
+listing other = None
 
 abbrev pub listed_length : Listed → Option ℕ
-listed_length (listed_as l) = l.length
-listed_length not_due = None
-listed_length absent = None
+listed_length l = option_and_then (λ l. l.length) (listing l)
 
 abbrev pub listed_hashes : Listed → Option Hashes
-listed_hashes (listed_as l) = l.hashes
-listed_hashes not_due = None
-listed_hashes absent = None
+listed_hashes l = option_and_then (λ l. l.hashes) (listing l)
 
 abbrev pub listed_version : Listed → Option ℕ
-listed_version (listed_as l) = Some l.version
-listed_version not_due = None
-listed_version absent = None
+listed_version l = option_map (λ l. l.version) (listing l)
 
 -- ---- form and signatures
 
@@ -74,15 +66,14 @@ listed_bytes e files = do
   listed ← refuse_if (is_absent e.listed) NotListed
   or_refuse (files e.name) Missing
 
-abbrev pub read_candidate : {A : Type 0} → (Document → Result A Fault) → List ℕ
-    → Result (Candidate A) Fault
+abbrev pub read_candidate : {A : Type 0} → Form A → List ℕ → Result (Candidate A) Fault
 read_candidate form bytes = do
   doc ← document_of bytes
-  reading ← form doc
+  reading ← formed form doc
   Ok (record { part = record { bytes = bytes; reading = reading }; doc = doc })
 
 -- the file that is expected, out of the repository's, whoever signed it
-abbrev pub candidate : {A : Type 0} → (Document → Result A Fault) → ℕ → Expectation → Files
+abbrev pub candidate : {A : Type 0} → Form A → ℕ → Expectation → Files
     → Result (Candidate A) Fault
 candidate form limit e files = do
   bytes ← listed_bytes e files
@@ -93,7 +84,7 @@ abbrev pub is_signed : List Key → RoleKeys → Document → Bool
 is_signed ring role doc = is_met doc.text doc.entries ring role
 
 -- the file that is expected, signed as expected
-abbrev pub signed_candidate : {A : Type 0} → (Document → Result A Fault) → ℕ → Expectation → Files
+abbrev pub signed_candidate : {A : Type 0} → Form A → ℕ → Expectation → Files
     → Result (Candidate A) Fault
 signed_candidate form limit e files = do
   c ← candidate form limit e files
@@ -168,7 +159,7 @@ targets_checks due h now = do
 -- asked, when the chain has ended.
 abbrev pub root_part : Expectation → ℕ → Files → Result (Part Root) Fault
 root_part e due files = do
-  c ← signed_candidate root_of root_limit e files
+  c ← signed_candidate form.root root_limit e files
   let root = c.part.reading
   checked ← root_checks (is_signed root.ring root.root c.doc) due root.header
   Ok c.part
@@ -176,7 +167,7 @@ root_part e due files = do
 -- a timestamp where none is trusted
 abbrev pub first_timestamp : Expectation → Files → Moment → Result (Part Timestamp) Fault
 first_timestamp e files now = do
-  c ← signed_candidate timestamp_of timestamp_limit e files
+  c ← signed_candidate form.timestamp timestamp_limit e files
   checked ← expiry_check c.part.reading.header now
   Ok c.part
 
@@ -184,20 +175,20 @@ first_timestamp e files now = do
 abbrev pub next_timestamp : Expectation → Timestamp → Files → Moment
     → Result (Option (Part Timestamp)) Fault
 next_timestamp e old files now = do
-  c ← signed_candidate timestamp_of timestamp_limit e files
+  c ← signed_candidate form.timestamp timestamp_limit e files
   newer ← is_newer old c.part.reading now
   Ok (if newer then Some c.part else None)
 
 abbrev pub snapshot_part : Expectation → Option Snapshot → Files → Moment
     → Result (Part Snapshot) Fault
 snapshot_part e old files now = do
-  c ← signed_candidate snapshot_of snapshot_limit e files
+  c ← signed_candidate form.snapshot snapshot_limit e files
   checked ← snapshot_checks (listed_version e.listed) old c.part.reading now
   Ok c.part
 
 abbrev pub targets_part : Expectation → Files → Moment → Result (Part Targets) Fault
 targets_part e files now = do
-  c ← signed_candidate targets_of targets_limit e files
+  c ← signed_candidate form.targets targets_limit e files
   checked ← targets_checks (listed_version e.listed) c.part.reading.header now
   Ok c.part
 

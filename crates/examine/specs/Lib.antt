@@ -8,4 +8,3 @@ pub use Rattle.meta.specs.Content
 pub use Rattle.meta.specs.Answers
 pub mod Checks
 pub mod Expecting
-pub mod Fetching

@@ -4,8 +4,7 @@ ghost use Rattle.std.specs.Prelude.{◌≡◌, ◌≤◌, length, Some};
 ghost use Rattle.std.specs.Result.{result_map_both};
 ghost use Rattle.meta.specs.Answers.{Answers};
 ghost use Rattle.examine.specs.Checks as spec;
-ghost use Rattle.examine.specs.Expecting.{expectation, file_in, listed_of};
-ghost use Rattle.examine.specs.Fetching.{candidate_of};
+ghost use Rattle.examine.specs.Expecting.{candidate_of, expectation, file_in};
 
 use crate::expectation::{Expectation, Listed};
 use cjson::Doc;
@@ -29,7 +28,7 @@ pub(crate) fn fetch_signed<A: Reading + Drop, J: Judge>(
     judge: &mut J,
 ) -> Result<Candidate<A>, Stop>
     ensures { Answers
-        (spec.signed_candidate A.of_document A.limit (expectation expect.now) (file_in files.now))
+        (spec.signed_candidate A.form A.limit (expectation expect.now) (file_in files.now))
         result candidate_of }
 {
     let found = fetch(alloc, expect, files, judge)?;
@@ -53,7 +52,7 @@ fn fetch<A: Reading + Drop, J: Judge>(
     judge: &mut J,
 ) -> Result<Candidate<A>, Stop>
     ensures { Answers
-        (spec.candidate A.of_document A.limit (expectation expect.now) (file_in files.now))
+        (spec.candidate A.form A.limit (expectation expect.now) (file_in files.now))
         result candidate_of }
 {
     let bytes = listed_bytes(expect, files)?;
@@ -77,7 +76,7 @@ fn listed_bytes<'a>(
 /// What the bytes of a file are read as, within the limit of its kind.
 fn read_candidate<A: Reading + Drop>(alloc: Global, bytes: &[u8]) -> Result<Candidate<A>, Stop>
     requires limit { length bytes.now ≤ A.limit }
-    ensures { Answers (spec.read_candidate A.of_document bytes.now) result candidate_of }
+    ensures { Answers (spec.read_candidate A.form bytes.now) result candidate_of }
 {
     let doc = read_document(alloc, bytes)?;
     let reading = A::read(alloc, &doc)?;
@@ -87,10 +86,10 @@ fn read_candidate<A: Reading + Drop>(alloc: Global, bytes: &[u8]) -> Result<Cand
 
 /// What the file's bytes must be: within the limit of its kind, and as they are listed.
 fn content_of(listed: &Listed, limit: u64) -> Content
-    ensures { let l = listed_of listed.now in result ≡ record {
+    ensures { result ≡ record {
       limit = Some limit;
-      length = spec.listed_length l;
-      hashes = spec.listed_hashes l;
+      length = spec.listed_length listed.now;
+      hashes = spec.listed_hashes listed.now;
     } }
 {
     let (length, hashes) = match listed {
@@ -106,7 +105,7 @@ fn content_of(listed: &Listed, limit: u64) -> Content
 
 /// The version that is listed of a file.
 pub(crate) fn listed_version(listed: &Listed) -> Option<u64>
-    ensures { result ≡ spec.listed_version (listed_of listed.now) }
+    ensures { result ≡ spec.listed_version listed.now }
 {
     match listed {
         Listed::As(listing) => Some(listing.version.get()),

@@ -1,17 +1,13 @@
 -- What a hand's own deque keeps.
-use Rattle.std.proofs.Common.{◌≡◌, ◌<◌, ◌≤◌, ◌+◌, ◌-◌, ℕ, zero, suc, true, Option, Some, None, IfSome, IfOk, Result, Ok, Err, All, ◌∷◌, [], arith, subst, sym, ap}
+use Rattle.std.proofs.Common.{◌≡◌, ◌<◌, ◌≤◌, ◌+◌, ◌-◌, ℕ, zero, suc, true, IfOk, Result, Ok, Err, All, ◌∷◌, [], arith, subst, sym, ap}
 use Rattle.std.specs.List.{range_with_len}
 use Rattle.std.proofs.lemmas.List.Elements.{All-append}
 use Rattle.cjson.specs.declared.fault.NoMemory.{NoMemory}
 use Rattle.crossbeam_deque.specs.Handles.{worker_flavor, worker_view}
 use Rattle.hands.specs.declared.rule.Took.{Took}
-use Rattle.hands.specs.Dealt.{took, Takes}
+use Rattle.hands.specs.Dealt.{took}
 use Rattle.hands.specs.Deques.{Deck, IsOwn}
-use Rattle.hands.proofs.Deals.{taken_below, range-snoc}
-
-pub some_below : (o : Option ℕ) (v w : Took) (n : ℕ) → IfSome o (λ x. Takes v (x ∷ []) w) → All (λ y. y < n) v.pushed → IfSome o (λ x. x < n)
-some_below (Some x) v w n t b = taken_below v w x n t b
-some_below None v w n t b = tt
+use Rattle.hands.proofs.Deals.{range-snoc}
 
 range_below : (a m n : ℕ) → a + m ≤ n → All (λ x. x < n) (range_with_len a m)
 range_below a zero n le = λ k d h. absurd (omega arith)

@@ -32,7 +32,7 @@ fn filled(alloc: Global, count: usize, workers: usize) -> Result<Vec<Hand>, NoMe
     let mut hands = Vec::with_capacity(alloc, workers)?;
     let mut from = 0;
     for k in 0..workers {
-        let end = end_below(count, workers, k, from);
+        let end = end_of(count, workers, k, from);
         hands.push(Hand::filled(alloc, count, workers, from, end)?)?;
         from = end;
     }
@@ -40,24 +40,13 @@ fn filled(alloc: Global, count: usize, workers: usize) -> Result<Vec<Hand>, NoMe
 }
 
 // Where part `k` ends, which is not past the count.
-#[tactic(auto, using(crate::proofs::PartLemmas::end_within))]
-fn end_below(count: usize, workers: usize, k: usize, from: usize) -> usize
-    requires below { k < workers }
-    requires from { from ≡ start_of count workers k }
-    ensures end { result ≡ start_of count workers (k + 1) }
-    ensures order { from ≤ result }
-    ensures most { result ≤ count }
-{
-    end_of(count, workers, k, from)
-}
-
-// Where part `k` ends.
 #[tactic(auto, using(crate::proofs::PartLemmas::next_start, crate::proofs::PartLemmas::within))]
 fn end_of(count: usize, workers: usize, k: usize, from: usize) -> usize
     requires below { k < workers }
     requires from { from ≡ start_of count workers k }
     ensures end { result ≡ start_of count workers (k + 1) }
     ensures order { from ≤ result }
+    ensures most { result ≤ count }
 {
     let longer = if k < count % workers { 1 } else { 0 };
     from + count / workers + longer

@@ -1,7 +1,5 @@
 //! A worker's numbers.
 ghost use Rattle.std.specs.Prelude.{◌≡◌, ◌≤◌, ◌<◌, IfOk, IfSome};
-ghost use Rattle.crossbeam_deque.specs.Handles.{stealer_deque, worker_deque};
-ghost use Rattle.hands.specs.Deques.{IsOwn, IsOther, Thief};
 ghost use Rattle.hands.specs.Turns.{HasTurn};
 
 use crate::deck::{Deck, Thief, another, filled, pop, steal};
@@ -37,7 +35,7 @@ impl Other {
         ensures same { self.new ≡ self.old }
         ensures below { IfSome result (λ n. n < self.old) }
     {
-        steal_below(&self.thief, &mut self.pass, self.count)
+        steal(&self.thief, &mut self.pass)
     }
 }
 
@@ -91,7 +89,7 @@ impl Hand {
             workers,
             from,
             end,
-            own: filled_below(alloc, count, from, end)?,
+            own: filled(alloc, from, end)?,
             others: Vec::new(alloc),
             first: 0,
         })
@@ -102,7 +100,7 @@ impl Hand {
         ensures same { self.new ≡ self.old }
         ensures count { IfOk result (λ o. o ≡ self.old.count) }
     {
-        let pass = another_below(&mut self.own, self.count, self.from, self.end);
+        let pass = another(&mut self.own);
         Ok(Other {
             count: self.count,
             thief: self.own.stealer()?,
@@ -147,7 +145,7 @@ impl Hand {
         ensures below { IfSome result (λ n. n < self.old.count) }
     {
         if place == 0 {
-            return pop_below(&mut self.own, self.count, self.from, self.end);
+            return pop(&mut self.own);
         }
         self.others.get_mut(place - 1)?.steal()
     }
@@ -161,41 +159,4 @@ impl Hand {
     {
         turn_of(self.count, self.workers, n)
     }
-}
-
-// A deque of the numbers from `from` up to `end`, which are below `count`.
-fn filled_below(alloc: Global, count: usize, from: usize, end: usize) -> Result<Deck, NoMemory>
-    requires order { from ≤ end }
-    requires below { end ≤ count }
-    ensures { IfOk result (λ d. IsOwn count from end d) }
-{
-    filled(alloc, from, end)
-}
-
-// Lets another worker take.
-fn another_below(deck: &mut Deck, count: usize, from: usize, end: usize) -> Pass<usize, Took>
-    requires { IsOwn count from end deck.old }
-    ensures own { IsOwn count from end deck.new }
-    ensures pass { (thief : Thief) → stealer_deque thief ≡ worker_deque deck.new
-        → IsOther count thief result }
-{
-    another(deck)
-}
-
-// Takes from one's own deque.
-fn pop_below(deck: &mut Deck, count: usize, from: usize, end: usize) -> Option<usize>
-    requires { IsOwn count from end deck.old }
-    ensures own { IsOwn count from end deck.new }
-    ensures below { IfSome result (λ n. n < count) }
-{
-    pop(deck)
-}
-
-// Tries another worker's deque once.
-fn steal_below(thief: &Thief, pass: &mut Pass<usize, Took>, count: usize) -> Option<usize>
-    requires { IsOther count thief.now pass.old }
-    ensures same { IsOther count thief.now pass.new }
-    ensures below { IfSome result (λ n. n < count) }
-{
-    steal(thief, pass)
 }

@@ -1,12 +1,11 @@
 -- Keys, and the roles that list them (TUF 1.0 sections 4.2 and 4.3).
 use Rattle.std.specs.Prelude.{ℕ, ◌&&◌, List, filter_map, Bool, Option, Some, option_map, is_some, bytes_eq, codes}
-use Rattle.serde_json.specs.Data.{Data}
 use Rattle.serde_json.specs.Find.{as_object}
 use Rattle.hex.specs.Hex.{encode_lower}
 use Rattle.sha2.specs.Sha256.{sha256}
 use Rattle.cjson.specs.Option.{◌>>=◌}
 use Rattle.cjson.specs.Canon.{canon}
-use Rattle.cjson.specs.Form.{Form, guard, has_text, needed, list, members, text, whole, hex_bytes}
+use Rattle.cjson.specs.Form.{Data, Form, guard, has_text, needed, list, members, text, greatest, whole, hex_bytes}
 use Rattle.lms.specs.Lms.{public_of}
 use Rattle.keys.specs.declared.key.Key.{Key}
 use Rattle.keys.specs.declared.role_keys.RoleKeys.{RoleKeys}
@@ -55,5 +54,5 @@ ring d = do
 abbrev pub role_keys : Form RoleKeys
 role_keys d = do
   ids ← needed (codes "keyids") (list text) d
-  threshold ← needed (codes "threshold") (whole 1) d
+  threshold ← needed (codes "threshold") (whole 1 greatest) d
   Some (record { ids = ids; threshold = threshold })

@@ -17,19 +17,9 @@ impl Judge for Direct {
     fn valid(&mut self, ask: &Ask) -> Result<bool, NoMemory>
         ensures always { result ≡ Ok (truth ask.now) }
     {
-        Ok(match *ask {
-            Ask::Signature {
-                public,
-                message,
-                sig,
-                ..
-            } => is_signed_by(public, message, sig),
-            Ask::Digest {
-                algorithm,
-                bytes,
-                digest,
-                ..
-            } => is_digest(algorithm, bytes, digest),
+        Ok(match ask {
+            Ask::Signature(ask) => is_signed_by(ask.public, ask.message, ask.sig),
+            Ask::Digest(ask) => is_digest(ask.algorithm, ask.bytes, ask.digest),
         })
     }
 }

@@ -15,36 +15,42 @@ pub enum Algorithm {
     Sha512,
 }
 
+/// Whether the text of an entry is the hexadecimal, in either case, of a valid signature of the
+/// message (TUF 1.0 section 4.2).
+#[derive(Clone, Copy, PartialEq)]
+pub struct SignatureAsk<'a> {
+    /// The name of the file that has the entry.
+    pub file: &'a str,
+    /// The entry's place in the file's `signatures`, from 0.
+    pub place: usize,
+    /// The key's public value.
+    pub public: &'a Public,
+    /// The canonical text of the file's `signed`.
+    pub message: &'a [u8],
+    /// The entry's `sig`, as the file spells it.
+    pub sig: &'a str,
+}
+
+/// Whether the digest is that of the bytes (TUF 1.0 section 4.4).
+#[derive(Clone, Copy, PartialEq)]
+pub struct DigestAsk<'a> {
+    /// The name of the file that has the bytes.
+    pub file: &'a str,
+    /// The algorithm of the digest.
+    pub algorithm: Algorithm,
+    /// The file's bytes.
+    pub bytes: &'a [u8],
+    /// The digest, as bytes. One of another length than the algorithm's is that of no bytes.
+    pub digest: &'a [u8],
+}
+
 /// A question about a metadata file or a target. Its answer is a matter of computing: no role,
 /// version or date bears on it. The names and the place say where the question comes from, and not
 /// what is true.
 #[derive(Clone, Copy, PartialEq)]
 pub enum Ask<'a> {
-    /// Whether the entry's text is the hexadecimal, in either case, of a valid signature of the
-    /// message (TUF 1.0 section 4.2).
-    Signature {
-        /// The name of the file that has the entry.
-        file: &'a str,
-        /// The entry's place in the file's `signatures`, from 0.
-        place: usize,
-        /// The key's public value.
-        public: &'a Public,
-        /// The canonical text of the file's `signed`.
-        message: &'a [u8],
-        /// The entry's `sig`, as the file spells it.
-        sig: &'a str,
-    },
-    /// Whether the digest is that of the bytes (TUF 1.0 section 4.4).
-    Digest {
-        /// The name of the file that has the bytes.
-        file: &'a str,
-        /// The algorithm of the digest.
-        algorithm: Algorithm,
-        /// The file's bytes.
-        bytes: &'a [u8],
-        /// The digest, as bytes. One of another length than the algorithm's is that of no bytes.
-        digest: &'a [u8],
-    },
+    Signature(SignatureAsk<'a>),
+    Digest(DigestAsk<'a>),
 }
 
 impl Ask<'_> {

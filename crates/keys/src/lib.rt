@@ -11,7 +11,7 @@ mod signers;
 mod threshold;
 
 pub use direct::Direct;
-pub use judge::{Algorithm, Ask, Judge};
+pub use judge::{Algorithm, Ask, DigestAsk, Judge, SignatureAsk};
 pub use key::{Key, key_id};
 pub use ring::KeyRing;
 pub use role_keys::RoleKeys;

@@ -9,7 +9,7 @@ use crate::key::{Key, usable};
 use cjson::form::{FromJson, if_formed};
 use cjson::list::Items;
 use cjson::members::{FromMember, read_members};
-use cjson::{Misread, NoMemory};
+use cjson::{NoMemory, ReadFault};
 use serde_json::Value;
 use std::alloc::Global;
 use std::marker::Model;
@@ -52,7 +52,7 @@ impl KeyRing {
 impl FromJson for KeyRing {
     ghost form = { spec.ring };
 
-    fn from_json(alloc: Global, value: &Value) -> Result<KeyRing, Misread> {
+    fn from_json(alloc: Global, value: &Value) -> Result<KeyRing, ReadFault> {
         let listed: Items<ListedKey> = read_members(alloc, value)?;
         let keys = listed
             .into_vec()
@@ -81,9 +81,9 @@ impl Model for ListedKey {
 impl FromMember for ListedKey {
     ghost member_form = { spec.listed_key };
 
-    fn from_member(alloc: Global, name: &str, value: &Value) -> Result<ListedKey, Misread> {
+    fn from_member(alloc: Global, name: &str, value: &Value) -> Result<ListedKey, ReadFault> {
         if !value.is_object() {
-            return Err(Misread::Malformed);
+            return Err(ReadFault::Malformed);
         }
         let key = usable(alloc, name, value)?;
         Ok(ListedKey { key })

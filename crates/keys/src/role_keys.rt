@@ -10,7 +10,7 @@ use cjson::form::{FromJson, if_formed, needed};
 use cjson::list::Items;
 use cjson::number::Positive;
 use cjson::text::Text;
-use cjson::{Misread, NoMemory};
+use cjson::{NoMemory, ReadFault};
 use serde_json::Value;
 use std::alloc::Global;
 use std::collections::BTreeSet;
@@ -49,7 +49,7 @@ impl RoleKeys {
 impl FromJson for RoleKeys {
     ghost form = { spec.role_keys };
 
-    fn from_json(alloc: Global, value: &Value) -> Result<RoleKeys, Misread> {
+    fn from_json(alloc: Global, value: &Value) -> Result<RoleKeys, ReadFault> {
         let ids = needed(alloc, value, "keyids")?;
         let threshold = needed(alloc, value, "threshold")?;
         Ok(RoleKeys { ids, threshold })

@@ -6,7 +6,7 @@ ghost use Rattle.keys.specs.ById.{IsById, has_id};
 ghost use Rattle.keys.specs.Signers as spec;
 
 use crate::entries::Entries;
-use crate::judge::{Ask, Judge};
+use crate::judge::{Ask, Judge, SignatureAsk};
 use crate::key::Key;
 use crate::ring::KeyRing;
 use crate::role_keys::RoleKeys;
@@ -81,13 +81,13 @@ fn has_entry<J: Judge>(
     };
     let message = doc.bytes();
     for placed in under {
-        if judge.valid(&Ask::Signature {
+        if judge.valid(&Ask::Signature(SignatureAsk {
             file,
             place: placed.place,
             public: &key.public,
             message,
             sig: placed.sig,
-        })? {
+        }))? {
             return Ok(true);
         }
     }

@@ -3,12 +3,10 @@
 ghost use Rattle.std.specs.Prelude.{◌≡◌, ◌↔◌, ℕ, ◌+◌, ◌-◌, ◌*◌, ◌^◌, ◌<◌, ◌≤◌, List, [], ◌++◌};
 ghost use Rattle.std.specs.Prelude.{IsTrue, OnOk, OnErr, IfOk, length, slice_index_or};
 ghost use Rattle.lms.specs.Kind.{chain_count, levels};
-ghost use Rattle.lms.specs.Carrying.{row_of};
 ghost use Rattle.lms.specs.Lms.{is_valid, message_digest};
 ghost use Rattle.lms.specs.Signer.{IsTree, chain_start, leaf_key, path_of, public_of, randomizer};
 ghost use Rattle.lms.specs.Signer.{sibling, signature_by, signed_chains, tree};
 
-use crate::four::MOST_CHAINS;
 use crate::kind::{Height, Kind, Width};
 use crate::ots::{Node, chain_start, digits_of, leaf_key, message_digest, u32str, values_at};
 use crate::tree::{inner, leaf};
@@ -93,21 +91,6 @@ fn put_inner(nodes: &mut [Node], kind: Kind, id: &[u8; 16], seed: &[u8; 32])
     }
 }
 
-// Appends the first values, one for each chain.
-fn push_values(
-    sig: &mut Vec<u8>,
-    width: Width,
-    values: &[Node; MOST_CHAINS],
-) -> Result<(), AllocError>
-    ensures { OnOk result (sig.new.items
-        ≡ sig.old.items ++ row_of values.now (chain_count width)) }
-{
-    'chains: for i in 0..usize::from(width.chain_count()) {
-        sig.extend_from_slice(&values[i])?;
-    }
-    Ok(())
-}
-
 // Appends each chain's value at its digit.
 fn push_chains(
     sig: &mut Vec<u8>,
@@ -121,7 +104,10 @@ fn push_chains(
         ++ signed_chains width id.now seed.now q s.now (chain_count width)) }
 {
     let values = values_at(width, id, seed, q, &digits_of(width, s));
-    push_values(sig, width, &values)
+    'chains: for i in 0..usize::from(width.chain_count()) {
+        sig.extend_from_slice(&values[i])?;
+    }
+    Ok(())
 }
 
 // The other child of a node's parent.

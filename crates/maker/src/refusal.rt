@@ -4,15 +4,18 @@ ghost use Rattle.std.specs.Prelude.{◌≢◌};
 
 use cjson::{CanonicalFault, NoMemory};
 use seals::MakeFault;
-use std::alloc::{AllocError, AllocFailed};
+use std::alloc::AllocError;
+use thiserror::Error;
 
 /// Why a line of a script isn't followed.
-#[derive(Clone, Copy, Debug, PartialEq, Eq)]
+#[derive(Debug, Drop, Error)]
 pub enum Refusal {
     /// The line can't be followed.
+    #[error("the line can't be followed")]
     Line,
     /// Memory was refused.
-    NoMemory,
+    #[error("out of memory")]
+    Memory(#[from(alloc)] AllocError),
 }
 
 impl Refusal {
@@ -22,26 +25,14 @@ impl Refusal {
     {
         match self {
             Refusal::Line => MakeFault::Script(line),
-            Refusal::NoMemory => MakeFault::NoMemory,
+            Refusal::Memory(_) => MakeFault::NoMemory,
         }
-    }
-}
-
-impl From<AllocError> for Refusal {
-    fn from(_refused: AllocError) -> Refusal {
-        Refusal::NoMemory
-    }
-}
-
-impl<T: Drop> From<AllocFailed<T>> for Refusal {
-    fn from(_refused: AllocFailed<T>) -> Refusal {
-        Refusal::NoMemory
     }
 }
 
 impl From<NoMemory> for Refusal {
     fn from(_refused: NoMemory) -> Refusal {
-        Refusal::NoMemory
+        Refusal::Memory(AllocError)
     }
 }
 
@@ -49,7 +40,7 @@ impl From<CanonicalFault> for Refusal {
     fn from(fault: CanonicalFault) -> Refusal {
         match fault {
             CanonicalFault::Float => Refusal::Line,
-            CanonicalFault::NoMemory => Refusal::NoMemory,
+            CanonicalFault::NoMemory => Refusal::Memory(AllocError),
         }
     }
 }
@@ -58,7 +49,7 @@ impl From<MakeFault> for Refusal {
     fn from(fault: MakeFault) -> Refusal {
         match fault {
             MakeFault::Script(_) | MakeFault::Used => Refusal::Line,
-            MakeFault::NoMemory => Refusal::NoMemory,
+            MakeFault::NoMemory => Refusal::Memory(AllocError),
         }
     }
 }

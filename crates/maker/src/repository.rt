@@ -20,23 +20,13 @@ use std::collections::BTreeMap;
 const SPEC_VERSION: &str = "1.0.0";
 
 /// What the file of `targets` or of a delegated role will say.
+#[derive(Drop)]
 struct Role {
     targets: Map<String, Value>,
     delegations: Vec<Value>,
     succinct: Option<Value>,
     /// The keys that the delegations name.
     keys: Map<String, Value>,
-}
-
-impl Drop for Role {
-    fn drop(self) {
-        let Role {
-            targets,
-            delegations,
-            succinct,
-            keys,
-        } = self;
-    }
 }
 
 impl Role {

@@ -2,7 +2,7 @@
 
 use crate::refusal::Refusal;
 use lms::{Height, Width};
-use std::alloc::Global;
+use std::alloc::{AllocError, Global};
 
 /// The greatest threshold and version of metadata.
 const MOST: u64 = 9_223_372_036_854_775_807;
@@ -107,7 +107,7 @@ impl<'a> Words<'a> {
         }
         match hex::decode(alloc, word) {
             Ok(bytes) => Ok(bytes),
-            Err(hex::FromHexError::OutOfMemory) => Err(Refusal::NoMemory),
+            Err(hex::FromHexError::OutOfMemory) => Err(Refusal::Memory(AllocError)),
             Err(_) => Err(Refusal::Line),
         }
     }

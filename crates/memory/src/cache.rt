@@ -3,24 +3,16 @@
 ghost use Rattle.std.specs.Prelude.{◌≡◌, ◌≤◌, All, IfOk, IfSome, string_bytes};
 ghost use Rattle.std.specs.BTreeMap.{values};
 ghost use Rattle.keys.specs.Signers.{is_signed_by};
+ghost use Rattle.keys.specs.Truth.{is_valid_in};
 
 use cjson::NoMemory;
+use keys::SignatureAsk;
 use lms::Public;
 use lru::LruCache;
 use sha2::{Digest, Sha256};
 use std::alloc::Global;
 use std::collections::BTreeMap;
 use std::num::NonZeroUsize;
-
-/// A question about a signature, as a judge is asked it.
-#[derive(Clone, Copy)]
-pub(crate) struct Question<'a> {
-    pub file: &'a str,
-    pub place: usize,
-    pub public: &'a Public,
-    pub message: &'a [u8],
-    pub sig: &'a str,
-}
 
 /// A verdict on a signature: a key's public value, the signature's text, and whether it is valid.
 #[derive(Drop)]
@@ -64,9 +56,8 @@ impl Remembered {
     }
 
     /// The kept verdict, if all parts of the question are equal.
-    fn find(&self, question: &Question) -> Option<bool>
-        ensures { IfSome result (λ b. b ≡ is_signed_by
-            question.now.public.now question.now.message.now question.now.sig.now) }
+    fn find(&self, question: &SignatureAsk) -> Option<bool>
+        ensures { IfSome result (λ b. b ≡ is_valid_in question.now) }
     {
         let key = (question.place, *question.public.bytes());
         let verdict = self.verdicts.get(&key)?;
@@ -100,7 +91,7 @@ fn answer_of(verdict: &Verdict, public: &Public, sig: &str) -> Option<bool>
 }
 
 /// A verdict on a signature, as it was asked for.
-fn verdict_on(alloc: Global, question: &Question, valid: bool) -> Result<Verdict, NoMemory>
+fn verdict_on(alloc: Global, question: &SignatureAsk, valid: bool) -> Result<Verdict, NoMemory>
     ensures { IfOk result (λ v. (v.valid ≡ valid) × (v.public ≡ question.now.public.now)
         × (string_bytes v.sig ≡ question.now.sig.now)) }
 {
@@ -139,7 +130,7 @@ impl Cache {
 
     /// The digest by which the question's file is found. It isn't computed again where the file
     /// that was used last has this name and this very message.
-    pub(crate) fn digest_of(&self, question: &Question) -> [u8; 32] {
+    pub(crate) fn digest_of(&self, question: &SignatureAsk) -> [u8; 32] {
         if let Some((digest, file)) = self.files.peek_mru() {
             if file.name.as_str() == question.file && file.message.as_slice() == question.message {
                 return *digest;
@@ -149,9 +140,8 @@ impl Cache {
     }
 
     /// The kept verdict in the file with this digest, if all parts of the question are equal.
-    pub(crate) fn find(&mut self, digest: &[u8; 32], question: &Question) -> Option<bool>
-        ensures { IfSome result (λ b. b ≡ is_signed_by
-            question.now.public.now question.now.message.now question.now.sig.now) }
+    pub(crate) fn find(&mut self, digest: &[u8; 32], question: &SignatureAsk) -> Option<bool>
+        ensures { IfSome result (λ b. b ≡ is_valid_in question.now) }
     {
         self.files.get(digest)?.find(question)
     }
@@ -160,11 +150,10 @@ impl Cache {
     pub(crate) fn learn(
         &mut self,
         digest: [u8; 32],
-        question: &Question,
+        question: &SignatureAsk,
         valid: bool,
     ) -> Result<(), NoMemory>
-        requires { valid ≡ is_signed_by
-            question.now.public.now question.now.message.now question.now.sig.now }
+        requires { valid ≡ is_valid_in question.now }
     {
         let verdict = verdict_on(self.alloc, question, valid)?;
         if let Some(file) = self.files.get_mut(&digest) {

@@ -1,6 +1,6 @@
 //! A judge that remembers.
 
-use crate::cache::{Cache, Question};
+use crate::cache::Cache;
 use cjson::NoMemory;
 use keys::{Ask, Judge};
 
@@ -9,20 +9,11 @@ use keys::{Ask, Judge};
 /// the answer. Digests are always asked of the other judge.
 ///
 /// A verdict that finds no memory isn't kept, and that's no refusal: only the other judge refuses.
+#[derive(Drop)]
 pub struct Kept<'a, J: Judge> {
     cache: &'a mut Cache,
     inner: &'a mut J,
     taken_over: u64,
-}
-
-impl<'a, J: Judge> Drop for Kept<'a, J> {
-    fn drop(self) {
-        let Kept {
-            cache,
-            inner,
-            taken_over,
-        } = self;
-    }
 }
 
 impl<'a, J: Judge> Kept<'a, J> {
@@ -43,35 +34,21 @@ impl<'a, J: Judge> Kept<'a, J> {
 
 impl<J: Judge> Judge for Kept<'_, J> {
     fn valid(&mut self, ask: &Ask) -> Result<bool, NoMemory> {
-        let Ask::Signature {
-            file,
-            place,
-            public,
-            message,
-            sig,
-        } = *ask
-        else {
+        let Ask::Signature(question) = ask else {
             return self.inner.valid(ask);
         };
         // A text of another length than the key's signatures is refused without a hash, so it isn't
         // looked up either.
-        if sig.len() / 2 != public.signature_len() {
+        if question.sig.len() / 2 != question.public.signature_len() {
             return self.inner.valid(ask);
         }
-        let question = Question {
-            file,
-            place,
-            public,
-            message,
-            sig,
-        };
-        let digest = self.cache.digest_of(&question);
-        if let Some(valid) = self.cache.find(&digest, &question) {
+        let digest = self.cache.digest_of(question);
+        if let Some(valid) = self.cache.find(&digest, question) {
             self.taken_over = self.taken_over.saturating_add(1);
             return Ok(valid);
         }
         let valid = self.inner.valid(ask)?;
-        let _ = self.cache.learn(digest, &question, valid);
+        let _ = self.cache.learn(digest, question, valid);
         Ok(valid)
     }
 }

@@ -2,8 +2,8 @@
 use Rattle.std.specs.Prelude.{◌≡◌, Result, Ok, Err}
 use Rattle.meta.specs.declared.fault.Fault.{Fault}
 use Rattle.meta.specs.declared.fault.Fault.TheVariants.{Malformed}
-use Rattle.meta.specs.declared.fault.ReadFault.{ReadFault}
-use Rattle.meta.specs.declared.fault.ReadFault.TheVariants as read
+use Rattle.cjson.specs.declared.fault.ReadFault.{ReadFault}
+use Rattle.cjson.specs.declared.fault.ReadFault.TheVariants as read
 use Rattle.meta.specs.declared.fault.Stop.{Stop}
 use Rattle.meta.specs.declared.fault.Stop.TheVariants.{Refused, NoMemory}
 

@@ -2,9 +2,8 @@ pub use Rattle.keys.specs.Keys
 pub use Rattle.keys.specs.Truth
 pub use Rattle.moment.specs.Moment
 pub mod Names
+pub mod Patterns
 pub mod Metadata
-pub mod Matcher
-pub mod Delegated
 pub mod Reads
 pub mod Part
 pub mod Content

@@ -1,47 +1,25 @@
 -- The four kinds of metadata file, and what is read from each (TUF 1.0 sections 4.3 to 4.6).
-use Rattle.std.specs.Prelude.{ℕ, ◌&&◌, ◌||◌, ◌==◌, nat_le, not, if◌then◌else◌, List, length, take, Bool, false, Option, Some, None, is_some, unwrap_or, bytes_eq, codes}
-use Rattle.std.specs.List.{list_all}
-use Rattle.serde_json.specs.Data.{Data}
-use Rattle.serde_json.specs.Find.{as_str, as_bool, as_number, as_u64, as_object}
+use Rattle.std.specs.Prelude.{ℕ, if◌then◌else◌, List, length, take, Bool, false, Option, Some, None, is_some, unwrap_or, bytes_eq, codes}
+use Rattle.serde_json.specs.Find.{as_str, as_bool, as_object}
 use Rattle.cjson.specs.Option.{◌>>=◌}
-use Rattle.cjson.specs.Form.{Form, guard, all_members, has_text, needed, optional, list, members, text, whole, hex_bytes}
+pub use Rattle.cjson.specs.Form.{Data, Form, guard, all_members, has_text, needed, optional, list, members, text, greatest, whole, hex_bytes}
 use Rattle.keys.specs.Keys.{ring, role_keys}
-use Rattle.keys.specs.declared.key.Key.{Key}
-use Rattle.keys.specs.declared.role_keys.RoleKeys.{RoleKeys}
-use Rattle.moment.specs.Moment.{Moment, moment_of, is_digit}
+pub use Rattle.keys.specs.declared.key.Key.{Key}
+pub use Rattle.keys.specs.declared.role_keys.RoleKeys.{RoleKeys}
+pub use Rattle.moment.specs.Moment.{Moment, moment_of}
 use Rattle.meta.specs.declared.hashes.Hashes.{Hashes}
 use Rattle.meta.specs.declared.header.Header.{Header}
 use Rattle.meta.specs.declared.listing.Listing.{Listing}
 use Rattle.meta.specs.declared.snapshot.Named.{Named}
 use Rattle.meta.specs.declared.targets.Target.{Target}
-
--- what a delegation says of the paths that it is for (section 4.5); that to a bin is for every path
-pub data Matcher : Type 0 where
-  patterns : List (List ℕ) → Matcher
-  prefixes : List (List ℕ) → Matcher
-  every : Matcher
-
-pub record Delegation : Type 0 where
-  pub name : List ℕ
-  pub keys : RoleKeys
-  pub terminating : Bool
-  pub matcher : Matcher
-
--- succinct roles: `2 ^ bits` bins, each a role with these keys, whose name begins with the prefix
--- (this project's profile)
-pub record Bins : Type 0 where
-  pub keys : RoleKeys
-  pub bits : ℕ
-  pub prefix : List ℕ
-
--- the roles that are delegated to
-pub data Roles : Type 0 where
-  listed : List Delegation → Roles
-  binned : Bins → Roles
-
-pub record Delegations : Type 0 where
-  pub ring : List Key
-  pub roles : Roles
+use Rattle.meta.specs.declared.delegation.Paths.{Paths}
+use Rattle.meta.specs.declared.delegation.Paths.TheVariants.{Patterns, Prefixes}
+use Rattle.meta.specs.declared.delegation.Delegation.{Delegation}
+use Rattle.meta.specs.declared.delegations.Bins.{Bins}
+use Rattle.meta.specs.declared.delegations.Roles.{Roles}
+use Rattle.meta.specs.declared.delegations.Roles.TheVariants.{Listed, Binned}
+use Rattle.meta.specs.declared.delegations.Delegations.{Delegations}
+use Rattle.meta.specs.Patterns.{is_pattern, is_prefix}
 
 -- section 4.3
 pub record Root : Type 0 where
@@ -88,7 +66,7 @@ abbrev pub header : List ℕ → Form Header
 header kind d = do
   kind_fits ← guard (has_text (codes "_type") (bytes_eq kind) d)
   version_fits ← guard (has_text (codes "spec_version") (begins_with (codes "1.")) d)
-  version ← needed (codes "version") (whole 1) d
+  version ← needed (codes "version") (whole 1 greatest) d
   expires ← needed (codes "expires") moment_text d
   Some (record { version = version; expires = expires })
 
@@ -103,8 +81,8 @@ hashes d = do
 
 abbrev pub listing : Form Listing
 listing d = do
-  version ← needed (codes "version") (whole 1) d
-  length ← optional (codes "length") (whole 0) d
+  version ← needed (codes "version") (whole 1 greatest) d
+  length ← optional (codes "length") (whole 0 greatest) d
   found ← optional (codes "hashes") hashes d
   Some (record { version = version; length = length; hashes = found })
 
@@ -155,60 +133,43 @@ snapshot d = do
 
 abbrev pub target : List ℕ → Form Target
 target path d = do
-  length ← needed (codes "length") (whole 0) d
+  length ← needed (codes "length") (whole 0 greatest) d
   hashes ← needed (codes "hashes") hashes d
   Some (record { path = path; length = length; hashes = hashes })
 
--- a pattern has no `[`
-abbrev pub is_pattern : List ℕ → Bool
-is_pattern pattern = list_all (λ c. not (c == 91)) pattern
-
-abbrev pub is_lower_digit : ℕ → Bool
-is_lower_digit c = is_digit c || (nat_le 97 c && nat_le c 102)
-
--- a prefix of a digest: 1 to 64 digits of `0` to `9` and `a` to `f`
-abbrev pub is_prefix : List ℕ → Bool
-is_prefix digits =
-    nat_le 1 (length digits) && nat_le (length digits) 64 && list_all is_lower_digit digits
-
-abbrev pub one_of : Option (List (List ℕ)) → Option (List (List ℕ)) → Option Matcher
-one_of (Some found) None = Some (patterns found)
-one_of None (Some found) = Some (prefixes found)
+abbrev pub one_of : Option (List (List ℕ)) → Option (List (List ℕ)) → Option Paths
+one_of (Some found) None = Some (Patterns found)
+one_of None (Some found) = Some (Prefixes found)
 one_of None None = None
 one_of (Some found) (Some other) = None
 
 -- exactly one of `paths` and `path_hash_prefixes`
-abbrev pub matcher : Form Matcher
-matcher d = do
-  paths ← optional (codes "paths") (list (text_that is_pattern)) d
-  hash_prefixes ← optional (codes "path_hash_prefixes") (list (text_that is_prefix)) d
-  one_of paths hash_prefixes
+abbrev pub paths : Form Paths
+paths d = do
+  patterns ← optional (codes "paths") (list (text_that is_pattern)) d
+  prefixes ← optional (codes "path_hash_prefixes") (list (text_that is_prefix)) d
+  one_of patterns prefixes
 
 abbrev pub delegation : Form Delegation
 delegation d = do
   name ← needed (codes "name") text d
   keys ← role_keys d
   terminating ← flag (codes "terminating") d
-  found ← matcher d
-  Some (record { name = name; keys = keys; terminating = terminating; matcher = found })
+  paths ← paths d
+  Some (record { name = name; keys = keys; terminating = terminating; paths = paths })
 
--- a whole number from 1 to 32
-abbrev pub bit_count : Form ℕ
-bit_count d = do
-  number ← as_number d
-  n ← as_u64 number
-  if nat_le 1 n && nat_le n 32 then Some n else None
-
+-- succinct roles: `2 ^ bits` bins, each a role with these keys, whose name begins with the prefix
+-- (this project's profile)
 abbrev pub bins : Form Bins
 bins d = do
   keys ← role_keys d
-  bits ← needed (codes "bit_length") bit_count d
+  bits ← needed (codes "bit_length") (whole 1 32) d
   prefix ← needed (codes "name_prefix") text d
   Some (record { keys = keys; bits = bits; prefix = prefix })
 
 abbrev pub roles_of : Option (List Delegation) → Option Bins → Option Roles
-roles_of (Some found) None = Some (listed found)
-roles_of None (Some found) = Some (binned found)
+roles_of (Some found) None = Some (Listed found)
+roles_of None (Some found) = Some (Binned found)
 roles_of None None = None
 roles_of (Some found) (Some other) = None
 
@@ -222,8 +183,8 @@ roles d = do
 abbrev pub delegations : Form Delegations
 delegations d = do
   ring ← needed (codes "keys") ring d
-  found ← roles d
-  Some (record { ring = ring; roles = found })
+  roles ← roles d
+  Some (record { ring = ring; roles = roles })
 
 abbrev pub targets : Form Targets
 targets d = do

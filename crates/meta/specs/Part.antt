@@ -1,9 +1,7 @@
 -- A file with what is read from it, and the limits on files (TUF 1.0 section 5).
 use Rattle.std.specs.Prelude.{ℕ, nat_lt, List, length, Result, Ok}
 use Rattle.cjson.specs.Checks.{◌>>=◌, refuse_if}
-use Rattle.cjson.specs.Document.{Document}
-use Rattle.meta.specs.Reads.{document_of}
-use Rattle.meta.specs.declared.fault.Fault.{Fault}
+pub use Rattle.meta.specs.Reads.{Form, reading_of, Fault}
 use Rattle.meta.specs.declared.fault.Fault.TheVariants.{TooLong}
 
 -- the most bytes of a file of each kind
@@ -24,14 +22,8 @@ pub record Part (A : Type 0) : Type 0 where
   pub bytes : List ℕ
   pub reading : A
 
--- what the bytes are read as
-abbrev pub reading_of : {A : Type 0} → (Document → Result A Fault) → List ℕ → Result A Fault
-reading_of form bytes = do
-  doc ← document_of bytes
-  form doc
-
 -- the file of these bytes, or its first fault
-abbrev pub part_of : {A : Type 0} → (Document → Result A Fault) → ℕ → List ℕ → Result (Part A) Fault
+abbrev pub part_of : {A : Type 0} → Form A → ℕ → List ℕ → Result (Part A) Fault
 part_of form limit bytes = do
   short ← refuse_if (nat_lt limit (length bytes)) TooLong
   reading ← reading_of form bytes

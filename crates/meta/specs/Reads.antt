@@ -1,15 +1,11 @@
--- What a document is read as (TUF 1.0 section 4), and what the reading calls answer.
-use Rattle.std.specs.Prelude.{◌≡◌, ℕ, List, Result, Ok, Err}
-use Rattle.cjson.specs.Checks.{or_refuse}
-use Rattle.cjson.specs.Document.{Document, document}
+-- What the bytes of a file are read as (TUF 1.0 section 4).
+use Rattle.std.specs.Prelude.{ℕ, List, Result, Ok, Err}
+use Rattle.cjson.specs.Checks.{◌>>=◌, or_refuse}
+pub use Rattle.cjson.specs.Document.{Document, document}
 use Rattle.cjson.specs.declared.fault.DocFault.{DocFault}
-use Rattle.cjson.specs.declared.fault.Misread.{Misread}
-use Rattle.cjson.specs.declared.fault.Misread.TheVariants as misread
-use Rattle.meta.specs.Metadata.{Root, Timestamp, Snapshot, Targets, root, timestamp, snapshot, targets}
-use Rattle.meta.specs.declared.fault.Fault.{Fault}
+pub use Rattle.cjson.specs.Form.{Form}
+pub use Rattle.meta.specs.declared.fault.Fault.{Fault}
 use Rattle.meta.specs.declared.fault.Fault.TheVariants.{Malformed}
-use Rattle.meta.specs.declared.fault.ReadFault.{ReadFault}
-use Rattle.meta.specs.declared.fault.ReadFault.TheVariants as read
 
 abbrev pub or_malformed : {A : Type 0} → Result A DocFault → Result A Fault
 or_malformed (Ok x) = Ok x
@@ -19,24 +15,12 @@ or_malformed (Err fault) = Err Malformed
 abbrev pub document_of : List ℕ → Result Document Fault
 document_of bytes = or_malformed (document bytes)
 
-abbrev pub root_of : Document → Result Root Fault
-root_of doc = or_refuse (root doc.signed) Malformed
+-- a document of the form
+abbrev pub formed : {A : Type 0} → Form A → Document → Result A Fault
+formed form doc = or_refuse (form doc.signed) Malformed
 
-abbrev pub timestamp_of : Document → Result Timestamp Fault
-timestamp_of doc = or_refuse (timestamp doc.signed) Malformed
-
-abbrev pub snapshot_of : Document → Result Snapshot Fault
-snapshot_of doc = or_refuse (snapshot doc.signed) Malformed
-
-abbrev pub targets_of : Document → Result Targets Fault
-targets_of doc = or_refuse (targets doc.signed) Malformed
-
--- a reading's answer, as `seen` sees it; want of memory says nothing
-abbrev pub ReadsFile : {A : Type 0} → Result A Fault → Result A ReadFault → Type 0
-ReadsFile r (Ok x) = r ≡ Ok x
-ReadsFile r (Err read.Malformed) = r ≡ Err Malformed
-ReadsFile r (Err read.NoMemory) = Unit {0}
-
-abbrev pub read_fault : Misread → ReadFault
-read_fault misread.Malformed = read.Malformed
-read_fault misread.NoMemory = read.NoMemory
+-- what the bytes are read as
+abbrev pub reading_of : {A : Type 0} → Form A → List ℕ → Result A Fault
+reading_of form bytes = do
+  doc ← document_of bytes
+  formed form doc

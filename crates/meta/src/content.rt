@@ -1,17 +1,16 @@
 //! The checks of length and digests.
 
-ghost use Rattle.std.specs.Prelude.{◌≡◌, IfOk, not, bytes_eq};
+ghost use Rattle.std.specs.Prelude.{◌≡◌, IfOk, option_map};
 ghost use Rattle.cjson.specs.Checks.{refuse_if};
 ghost use Rattle.keys.specs.Truth.{digest_by};
 ghost use Rattle.meta.specs.Content as spec;
 ghost use Rattle.meta.specs.Answers.{Answers};
-ghost use Rattle.keys.specs.declared.judge.Algorithm.TheVariants.{Sha256, Sha512};
 
 use crate::fault::{Fault, Stop};
 use crate::hashes::Hashes;
 use cjson::NoMemory;
 use cjson::number::Length;
-use keys::{Algorithm, Ask, Judge};
+use keys::{Algorithm, Ask, DigestAsk, Judge};
 
 /// What may be listed of a file's content, beside the limit of its kind.
 #[derive(Clone, Copy)]
@@ -79,54 +78,33 @@ fn is_hash_wrong<J: Judge>(
 ) -> Result<bool, NoMemory>
     ensures { IfOk result (λ b. b ≡ spec.is_hash_wrong hashes.now bytes.now) }
 {
-    Ok(is_sha256_wrong(hashes, file, bytes, judge)? || is_sha512_wrong(hashes, file, bytes, judge)?)
+    let sha256 = hashes.sha256.as_ref().map(|digest| digest.as_slice());
+    let sha512 = hashes.sha512.as_ref().map(|digest| digest.as_slice());
+    Ok(
+        differs(Algorithm::Sha256, file, bytes, sha256, judge)?
+            || differs(Algorithm::Sha512, file, bytes, sha512, judge)?,
+    )
 }
 
-fn is_sha256_wrong<J: Judge>(
-    hashes: &Hashes,
-    file: &str,
-    bytes: &[u8],
-    judge: &mut J,
-) -> Result<bool, NoMemory>
-    ensures { IfOk result (λ b. b
-        ≡ spec.differs hashes.now.sha256 (digest_by Sha256 bytes.now)) }
-{
-    match &hashes.sha256 {
-        Some(digest) => differs(Algorithm::Sha256, file, bytes, digest, judge),
-        None => Ok(false),
-    }
-}
-
-fn is_sha512_wrong<J: Judge>(
-    hashes: &Hashes,
-    file: &str,
-    bytes: &[u8],
-    judge: &mut J,
-) -> Result<bool, NoMemory>
-    ensures { IfOk result (λ b. b
-        ≡ spec.differs hashes.now.sha512 (digest_by Sha512 bytes.now)) }
-{
-    match &hashes.sha512 {
-        Some(digest) => differs(Algorithm::Sha512, file, bytes, digest, judge),
-        None => Ok(false),
-    }
-}
-
-/// Whether the digest isn't that of the bytes.
+/// Whether a digest is listed that isn't that of the bytes.
 fn differs<J: Judge>(
     algorithm: Algorithm,
     file: &str,
     bytes: &[u8],
-    digest: &[u8],
+    listed: Option<&[u8]>,
     judge: &mut J,
 ) -> Result<bool, NoMemory>
-    ensures { IfOk result (λ b. b ≡ not (bytes_eq digest.now (digest_by algorithm bytes.now))) }
+    ensures { IfOk result (λ b. b
+        ≡ spec.differs (option_map (λ d. d.now) listed.entry) (digest_by algorithm bytes.now)) }
 {
-    let ask = Ask::Digest {
+    let Some(digest) = listed else {
+        return Ok(false);
+    };
+    let ask = DigestAsk {
         file,
         algorithm,
         bytes,
         digest,
     };
-    Ok(!judge.valid(&ask)?)
+    Ok(!judge.valid(&Ask::Digest(ask))?)
 }

@@ -4,10 +4,10 @@ ghost use Rattle.std.specs.Prelude.{◌≡◌, true};
 ghost use Rattle.std.specs.List.{list_all};
 ghost use Rattle.serde_json.specs.View.{view};
 ghost use Rattle.meta.specs.Metadata as spec;
+ghost use Rattle.meta.specs.Patterns as rule;
 ghost use Rattle.cjson.specs.Reads.{Reads};
-ghost use Rattle.meta.specs.Matcher.{ReadsMatcher, matcher_of};
 
-use cjson::Misread;
+use cjson::ReadFault;
 use cjson::form::{FromJson, needed, optional};
 use cjson::list::Items;
 use cjson::text::Text;
@@ -24,39 +24,39 @@ pub struct PathPattern {
 
 impl Model for PathPattern {
     ghost use Rattle.std.specs.Prelude.{◌≡◌, List, ℕ, true};
-    ghost use Rattle.meta.specs.Metadata as spec;
+    ghost use Rattle.meta.specs.Patterns as rule;
 
     ghost Value = { List ℕ };
 
     ghost view = { λ p. p.text };
 
-    ghost invariant = { λ p. spec.is_pattern p.text ≡ true };
+    ghost invariant = { λ p. rule.is_pattern p.text ≡ true };
 }
 
 impl PathPattern {
     /// The pattern's text.
     pub fn as_str(&self) -> &str
         ensures value { result.now ≡ self.now }
-        ensures form { spec.is_pattern result.now ≡ true }
+        ensures form { rule.is_pattern result.now ≡ true }
     {
         self.text.as_str()
     }
 }
 
 impl FromJson for PathPattern {
-    ghost form = { spec.text_that spec.is_pattern };
+    ghost form = { spec.text_that rule.is_pattern };
 
-    fn from_json(alloc: Global, value: &Value) -> Result<PathPattern, Misread> {
+    fn from_json(alloc: Global, value: &Value) -> Result<PathPattern, ReadFault> {
         let text: Text = FromJson::from_json(alloc, value)?;
         if !is_pattern(text.as_str()) {
-            return Err(Misread::Malformed);
+            return Err(ReadFault::Malformed);
         }
         Ok(PathPattern { text })
     }
 }
 
 fn is_pattern(text: &str) -> bool
-    ensures { result ≡ spec.is_pattern text.now }
+    ensures { result ≡ rule.is_pattern text.now }
 {
     text.as_bytes().iter().all(|c| *c != b'[')
 }
@@ -69,54 +69,51 @@ pub struct HashPrefix {
 
 impl Model for HashPrefix {
     ghost use Rattle.std.specs.Prelude.{◌≡◌, List, ℕ, true};
-    ghost use Rattle.meta.specs.Metadata as spec;
+    ghost use Rattle.meta.specs.Patterns as rule;
 
     ghost Value = { List ℕ };
 
     ghost view = { λ p. p.text };
 
-    ghost invariant = { λ p. spec.is_prefix p.text ≡ true };
+    ghost invariant = { λ p. rule.is_prefix p.text ≡ true };
 }
 
 impl HashPrefix {
     /// The first digits of the digest.
     pub fn digits(&self) -> &str
         ensures value { result.now ≡ self.now }
-        ensures form { spec.is_prefix result.now ≡ true }
+        ensures form { rule.is_prefix result.now ≡ true }
     {
         self.text.as_str()
     }
 }
 
 impl FromJson for HashPrefix {
-    ghost form = { spec.text_that spec.is_prefix };
+    ghost form = { spec.text_that rule.is_prefix };
 
-    fn from_json(alloc: Global, value: &Value) -> Result<HashPrefix, Misread> {
+    fn from_json(alloc: Global, value: &Value) -> Result<HashPrefix, ReadFault> {
         let text: Text = FromJson::from_json(alloc, value)?;
         if !is_prefix(text.as_str()) {
-            return Err(Misread::Malformed);
+            return Err(ReadFault::Malformed);
         }
         Ok(HashPrefix { text })
     }
 }
 
 fn is_prefix(digits: &str) -> bool
-    ensures { result ≡ spec.is_prefix digits.now }
+    ensures { result ≡ rule.is_prefix digits.now }
 {
-    if digits.is_empty() || digits.len() > 64 {
-        return false;
-    }
-    are_lower_digits(digits.as_bytes())
+    !digits.is_empty() && digits.len() <= 64 && are_lower_digits(digits.as_bytes())
 }
 
 fn are_lower_digits(bytes: &[u8]) -> bool
-    ensures { result ≡ list_all spec.is_lower_digit bytes.now }
+    ensures { result ≡ list_all rule.is_lower_digit bytes.now }
 {
     bytes.iter().all(|c| is_lower_digit(*c))
 }
 
 fn is_lower_digit(c: u8) -> bool
-    ensures { result ≡ spec.is_lower_digit c }
+    ensures { result ≡ rule.is_lower_digit c }
 {
     matches!(c, b'0'..=b'9' | b'a'..=b'f')
 }
@@ -130,86 +127,48 @@ pub enum Paths {
     Prefixes(Items<HashPrefix>),
 }
 
-/// A delegation to a role.
+/// A delegation to a role (TUF 1.0 section 4.5).
 #[derive(Drop)]
 pub struct Delegation {
-    name: Text,
-    keys: RoleKeys,
-    terminating: bool,
-    paths: Paths,
-}
-
-impl Model for Delegation {
-    ghost use Rattle.meta.specs.Metadata as spec;
-    ghost use Rattle.meta.specs.Matcher.{matcher_of};
-
-    ghost Value = { spec.Delegation };
-
-    ghost view = { λ a. record {
-      name = a.name;
-      keys = a.keys;
-      terminating = a.terminating;
-      matcher = matcher_of a.paths;
-    } };
-}
-
-impl Delegation {
     /// The role's name.
-    pub fn name(&self) -> &str
-        ensures value { result.now ≡ self.now.name }
-    {
-        self.name.as_str()
-    }
-
+    pub name: Text,
     /// Which keys must sign the role's file, and how many.
-    pub fn keys(&self) -> &RoleKeys
-        ensures value { result.now ≡ self.now.keys }
-    {
-        &self.keys
-    }
-
+    pub keys: RoleKeys,
     /// Whether a search that comes to the delegation tries none that follow it.
-    pub fn is_terminating(&self) -> bool
-        ensures value { result ≡ self.now.terminating }
-    {
-        self.terminating
-    }
-
+    pub terminating: bool,
     /// Which paths it is for.
-    pub fn paths(&self) -> &Paths
-        ensures value { matcher_of result.now ≡ self.now.matcher }
-    {
-        &self.paths
+    pub paths: Paths,
+}
+
+impl FromJson for Paths {
+    ghost form = { spec.paths };
+
+    fn from_json(alloc: Global, value: &Value) -> Result<Paths, ReadFault> {
+        let patterns = optional(alloc, value, "paths")?;
+        let prefixes = optional(alloc, value, "path_hash_prefixes")?;
+        match (patterns, prefixes) {
+            (Some(found), None) => Ok(Paths::Patterns(found)),
+            (None, Some(found)) => Ok(Paths::Prefixes(found)),
+            _ => Err(ReadFault::Malformed),
+        }
     }
 }
 
 impl FromJson for Delegation {
     ghost form = { spec.delegation };
 
-    fn from_json(alloc: Global, value: &Value) -> Result<Delegation, Misread> {
+    fn from_json(alloc: Global, value: &Value) -> Result<Delegation, ReadFault> {
         Ok(Delegation {
             name: needed(alloc, value, "name")?,
             keys: RoleKeys::from_json(alloc, value)?,
             terminating: flag(alloc, value, "terminating")?,
-            paths: read_paths(alloc, value)?,
+            paths: Paths::from_json(alloc, value)?,
         })
     }
 }
 
-pub(crate) fn flag(alloc: Global, value: &Value, name: &str) -> Result<bool, Misread>
+pub(crate) fn flag(alloc: Global, value: &Value, name: &str) -> Result<bool, ReadFault>
     ensures { Reads (spec.flag name.now (view value.now)) result }
 {
     Ok(optional(alloc, value, name)?.unwrap_or(false))
-}
-
-fn read_paths(alloc: Global, value: &Value) -> Result<Paths, Misread>
-    ensures { ReadsMatcher (spec.matcher (view value.now)) result }
-{
-    let patterns = optional(alloc, value, "paths")?;
-    let prefixes = optional(alloc, value, "path_hash_prefixes")?;
-    match (patterns, prefixes) {
-        (Some(found), None) => Ok(Paths::Patterns(found)),
-        (None, Some(found)) => Ok(Paths::Prefixes(found)),
-        _ => Err(Misread::Malformed),
-    }
 }

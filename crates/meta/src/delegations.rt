@@ -1,20 +1,28 @@
 //! The delegations of a targets file.
 
-ghost use Rattle.std.specs.Prelude.{◌≡◌, ◌≤◌};
-ghost use Rattle.serde_json.specs.View.{view};
-ghost use Rattle.cjson.specs.Reads.{Reads};
 ghost use Rattle.meta.specs.Metadata as spec;
-ghost use Rattle.meta.specs.Delegated.{ReadsRoles, roles_in};
 
-use crate::bins::Bins;
 use crate::delegation::Delegation;
-use cjson::Misread;
+use cjson::ReadFault;
 use cjson::form::{FromJson, needed, optional};
 use cjson::list::Items;
-use keys::KeyRing;
+use cjson::number::Within;
+use cjson::text::Text;
+use keys::{KeyRing, RoleKeys};
 use serde_json::Value;
 use std::alloc::Global;
-use std::marker::Model;
+
+/// Succinct roles, which are hash bins (this project's profile): a role for each beginning of so
+/// many bits that a path's SHA-256 digest may have.
+#[derive(Drop)]
+pub struct Bins {
+    /// Which keys must sign a bin's file, and how many.
+    pub keys: RoleKeys,
+    /// How many bits of a digest tell the bin, 1 to 32.
+    pub bits: Within<1, 32>,
+    /// What the bins' names begin with.
+    pub prefix: Text,
+}
 
 /// The roles that a targets file delegates to.
 #[derive(Drop)]
@@ -28,53 +36,45 @@ pub enum Roles {
 /// The delegations of a targets file (TUF 1.0 section 4.5).
 #[derive(Drop)]
 pub struct Delegations {
-    ring: KeyRing,
-    roles: Roles,
-}
-
-impl Model for Delegations {
-    ghost use Rattle.meta.specs.Metadata as spec;
-    ghost use Rattle.meta.specs.Delegated.{roles_in};
-
-    ghost Value = { spec.Delegations };
-
-    ghost view = { λ a. record { ring = a.ring; roles = roles_in a.roles } };
-}
-
-impl Delegations {
     /// The keys of the file, for the roles that it delegates to.
-    pub fn ring(&self) -> &KeyRing
-        ensures value { result.now ≡ self.now.ring }
-    {
-        &self.ring
-    }
-
+    pub ring: KeyRing,
     /// The roles that it delegates to.
-    pub fn roles(&self) -> &Roles
-        ensures value { roles_in result.now ≡ self.now.roles }
-    {
-        &self.roles
+    pub roles: Roles,
+}
+
+impl FromJson for Bins {
+    ghost form = { spec.bins };
+
+    fn from_json(alloc: Global, value: &Value) -> Result<Bins, ReadFault> {
+        Ok(Bins {
+            keys: RoleKeys::from_json(alloc, value)?,
+            bits: needed(alloc, value, "bit_length")?,
+            prefix: needed(alloc, value, "name_prefix")?,
+        })
+    }
+}
+
+impl FromJson for Roles {
+    ghost form = { spec.roles };
+
+    fn from_json(alloc: Global, value: &Value) -> Result<Roles, ReadFault> {
+        let listed = optional(alloc, value, "roles")?;
+        let bins = optional(alloc, value, "succinct_roles")?;
+        match (listed, bins) {
+            (Some(found), None) => Ok(Roles::Listed(found)),
+            (None, Some(found)) => Ok(Roles::Binned(found)),
+            _ => Err(ReadFault::Malformed),
+        }
     }
 }
 
 impl FromJson for Delegations {
     ghost form = { spec.delegations };
 
-    fn from_json(alloc: Global, value: &Value) -> Result<Delegations, Misread> {
-        let ring = needed(alloc, value, "keys")?;
-        let roles = read_roles(alloc, value)?;
-        Ok(Delegations { ring, roles })
-    }
-}
-
-fn read_roles(alloc: Global, value: &Value) -> Result<Roles, Misread>
-    ensures { ReadsRoles (spec.roles (view value.now)) result }
-{
-    let listed = optional(alloc, value, "roles")?;
-    let bins = optional(alloc, value, "succinct_roles")?;
-    match (listed, bins) {
-        (Some(found), None) => Ok(Roles::Listed(found)),
-        (None, Some(found)) => Ok(Roles::Binned(found)),
-        _ => Err(Misread::Malformed),
+    fn from_json(alloc: Global, value: &Value) -> Result<Delegations, ReadFault> {
+        Ok(Delegations {
+            ring: needed(alloc, value, "keys")?,
+            roles: Roles::from_json(alloc, value)?,
+        })
     }
 }

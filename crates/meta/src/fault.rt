@@ -1,12 +1,11 @@
 //! The faults of files.
 
 ghost use Rattle.std.specs.Prelude.{◌≡◌};
-ghost use Rattle.meta.specs.Reads.{read_fault};
 ghost use Rattle.meta.specs.Answers.{stop_of};
 ghost use Rattle.meta.specs.declared.fault.Stop.TheVariants as stop;
 
-use cjson::{Misread, NoMemory};
-use std::alloc::{AllocError, AllocFailed};
+use cjson::{NoMemory, ReadFault};
+use std::alloc::AllocError;
 use thiserror::Error;
 
 /// Why a file is refused (TUF 1.0 section 5): the first check that it fails, in this order of
@@ -48,17 +47,6 @@ pub enum Fault {
     Expired = 11,
 }
 
-/// Why a document was not read as a file of its kind.
-#[derive(Clone, Copy, Debug, PartialEq, Eq, Error)]
-pub enum ReadFault {
-    /// The document hasn't the form of the kind.
-    #[error("not of the form")]
-    Malformed,
-    /// Memory was refused.
-    #[error("out of memory")]
-    NoMemory,
-}
-
 /// Why the checks of a file end early.
 #[derive(Clone, Copy, Debug, PartialEq, Eq, Error)]
 pub enum Stop {
@@ -68,17 +56,6 @@ pub enum Stop {
     /// Memory was refused.
     #[error("out of memory")]
     NoMemory,
-}
-
-impl From<Misread> for ReadFault {
-    ghost from_gives = { λ m e. e ≡ read_fault m };
-
-    fn from(misread: Misread) -> ReadFault {
-        match misread {
-            Misread::Malformed => ReadFault::Malformed,
-            Misread::NoMemory => ReadFault::NoMemory,
-        }
-    }
 }
 
 impl From<Fault> for Stop {
@@ -112,14 +89,6 @@ impl From<AllocError> for Stop {
     ghost from_gives = { λ _ e. e ≡ stop.NoMemory };
 
     fn from(_refused: AllocError) -> Stop {
-        Stop::NoMemory
-    }
-}
-
-impl<T: Drop> From<AllocFailed<T>> for Stop {
-    ghost from_gives = { λ _ e. e ≡ stop.NoMemory };
-
-    fn from(_refused: AllocFailed<T>) -> Stop {
         Stop::NoMemory
     }
 }

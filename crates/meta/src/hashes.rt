@@ -6,7 +6,7 @@ ghost use Rattle.serde_json.specs.View.{view, members_view};
 ghost use Rattle.cjson.specs.Form as form_of;
 ghost use Rattle.meta.specs.Metadata as spec;
 
-use cjson::Misread;
+use cjson::ReadFault;
 use cjson::form::{FromJson, optional};
 use serde_json::{Map, Value};
 use std::alloc::Global;
@@ -23,10 +23,10 @@ pub struct Hashes {
 impl FromJson for Hashes {
     ghost form = { spec.hashes };
 
-    fn from_json(alloc: Global, value: &Value) -> Result<Hashes, Misread> {
-        let found = value.as_object().ok_or(Misread::Malformed)?;
+    fn from_json(alloc: Global, value: &Value) -> Result<Hashes, ReadFault> {
+        let found = value.as_object().ok_or(ReadFault::Malformed)?;
         if !has_only_texts(found) {
-            return Err(Misread::Malformed);
+            return Err(ReadFault::Malformed);
         }
         let sha256 = optional(alloc, value, "sha256")?;
         let sha512 = optional(alloc, value, "sha512")?;

@@ -6,7 +6,7 @@ ghost use Rattle.cjson.specs.Form as form_of;
 ghost use Rattle.meta.specs.Metadata as spec;
 ghost use Rattle.cjson.specs.Reads.{Reads};
 
-use cjson::Misread;
+use cjson::ReadFault;
 use cjson::form::needed;
 use cjson::number::Positive;
 use cjson::text::is_text;
@@ -23,14 +23,14 @@ pub struct Header {
     pub expires: Moment,
 }
 
-pub(crate) fn read_header(alloc: Global, kind: &str, value: &Value) -> Result<Header, Misread>
+pub(crate) fn read_header(alloc: Global, kind: &str, value: &Value) -> Result<Header, ReadFault>
     ensures { Reads (spec.header kind.now (view value.now)) result }
 {
     if !is_text(value, "_type", kind) || !is_of_version_one(value) {
-        return Err(Misread::Malformed);
+        return Err(ReadFault::Malformed);
     }
     let version = needed(alloc, value, "version")?;
-    let expires = expires(value).ok_or(Misread::Malformed)?;
+    let expires = expires(value).ok_or(ReadFault::Malformed)?;
     Ok(Header { version, expires })
 }
 

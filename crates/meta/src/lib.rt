@@ -2,7 +2,6 @@
 //! read from it.
 #![tactic(auto)]
 
-mod bins;
 mod content;
 mod delegation;
 mod delegations;
@@ -18,11 +17,11 @@ mod snapshot;
 mod targets;
 mod timestamp;
 
-pub use bins::Bins;
+pub use cjson::ReadFault;
 pub use content::{Content, refuse_if};
 pub use delegation::{Delegation, HashPrefix, PathPattern, Paths};
-pub use delegations::{Delegations, Roles};
-pub use fault::{Fault, ReadFault, Stop};
+pub use delegations::{Bins, Delegations, Roles};
+pub use fault::{Fault, Stop};
 pub use hashes::Hashes;
 pub use header::Header;
 pub use listing::Listing;

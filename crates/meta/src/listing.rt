@@ -8,7 +8,7 @@ ghost use Rattle.meta.specs.Metadata as spec;
 use crate::content::Content;
 use crate::fault::Stop;
 use crate::hashes::Hashes;
-use cjson::Misread;
+use cjson::ReadFault;
 use cjson::form::{FromJson, needed, optional};
 use cjson::number::{Length, Positive};
 use keys::Judge;
@@ -51,7 +51,7 @@ impl Listing {
 impl FromJson for Listing {
     ghost form = { spec.listing };
 
-    fn from_json(alloc: Global, value: &Value) -> Result<Listing, Misread> {
+    fn from_json(alloc: Global, value: &Value) -> Result<Listing, ReadFault> {
         Ok(Listing {
             version: needed(alloc, value, "version")?,
             length: optional(alloc, value, "length")?,

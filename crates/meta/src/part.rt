@@ -1,31 +1,31 @@
 //! A file together with what is read from it.
 
-ghost use Rattle.std.specs.Prelude.{◌≡◌, ◌≤◌, ℕ, length, Result, Ok, IfOk};
-ghost use Rattle.cjson.specs.Document.{Document};
+ghost use Rattle.std.specs.Prelude.{◌≡◌, ◌≤◌, ℕ, length, Option, Ok, IfOk};
+ghost use Rattle.serde_json.specs.Data.{Data};
 ghost use Rattle.cjson.specs.DocOf.{doc_of};
-ghost use Rattle.meta.specs.Reads.{ReadsFile, document_of};
+ghost use Rattle.cjson.specs.Reads.{Reads};
+ghost use Rattle.meta.specs.Reads.{document_of, reading_of};
 ghost use Rattle.meta.specs.Answers.{Answers};
 ghost use Rattle.meta.specs.Part as spec;
-ghost use Rattle.meta.specs.declared.fault.Fault.{Fault};
 
 use crate::content::refuse_if;
-use crate::fault::{Fault, ReadFault, Stop};
-use cjson::{Doc, DocFault, NoMemory, signed_bytes};
+use crate::fault::{Fault, Stop};
+use cjson::{Doc, DocFault, NoMemory, ReadFault, signed_bytes};
 use std::alloc::Global;
 use std::marker::Model;
 use std::sync::Arc;
 
 /// What is read from a file of some kind.
 pub trait Reading: Sized {
-    /// What a document is read as.
-    ghost of_document: { Document → Result Self Fault };
+    /// What the signed tree of a document is read as.
+    ghost form: { Data → Option Self };
 
     /// The most bytes of a file.
     ghost limit: { ℕ };
 
     /// Reads a document as a file of this kind.
     fn read(alloc: Global, doc: &Doc) -> Result<Self, ReadFault>
-        ensures read { ReadsFile (of_document (doc_of doc.now)) result };
+        ensures read { Reads (form (doc_of doc.now).signed) result };
 
     /// The most bytes of a file of this kind.
     fn limit() -> u64
@@ -49,6 +49,7 @@ struct File<A> {
 impl<A: Reading> Model for Part<A> {
     ghost use Rattle.std.specs.Prelude.{◌≡◌, ◌≤◌, length, Ok};
     ghost use Rattle.meta.specs.Part as spec;
+    ghost use Rattle.meta.specs.Reads.{reading_of};
 
     ghost Value = { spec.Part A };
 
@@ -58,14 +59,14 @@ impl<A: Reading> Model for Part<A> {
     } };
 
     ghost invariant = { λ p.
-        (spec.reading_of A.of_document p.file.value.bytes.items ≡ Ok p.file.value.reading)
+        (reading_of A.form p.file.value.bytes.items ≡ Ok p.file.value.reading)
         × (length p.file.value.bytes.items ≤ A.limit) };
 }
 
 impl<A: Reading + Drop> Part<A> {
     /// A file of bytes that were read, within the limit of its kind.
     pub fn new(alloc: Global, bytes: Vec<u8>, reading: A) -> Result<Part<A>, NoMemory>
-        requires read { spec.reading_of A.of_document bytes.items ≡ Ok reading }
+        requires read { reading_of A.form bytes.items ≡ Ok reading }
         requires limit { length bytes.items ≤ A.limit }
         ensures value { IfOk result (λ p. p
             ≡ record { bytes = bytes.items; reading = reading }) }
@@ -77,7 +78,7 @@ impl<A: Reading + Drop> Part<A> {
     /// The file of these bytes: `TooLong` over the limit of its kind, else what its reading
     /// answers.
     pub fn read(alloc: Global, bytes: Vec<u8>) -> Result<Part<A>, Stop>
-        ensures answer { Answers (spec.part_of A.of_document A.limit bytes.items) result (λ p. p) }
+        ensures answer { Answers (spec.part_of A.form A.limit bytes.items) result (λ p. p) }
     {
         refuse_if(bytes.len() as u64 > A::limit(), Fault::TooLong)?;
         let doc = read_document(alloc, &bytes)?;
@@ -104,7 +105,7 @@ impl<A: Reading + Drop> Part<A> {
     /// What is read from the bytes.
     pub fn reading(&self) -> &A
         ensures value { result.now ≡ self.now.reading }
-        ensures read { spec.reading_of A.of_document self.now.bytes ≡ Ok result.now }
+        ensures read { reading_of A.form self.now.bytes ≡ Ok result.now }
     {
         &self.file.reading
     }

@@ -4,15 +4,13 @@ ghost use Rattle.std.specs.Prelude.{◌≡◌};
 ghost use Rattle.serde_json.specs.View.{view};
 ghost use Rattle.meta.specs.Metadata as spec;
 ghost use Rattle.meta.specs.Part.{root_limit};
-ghost use Rattle.meta.specs.Reads.{root_of};
 ghost use Rattle.cjson.specs.Reads.{Reads};
 
 use crate::delegation::flag;
-use crate::fault::ReadFault;
 use crate::header::{Header, read_header};
 use crate::part::Reading;
 use cjson::form::needed;
-use cjson::{Doc, Misread};
+use cjson::{Doc, ReadFault};
 use keys::{KeyRing, RoleKeys};
 use serde_json::Value;
 use std::alloc::Global;
@@ -98,12 +96,21 @@ impl Root {
 }
 
 impl Reading for Root {
-    ghost of_document = { root_of };
+    ghost form = { spec.root };
 
     ghost limit = { root_limit };
 
     fn read(alloc: Global, doc: &Doc) -> Result<Root, ReadFault> {
-        Ok(parse(alloc, doc.tree())?)
+        let value = doc.tree();
+        Ok(Root {
+            header: read_header(alloc, "root", value)?,
+            ring: needed(alloc, value, "keys")?,
+            root: role_of(alloc, value, "root")?,
+            timestamp: role_of(alloc, value, "timestamp")?,
+            snapshot: role_of(alloc, value, "snapshot")?,
+            targets: role_of(alloc, value, "targets")?,
+            consistent: flag(alloc, value, "consistent_snapshot")?,
+        })
     }
 
     fn limit() -> u64 {
@@ -111,23 +118,9 @@ impl Reading for Root {
     }
 }
 
-fn parse(alloc: Global, value: &Value) -> Result<Root, Misread>
-    ensures { Reads (spec.root (view value.now)) result }
-{
-    Ok(Root {
-        header: read_header(alloc, "root", value)?,
-        ring: needed(alloc, value, "keys")?,
-        root: role_of(alloc, value, "root")?,
-        timestamp: role_of(alloc, value, "timestamp")?,
-        snapshot: role_of(alloc, value, "snapshot")?,
-        targets: role_of(alloc, value, "targets")?,
-        consistent: flag(alloc, value, "consistent_snapshot")?,
-    })
-}
-
-fn role_of(alloc: Global, value: &Value, name: &str) -> Result<RoleKeys, Misread>
+fn role_of(alloc: Global, value: &Value, name: &str) -> Result<RoleKeys, ReadFault>
     ensures { Reads (spec.role_of name.now (view value.now)) result }
 {
-    let roles = value.get("roles").ok_or(Misread::Malformed)?;
+    let roles = value.get("roles").ok_or(ReadFault::Malformed)?;
     needed(alloc, roles, name)
 }

@@ -1,13 +1,9 @@
 //! Snapshot files.
 
 ghost use Rattle.std.specs.Prelude.{◌≡◌};
-ghost use Rattle.serde_json.specs.View.{view};
 ghost use Rattle.meta.specs.Metadata as spec;
 ghost use Rattle.meta.specs.Part.{snapshot_limit};
-ghost use Rattle.meta.specs.Reads.{snapshot_of};
-ghost use Rattle.cjson.specs.Reads.{Reads};
 
-use crate::fault::ReadFault;
 use crate::header::{Header, read_header};
 use crate::listing::Listing;
 use crate::part::Reading;
@@ -15,7 +11,7 @@ use cjson::form::FromJson;
 use cjson::list::Items;
 use cjson::members::{FromMember, read_members};
 use cjson::text::Text;
-use cjson::{Doc, Misread};
+use cjson::{Doc, ReadFault};
 use serde_json::Value;
 use std::alloc::Global;
 use std::marker::Model;
@@ -32,7 +28,7 @@ pub struct Named {
 impl FromMember for Named {
     ghost member_form = { spec.named };
 
-    fn from_member(alloc: Global, name: &str, value: &Value) -> Result<Named, Misread> {
+    fn from_member(alloc: Global, name: &str, value: &Value) -> Result<Named, ReadFault> {
         let listing = Listing::from_json(alloc, value)?;
         let name = Text::new(String::from_str(alloc, name)?);
         Ok(Named { name, listing })
@@ -71,24 +67,19 @@ impl Snapshot {
 }
 
 impl Reading for Snapshot {
-    ghost of_document = { snapshot_of };
+    ghost form = { spec.snapshot };
 
     ghost limit = { snapshot_limit };
 
     fn read(alloc: Global, doc: &Doc) -> Result<Snapshot, ReadFault> {
-        Ok(parse(alloc, doc.tree())?)
+        let value = doc.tree();
+        let header = read_header(alloc, "snapshot", value)?;
+        let meta = value.get("meta").ok_or(ReadFault::Malformed)?;
+        let files = read_members(alloc, meta)?;
+        Ok(Snapshot { header, files })
     }
 
     fn limit() -> u64 {
         2_000_000
     }
-}
-
-fn parse(alloc: Global, value: &Value) -> Result<Snapshot, Misread>
-    ensures { Reads (spec.snapshot (view value.now)) result }
-{
-    let header = read_header(alloc, "snapshot", value)?;
-    let meta = value.get("meta").ok_or(Misread::Malformed)?;
-    let files = read_members(alloc, meta)?;
-    Ok(Snapshot { header, files })
 }

@@ -1,17 +1,14 @@
 //! Targets files, top-level and delegated.
 
 ghost use Rattle.std.specs.Prelude.{◌≡◌, IfOk, Some, option_map};
-ghost use Rattle.serde_json.specs.View.{view};
 ghost use Rattle.meta.specs.Answers.{Answers};
 ghost use Rattle.meta.specs.Content.{content};
 ghost use Rattle.meta.specs.Metadata as spec;
 ghost use Rattle.meta.specs.Part.{targets_limit};
-ghost use Rattle.meta.specs.Reads.{targets_of};
-ghost use Rattle.cjson.specs.Reads.{Reads};
 
 use crate::content::Content;
 use crate::delegations::Delegations;
-use crate::fault::{ReadFault, Stop};
+use crate::fault::Stop;
 use crate::hashes::Hashes;
 use crate::header::{Header, read_header};
 use crate::part::Reading;
@@ -20,7 +17,7 @@ use cjson::list::Items;
 use cjson::members::{FromMember, read_members};
 use cjson::number::Length;
 use cjson::text::Text;
-use cjson::{Doc, Misread, NoMemory};
+use cjson::{Doc, NoMemory, ReadFault};
 use keys::Judge;
 use serde_json::Value;
 use std::alloc::Global;
@@ -75,7 +72,7 @@ impl Target {
 impl FromMember for Target {
     ghost member_form = { spec.target };
 
-    fn from_member(alloc: Global, name: &str, value: &Value) -> Result<Target, Misread> {
+    fn from_member(alloc: Global, name: &str, value: &Value) -> Result<Target, ReadFault> {
         Ok(Target {
             length: needed(alloc, value, "length")?,
             hashes: needed(alloc, value, "hashes")?,
@@ -128,29 +125,24 @@ impl Targets {
 }
 
 impl Reading for Targets {
-    ghost of_document = { targets_of };
+    ghost form = { spec.targets };
 
     ghost limit = { targets_limit };
 
     fn read(alloc: Global, doc: &Doc) -> Result<Targets, ReadFault> {
-        Ok(parse(alloc, doc.tree())?)
+        let value = doc.tree();
+        let header = read_header(alloc, "targets", value)?;
+        let listed = value.get("targets").ok_or(ReadFault::Malformed)?;
+        let targets = read_members(alloc, listed)?;
+        let delegations = optional(alloc, value, "delegations")?;
+        Ok(Targets {
+            header,
+            targets,
+            delegations,
+        })
     }
 
     fn limit() -> u64 {
         5_000_000
     }
-}
-
-fn parse(alloc: Global, value: &Value) -> Result<Targets, Misread>
-    ensures { Reads (spec.targets (view value.now)) result }
-{
-    let header = read_header(alloc, "targets", value)?;
-    let listed = value.get("targets").ok_or(Misread::Malformed)?;
-    let targets = read_members(alloc, listed)?;
-    let delegations = optional(alloc, value, "delegations")?;
-    Ok(Targets {
-        header,
-        targets,
-        delegations,
-    })
 }

@@ -1,19 +1,14 @@
 //! Timestamp files.
 
 ghost use Rattle.std.specs.Prelude.{◌≡◌};
-ghost use Rattle.serde_json.specs.View.{view};
 ghost use Rattle.meta.specs.Metadata as spec;
 ghost use Rattle.meta.specs.Part.{timestamp_limit};
-ghost use Rattle.meta.specs.Reads.{timestamp_of};
-ghost use Rattle.cjson.specs.Reads.{Reads};
 
-use crate::fault::ReadFault;
 use crate::header::{Header, read_header};
 use crate::listing::Listing;
 use crate::part::Reading;
 use cjson::form::needed;
-use cjson::{Doc, Misread};
-use serde_json::Value;
+use cjson::{Doc, ReadFault};
 use std::alloc::Global;
 use std::marker::Model;
 
@@ -49,24 +44,19 @@ impl Timestamp {
 }
 
 impl Reading for Timestamp {
-    ghost of_document = { timestamp_of };
+    ghost form = { spec.timestamp };
 
     ghost limit = { timestamp_limit };
 
     fn read(alloc: Global, doc: &Doc) -> Result<Timestamp, ReadFault> {
-        Ok(parse(alloc, doc.tree())?)
+        let value = doc.tree();
+        let header = read_header(alloc, "timestamp", value)?;
+        let meta = value.get("meta").ok_or(ReadFault::Malformed)?;
+        let snapshot = needed(alloc, meta, "snapshot.json")?;
+        Ok(Timestamp { header, snapshot })
     }
 
     fn limit() -> u64 {
         16_384
     }
-}
-
-fn parse(alloc: Global, value: &Value) -> Result<Timestamp, Misread>
-    ensures { Reads (spec.timestamp (view value.now)) result }
-{
-    let header = read_header(alloc, "timestamp", value)?;
-    let meta = value.get("meta").ok_or(Misread::Malformed)?;
-    let snapshot = needed(alloc, meta, "snapshot.json")?;
-    Ok(Timestamp { header, snapshot })
 }

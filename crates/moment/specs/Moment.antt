@@ -3,6 +3,7 @@ use Rattle.std.specs.Prelude.{◌≡◌, ℕ, ◌+◌, ◌-◌, ◌*◌, ◌/◌
 use Rattle.std.specs.Ordering.{int_eq}
 use Rattle.std.specs.List.{list_all}
 use Rattle.jiff_core.specs.Calendar.{IsDate, days_in_month, days_from_civil}
+pub use Rattle.moment.specs.declared.Stamp.{Stamp}
 
 -- A day number, where day 0 is 1970-01-01, and the seconds since midnight, in UTC.
 pub record Moment : Type 0 where
@@ -14,15 +15,6 @@ abbrev pub is_before : Moment → Moment → Bool
 is_before a b = int_lt a.day b.day || (int_eq a.day b.day && nat_lt a.second b.second)
 
 -- ---- the text of a moment
-
--- a civil date and a time of day
-pub record Stamp : Type 0 where
-  pub year : ℕ
-  pub month : ℕ
-  pub day : ℕ
-  pub hour : ℕ
-  pub minute : ℕ
-  pub second : ℕ
 
 -- The calendar has the date, its year is 0 to 9999, and the clock has the time.
 abbrev pub IsStamp : Stamp → Type 0

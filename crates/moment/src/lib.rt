@@ -5,6 +5,7 @@ ghost use Rattle.std.specs.Prelude.{◌≡◌, ◌+◌, ◌*◌, ◌/◌, ◌%�
 ghost use Rattle.std.specs.Prelude.{◌↔◌, [], ◌∷◌, ℕ};
 ghost use Rattle.jiff_core.specs.Calendar.{IsDate, days_from_civil};
 ghost use Rattle.moment.specs.Moment as spec;
+ghost use Rattle.moment.specs.declared.Stamp.{Stamp};
 
 use jiff_core::civil::Date;
 use std::marker::Model;
@@ -40,21 +41,6 @@ struct Stamp {
     hour: u8,
     minute: u8,
     second: u8,
-}
-
-impl Model for Stamp {
-    ghost use Rattle.moment.specs.Moment as spec;
-
-    ghost Value = { spec.Stamp };
-
-    ghost view = { λ s. record {
-      year = s.year;
-      month = s.month;
-      day = s.day;
-      hour = s.hour;
-      minute = s.minute;
-      second = s.second;
-    } };
 }
 
 impl Moment {
@@ -114,7 +100,7 @@ impl Moment {
 /// The date and the time of day that a text of that form spells, in the calendar or not.
 fn stamp_of(text: &str) -> Option<Stamp>
     ensures some { IfSome result (λ s. spec.FitsDigits s × (text.now ≡ spec.stamp_text s)) }
-    ensures none { IsNone result → (s : spec.Stamp) → spec.FitsDigits s
+    ensures none { IsNone result → (s : Stamp) → spec.FitsDigits s
         → text.now ≡ spec.stamp_text s → ⊥ }
 {
     let [

@@ -208,7 +208,7 @@ fn searched(
 /// The accepted roles with their versions, and what was found.
 fn lines_of(alloc: Global, searched: &Searched) -> Result<String> {
     let mut text = String::new(alloc);
-    for accepted in searched.accepted() {
+    for accepted in searched.accepted.as_slice() {
         writeln!(
             text,
             "role {:?} {}",
@@ -216,7 +216,7 @@ fn lines_of(alloc: Global, searched: &Searched) -> Result<String> {
             accepted.version
         )?;
     }
-    push_found(&mut text, searched.found())?;
+    push_found(&mut text, &searched.found)?;
     Ok(text)
 }
 

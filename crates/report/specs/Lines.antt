@@ -1,14 +1,10 @@
 -- The lines that a run prints.
 use Rattle.std.specs.Prelude.{ℕ, List, [], ◌∷◌, ◌++◌, flat_map, zip, codes, decimal}
 use Rattle.std.specs.List.{enumerate_from}
-use Rattle.meta.specs.declared.fault.Fault.{Fault}
-use Rattle.meta.specs.declared.fault.Fault.TheVariants.{NotListed, Missing, TooLong, LengthWrong, HashWrong, NoKnownHash, Malformed, Unsigned, VersionWrong, Rollback, Expired}
+use Rattle.meta.specs.declared.fault.Fault.TheVariants.{NotListed, TooLong, LengthWrong, HashWrong, NoKnownHash, Malformed, Unsigned, VersionWrong, Rollback, Expired, Missing}
 use Rattle.rolechain.specs.declared.end.Step.{Step}
-use Rattle.rolechain.specs.declared.end.Step.TheVariants.{Root, Timestamp, Snapshot, Targets}
-use Rattle.rolechain.specs.declared.end.End.{End}
-use Rattle.rolechain.specs.declared.end.End.TheVariants.{Ready, Stopped}
-use Rattle.deleg.specs.declared.accepted.Accepted.{Accepted}
-use Rattle.cycle.specs.Workflow.{Outcome}
+pub use Rattle.rolechain.specs.declared.end.Step.TheVariants.{Root, Timestamp, Snapshot, Targets}
+use Rattle.cycle.specs.Workflow.{Fault, End, Ready, Stopped, Accepted, Outcome}
 use Rattle.cycle.specs.declared.verdict.Verdict.{Verdict}
 use Rattle.cycle.specs.declared.verdict.Verdict.TheVariants.{Good, NotFound, LimitReached, RoleRefused, FileRefused, NotSearched}
 use Rattle.failure.specs.Line.{line}

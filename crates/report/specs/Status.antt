@@ -2,9 +2,7 @@
 use Rattle.std.specs.Prelude.{ℕ, ◌-◌, Bool, true, false, List, length}
 use Rattle.std.specs.List.{list_all, slice_get}
 use Rattle.std.specs.Option.{option_map_or}
-use Rattle.rolechain.specs.declared.end.End.{End}
-use Rattle.rolechain.specs.declared.end.End.TheVariants.{Ready, Stopped}
-use Rattle.cycle.specs.Workflow.{Outcome}
+use Rattle.cycle.specs.Workflow.{End, Ready, Stopped, Outcome}
 use Rattle.cycle.specs.declared.verdict.Verdict.{Verdict}
 use Rattle.cycle.specs.declared.verdict.Verdict.TheVariants.{Good}
 

@@ -5,7 +5,8 @@ use Rattle.keys.specs.declared.role_keys.RoleKeys.{RoleKeys}
 use Rattle.meta.specs.Answers.{Answers}
 use Rattle.meta.specs.declared.fault.Fault.{Fault}
 use Rattle.meta.specs.declared.fault.Stop.{Stop}
-use Rattle.examine.specs.Checks.{Listed, Expectation}
+use Rattle.examine.specs.Checks.{Expectation}
+use Rattle.examine.specs.declared.expectation.Listed.{Listed}
 
 pub along : {A : Type 0} (F : Expectation → Result A Fault) (d e : Expectation) (r : Result A Stop) → d ≡ e → Answers (F d) r (λ p. p) → Answers (F e) r (λ p. p)
 along F d e r same h = subst (λ x. Answers (F x) r (λ p. p)) same h

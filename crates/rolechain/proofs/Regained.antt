@@ -8,12 +8,14 @@ use Rattle.serde_json.specs.Data.{Data}
 use Rattle.serde_json.specs.Read.{read}
 use Rattle.cjson.specs.Checks.{◌>>=◌, refuse_if, or_refuse}
 use Rattle.cjson.specs.Document.{Document, tree_of, document}
+use Rattle.cjson.specs.Form.{Form}
 use Rattle.cjson.specs.declared.fault.DocFault.{DocFault}
 use Rattle.cjson.specs.declared.fault.DocFault.TheVariants.{NotJson}
 use Rattle.cjson.specs.declared.fault.NoMemory.{NoMemory}
 use Rattle.meta.specs.Metadata.{Root, Timestamp, Snapshot, Targets}
-use Rattle.meta.specs.Part.{Part, part_of, reading_of, root_limit, timestamp_limit, snapshot_limit, targets_limit}
-use Rattle.meta.specs.Reads.{or_malformed, document_of, root_of, timestamp_of, snapshot_of, targets_of}
+use Rattle.meta.specs.Metadata as form
+use Rattle.meta.specs.Part.{Part, part_of, root_limit, timestamp_limit, snapshot_limit, targets_limit}
+use Rattle.meta.specs.Reads.{or_malformed, document_of, formed, reading_of}
 use Rattle.meta.specs.declared.fault.Fault.{Fault}
 use Rattle.meta.specs.declared.fault.Fault.TheVariants as fault
 use Rattle.rolechain.specs.State.{State}
@@ -69,29 +71,29 @@ record Shown {A : Type 0} (limit : ℕ) (bytes : List ℕ) (p : Part A) : Type 0
   utf8 : is_utf8 bytes ≡ true
   own : p.bytes ≡ bytes
 
-shown : {A : Type 0} (form : Document → Result A Fault) (limit : ℕ) (bytes : List ℕ) (p : Part A) → part_of form limit bytes ≡ Ok p → Shown limit bytes p
+shown : {A : Type 0} (form : Form A) (limit : ℕ) (bytes : List ℕ) (p : Part A) → part_of form limit bytes ≡ Ok p → Shown limit bytes p
 shown form limit bytes p h =
     let short = bind_ok (refuse_if (nat_lt limit (length bytes)) fault.TooLong) _ p h in
     let reading = bind_ok (reading_of form bytes) _ p short.2 in
-    let doc = bind_ok (document_of bytes) form reading.0 reading.1 in
+    let doc = bind_ok (document_of bytes) (formed form) reading.0 reading.1 in
     record {
       short = passed (nat_lt limit (length bytes)) fault.TooLong short.0 short.1;
       utf8 = document-utf8 bytes doc.0 (well_formed (document bytes) doc.0 doc.1);
       own = sym (ap (λ q. q.bytes) (same_ok _ p reading.2));
     }
 
-bytes-read : {A : Type 0} (form : Document → Result A Fault) (limit : ℕ) (p : Part A) → IsRead form limit p → IsBytes p.bytes
+bytes-read : {A : Type 0} (form : Form A) (limit : ℕ) (p : Part A) → IsRead form limit p → IsBytes p.bytes
 bytes-read form limit p h = IsBytes-is_utf8 p.bytes (shown form limit p.bytes p h).utf8
 
-bytes_in-read : {A : Type 0} (form : Document → Result A Fault) (limit : ℕ) (o : Option (Part A)) → IfSome o (IsRead form limit) → IfSome (bytes_in o) IsBytes
+bytes_in-read : {A : Type 0} (form : Form A) (limit : ℕ) (o : Option (Part A)) → IfSome o (IsRead form limit) → IfSome (bytes_in o) IsBytes
 bytes_in-read form limit None h = tt
 bytes_in-read form limit (Some p) h = bytes-read form limit p h
 
-is_over-read : {A : Type 0} (form : Document → Result A Fault) (limit : ℕ) (o : Option (Part A)) → IfSome o (IsRead form limit) → is_over limit (bytes_in o) ≡ false
+is_over-read : {A : Type 0} (form : Form A) (limit : ℕ) (o : Option (Part A)) → IfSome o (IsRead form limit) → is_over limit (bytes_in o) ≡ false
 is_over-read form limit None h = refl
 is_over-read form limit (Some p) h = (shown form limit p.bytes p h).short
 
-own_bytes : {A : Type 0} (form : Document → Result A Fault) (limit : ℕ) (k : Option (List ℕ)) (o : Option (Part A)) → part_in (part_of form limit) k ≡ Ok o → bytes_in o ≡ k
+own_bytes : {A : Type 0} (form : Form A) (limit : ℕ) (k : Option (List ℕ)) (o : Option (Part A)) → part_in (part_of form limit) k ≡ Ok o → bytes_in o ≡ k
 own_bytes form limit None o h = sym (ap bytes_in (same_ok None o h))
 own_bytes form limit (Some bytes) o h =
     let p = bind_ok (or_state_fault (part_of form limit bytes)) _ o h in
@@ -105,10 +107,10 @@ part_in-read reads (Some p) h = rw h
 
 HasBytes-kept_of : (s : State) → AreRead s → HasBytes (kept_of s)
 HasBytes-kept_of s h = record {
-  root = bytes-read root_of root_limit s.root h.root;
-  snapshot = bytes_in-read snapshot_of snapshot_limit s.snapshot h.snapshot;
-  targets = bytes_in-read targets_of targets_limit s.targets h.targets;
-  timestamp = bytes_in-read timestamp_of timestamp_limit s.timestamp h.timestamp;
+  root = bytes-read form.root root_limit s.root h.root;
+  snapshot = bytes_in-read form.snapshot snapshot_limit s.snapshot h.snapshot;
+  targets = bytes_in-read form.targets targets_limit s.targets h.targets;
+  timestamp = bytes_in-read form.timestamp timestamp_limit s.timestamp h.timestamp;
 }
 
 all_short : (a b c d : Bool) → a ≡ false → b ≡ false → c ≡ false → d ≡ false → (a || b || c || d) ≡ false
@@ -116,8 +118,8 @@ all_short a b c d p q r s = rw (p, q, r, s)
 
 has_long-kept_of : (s : State) → AreRead s → has_long (kept_of s) ≡ false
 has_long-kept_of s h =
-    all_short _ _ _ _ (shown root_of root_limit s.root.bytes s.root h.root).short (is_over-read snapshot_of snapshot_limit s.snapshot h.snapshot)
-    (is_over-read targets_of targets_limit s.targets h.targets) (is_over-read timestamp_of timestamp_limit s.timestamp h.timestamp)
+    all_short _ _ _ _ (shown form.root root_limit s.root.bytes s.root h.root).short (is_over-read form.snapshot snapshot_limit s.snapshot h.snapshot)
+    (is_over-read form.targets targets_limit s.targets h.targets) (is_over-read form.timestamp timestamp_limit s.timestamp h.timestamp)
 
 -- the files in turn, by what each is read as
 in_turn : (root : Part Root) (snapshot : Option (Part Snapshot)) (targets : Option (Part Targets)) (timestamp : Option (Part Timestamp))
@@ -128,8 +130,8 @@ in_turn root snapshot targets timestamp r s t m a b c d = rw (a, b, c, d)
 
 state_in-kept_of : (s : State) → AreRead s → state_in (kept_of s) ≡ Ok s
 state_in-kept_of s h =
-    in_turn s.root s.snapshot s.targets s.timestamp _ _ _ _ (ap or_state_fault h.root) (part_in-read (part_of snapshot_of snapshot_limit) s.snapshot h.snapshot)
-    (part_in-read (part_of targets_of targets_limit) s.targets h.targets) (part_in-read (part_of timestamp_of timestamp_limit) s.timestamp h.timestamp)
+    in_turn s.root s.snapshot s.targets s.timestamp _ _ _ _ (ap or_state_fault h.root) (part_in-read (part_of form.snapshot snapshot_limit) s.snapshot h.snapshot)
+    (part_in-read (part_of form.targets targets_limit) s.targets h.targets) (part_in-read (part_of form.timestamp timestamp_limit) s.timestamp h.timestamp)
 
 kept_in-spelled : (text : List ℕ) (d : Data) (k : Kept) → tree_of text ≡ Some d → kept d ≡ Some k → text ≡ kept_text k → kept_in text ≡ Ok k
 kept_in-spelled text d k a b same = rw (a, b, (bytes_eq-Decides text (kept_text k)).1 same)
@@ -174,15 +176,15 @@ same_kept k s a b c d = same_files _ _ _ _ _ _ _ _ a b c d
 
 kept_of-state_in : (k : Kept) (s : State) → state_in k ≡ Ok s → kept_of s ≡ k
 kept_of-state_in k s h =
-    let root = bind_ok (or_state_fault (part_of root_of root_limit k.root)) _ s h in
-    let snapshot = bind_ok (part_in (part_of snapshot_of snapshot_limit) k.snapshot) _ s root.2 in
-    let targets = bind_ok (part_in (part_of targets_of targets_limit) k.targets) _ s snapshot.2 in
-    let timestamp = bind_ok (part_in (part_of timestamp_of timestamp_limit) k.timestamp) _ s targets.2 in
+    let root = bind_ok (or_state_fault (part_of form.root root_limit k.root)) _ s h in
+    let snapshot = bind_ok (part_in (part_of form.snapshot snapshot_limit) k.snapshot) _ s root.2 in
+    let targets = bind_ok (part_in (part_of form.targets targets_limit) k.targets) _ s snapshot.2 in
+    let timestamp = bind_ok (part_in (part_of form.timestamp timestamp_limit) k.timestamp) _ s targets.2 in
     let whole = sym (same_ok _ s timestamp.2) in
-    same_kept k s (ap (λ t. t.root.bytes) whole ∙ (shown root_of root_limit k.root root.0 (no_fault (part_of root_of root_limit k.root) root.0 root.1)).own)
-    (ap (λ t. bytes_in t.snapshot) whole ∙ own_bytes snapshot_of snapshot_limit k.snapshot snapshot.0 snapshot.1)
-    (ap (λ t. bytes_in t.targets) whole ∙ own_bytes targets_of targets_limit k.targets targets.0 targets.1)
-    (ap (λ t. bytes_in t.timestamp) whole ∙ own_bytes timestamp_of timestamp_limit k.timestamp timestamp.0 timestamp.1)
+    same_kept k s (ap (λ t. t.root.bytes) whole ∙ (shown form.root root_limit k.root root.0 (no_fault (part_of form.root root_limit k.root) root.0 root.1)).own)
+    (ap (λ t. bytes_in t.snapshot) whole ∙ own_bytes form.snapshot snapshot_limit k.snapshot snapshot.0 snapshot.1)
+    (ap (λ t. bytes_in t.targets) whole ∙ own_bytes form.targets targets_limit k.targets targets.0 targets.1)
+    (ap (λ t. bytes_in t.timestamp) whole ∙ own_bytes form.timestamp timestamp_limit k.timestamp timestamp.0 timestamp.1)
 
 pub own_text : (text : List ℕ) (s : State) → state_of text ≡ Ok s → text ≡ kept_text (kept_of s)
 own_text text s h =

@@ -2,20 +2,15 @@
 use Rattle.std.specs.Prelude.{ℕ, zero, suc, ◌+◌, nat_le, ◌||◌, ◌&&◌, not, if◌then◌else◌, List, Bool, Option, Some, None, is_some, Result, Ok, Err, bytes_eq}
 use Rattle.std.specs.List.{list_all, list_any}
 use Rattle.cjson.specs.Checks.{◌>>=◌, refuse_if, or_refuse}
-use Rattle.keys.specs.declared.role_keys.RoleKeys.{RoleKeys}
-use Rattle.moment.specs.Moment.{Moment}
-use Rattle.meta.specs.Metadata.{Root, Timestamp, Snapshot, Targets}
-use Rattle.meta.specs.Part.{Part}
+use Rattle.cjson.specs.Form.{greatest}
 use Rattle.meta.specs.Names.{root_name}
-use Rattle.meta.specs.declared.fault.Fault.{Fault}
-use Rattle.meta.specs.declared.fault.Fault.TheVariants.{NotListed, Expired}
-use Rattle.examine.specs.Checks.{Files, is_expired, expiry_check, root_part, first_timestamp, next_timestamp, snapshot_part, targets_part}
-use Rattle.rolechain.specs.State.{State}
+pub use Rattle.examine.specs.Checks.{RoleKeys, Moment, Root, Timestamp, Snapshot, Targets, Part, Fault, NotListed, Expired, Files, is_expired, expiry_check, root_part, first_timestamp, next_timestamp, snapshot_part, targets_part}
+pub use Rattle.rolechain.specs.State.{State}
 use Rattle.rolechain.specs.Expected.{next_root, due_timestamp, next_snapshot, top_targets}
-use Rattle.rolechain.specs.declared.end.Step.{Step}
+pub use Rattle.rolechain.specs.declared.end.Step.{Step}
 use Rattle.rolechain.specs.declared.end.Step.TheVariants as step
-use Rattle.rolechain.specs.declared.end.End.{End}
-use Rattle.rolechain.specs.declared.end.End.TheVariants.{Ready, Stopped}
+pub use Rattle.rolechain.specs.declared.end.End.{End}
+pub use Rattle.rolechain.specs.declared.end.End.TheVariants.{Ready, Stopped}
 
 -- the state that the cycle leaves, and how it ended
 pub record Advanced : Type 0 where
@@ -49,12 +44,11 @@ is_rotated old new =
 -- a rotation drops the timestamp and the snapshot (5.3.11)
 abbrev pub with_root : State → Part Root → State
 with_root s r = if is_rotated s.root.reading r.reading
-    then record { root = r; timestamp = None; snapshot = None; targets = s.targets }
-    else record { root = r; timestamp = s.timestamp; snapshot = s.snapshot; targets = s.targets }
+    then record s { root = r; timestamp = None; snapshot = None }
+    else record s { root = r }
 
 abbrev pub with_timestamp : State → Part Timestamp → State
-with_timestamp s p =
-    record { root = s.root; timestamp = Some p; snapshot = s.snapshot; targets = s.targets }
+with_timestamp s p = record s { timestamp = Some p }
 
 -- where none is newer, the trusted one stays
 abbrev pub with_newer : State → Option (Part Timestamp) → State
@@ -62,20 +56,14 @@ with_newer s None = s
 with_newer s (Some p) = with_timestamp s p
 
 abbrev pub with_snapshot : State → Part Snapshot → State
-with_snapshot s p =
-    record { root = s.root; timestamp = s.timestamp; snapshot = Some p; targets = s.targets }
+with_snapshot s p = record s { snapshot = Some p }
 
 abbrev pub with_targets : State → Part Targets → State
-with_targets s p =
-    record { root = s.root; timestamp = s.timestamp; snapshot = s.snapshot; targets = Some p }
+with_targets s p = record s { targets = Some p }
 
 abbrev pub reading_in : {A : Type 0} → Option (Part A) → Option A
 reading_in None = None
 reading_in (Some p) = Some p.reading
-
--- the greatest version
-abbrev pub last_version : ℕ
-last_version = 9223372036854775807
 
 -- the most roots that a cycle accepts
 abbrev pub most_roots : ℕ
@@ -95,7 +83,7 @@ module _ (files : Files) (now : Moment) where
   -- a root of the greatest version has no successor
   abbrev pub successor : Root → Result (Option (Part Root)) Fault
   successor r =
-      if nat_le last_version r.header.version then Ok None
+      if nat_le greatest r.header.version then Ok None
       else following r (files (root_name (r.header.version + 1)))
 
   -- the next root is trusted, and then the one that follows it, if any (5.3.7 to 5.3.9)

@@ -3,10 +3,7 @@ use Rattle.std.specs.Prelude.{◌≡◌, Result, Ok, Err, ⊤}
 use Rattle.cjson.specs.declared.fault.NoMemory.{NoMemory}
 use Rattle.meta.specs.declared.fault.Stop.{Stop}
 use Rattle.meta.specs.declared.fault.Stop.TheVariants as stop
-use Rattle.rolechain.specs.State.{State}
-use Rattle.rolechain.specs.Advance.{Advanced, stops}
-use Rattle.rolechain.specs.declared.end.Step.{Step}
-use Rattle.rolechain.specs.declared.end.End.{End}
+use Rattle.rolechain.specs.Advance.{State, Advanced, stops, Step, End}
 use Rattle.rolechain.specs.declared.end.End.TheVariants as end
 use Rattle.rolechain.specs.declared.end.Halt.{Halt}
 use Rattle.rolechain.specs.declared.end.Halt.TheVariants as halt

@@ -1,18 +1,16 @@
 -- What each file of the workflow is expected to be (TUF 1.0 sections 5.3 to 5.7).
 use Rattle.std.specs.Prelude.{ℕ, ◌+◌, List, find, bytes_eq, codes}
 use Rattle.std.specs.Option.{option_map_or}
-use Rattle.keys.specs.declared.key.Key.{Key}
-use Rattle.keys.specs.declared.role_keys.RoleKeys.{RoleKeys}
-use Rattle.meta.specs.Metadata.{Root, Snapshot}
-use Rattle.meta.specs.declared.listing.Listing.{Listing}
 use Rattle.meta.specs.Names.{versioned, root_name, role_name}
-use Rattle.examine.specs.Checks.{Listed, not_due, absent, listed_as, listed_version, Expectation}
+use Rattle.examine.specs.Checks.{Key, RoleKeys, Root, Snapshot, Listing, listed_version, Expectation}
+use Rattle.examine.specs.declared.expectation.Listed.{Listed}
+use Rattle.examine.specs.declared.expectation.Listed.TheVariants.{Absent, As, NotDue}
 
 -- the root that follows
 abbrev pub next_root : Root → Expectation
 next_root r = record {
   name = root_name (r.header.version + 1);
-  listed = not_due;
+  listed = NotDue;
   ring = r.ring;
   role = r.root;
 }
@@ -20,7 +18,7 @@ next_root r = record {
 abbrev pub due_timestamp : Root → Expectation
 due_timestamp r = record {
   name = codes "timestamp.json";
-  listed = not_due;
+  listed = NotDue;
   ring = r.ring;
   role = r.timestamp;
 }
@@ -29,7 +27,7 @@ due_timestamp r = record {
 abbrev pub next_snapshot : Root → Listing → Expectation
 next_snapshot r l = record {
   name = versioned r.consistent l.version (codes "snapshot.json");
-  listed = listed_as l;
+  listed = As l;
   ring = r.ring;
   role = r.snapshot;
 }
@@ -37,8 +35,8 @@ next_snapshot r l = record {
 -- how the snapshot lists a role
 abbrev pub listing_of : List ℕ → Snapshot → Listed
 listing_of role snap =
-    option_map_or (λ n. listed_as n.listing)
-    (find (λ n. bytes_eq n.name (role_name role)) snap.files) absent
+    option_map_or (λ n. As n.listing)
+    (find (λ n. bytes_eq n.name (role_name role)) snap.files) Absent
 
 -- the name under which a role's file lies
 abbrev pub file_name : Root → List ℕ → Listed → List ℕ

@@ -5,9 +5,9 @@ use Rattle.serde_json.specs.Data.{Data, string, object, Members, no_members, mem
 use Rattle.serde_json.specs.Find.{as_str}
 use Rattle.hex.specs.Hex.{encode_lower, decode_of}
 use Rattle.cjson.specs.Option.{◌>>=◌}
-use Rattle.cjson.specs.Form.{Form, needed, optional, ok}
-use Rattle.meta.specs.Part.{Part, root_limit, timestamp_limit, snapshot_limit, targets_limit}
-use Rattle.rolechain.specs.State.{State}
+use Rattle.cjson.specs.Form.{needed, optional, ok}
+use Rattle.meta.specs.Part.{Form, Part, root_limit, timestamp_limit, snapshot_limit, targets_limit}
+pub use Rattle.rolechain.specs.State.{State}
 
 -- the bytes of the trusted files
 pub record Kept : Type 0 where

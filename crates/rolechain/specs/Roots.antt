@@ -1,14 +1,7 @@
 -- The chain of roots (TUF 1.0 section 5.3).
 use Rattle.std.specs.Prelude.{◌≡◌, ℕ, zero, suc, ◌≤◌, ◌⊎◌, ◌||◌, if◌then◌else◌, List, [], ◌∷◌, Bool, true, false, Some, None, Ok}
-use Rattle.moment.specs.Moment.{Moment}
-use Rattle.meta.specs.Metadata.{Root}
-use Rattle.meta.specs.Part.{Part}
-use Rattle.examine.specs.Checks.{Files}
-use Rattle.rolechain.specs.State.{State}
-use Rattle.rolechain.specs.Advance.{successor, is_rotated}
+use Rattle.rolechain.specs.Advance.{Moment, Root, Part, Files, State, successor, is_rotated, End, Ready, Stopped}
 use Rattle.rolechain.specs.declared.end.Step.TheVariants as step
-use Rattle.rolechain.specs.declared.end.End.{End}
-use Rattle.rolechain.specs.declared.end.End.TheVariants.{Ready, Stopped}
 
 -- two neighbours of a root and those behind it list other keys for the timestamp or the snapshot
 abbrev pub rotates : Part Root → List (Part Root) → Bool

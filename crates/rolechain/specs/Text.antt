@@ -3,11 +3,11 @@ use Rattle.std.specs.Prelude.{◌≡◌, ◌≢◌, ℕ, not, List, Option, Some
 use Rattle.cjson.specs.Document.{tree_of}
 use Rattle.cjson.specs.Checks.{◌>>=◌, refuse_if, or_refuse}
 use Rattle.meta.specs.Part.{Part, part_of, root_limit, timestamp_limit, snapshot_limit, targets_limit}
-use Rattle.meta.specs.Reads.{root_of, timestamp_of, snapshot_of, targets_of}
 use Rattle.meta.specs.declared.fault.Fault.{Fault}
+use Rattle.meta.specs.Metadata as form
 use Rattle.meta.specs.declared.fault.Fault.TheVariants as fault
-use Rattle.rolechain.specs.State.{State, first}
-use Rattle.rolechain.specs.Kept.{Kept, kept, kept_text, has_long}
+use Rattle.rolechain.specs.State.{first}
+use Rattle.rolechain.specs.Kept.{State, Kept, kept, kept_text, has_long}
 use Rattle.rolechain.specs.declared.fault.StateFault.{StateFault}
 use Rattle.rolechain.specs.declared.fault.StateFault.TheVariants.{TooLong, Malformed, NoMemory}
 
@@ -30,16 +30,16 @@ part_in read (Some bytes) = do
 -- the state of a root file that is trusted because it was handed in
 abbrev pub root_state : List ℕ → Result State StateFault
 root_state bytes = do
-  root ← or_state_fault (part_of root_of root_limit bytes)
+  root ← or_state_fault (part_of form.root root_limit bytes)
   Ok (first root)
 
 -- the state that the files give, each read in turn
 abbrev pub state_in : Kept → Result State StateFault
 state_in k = do
-  root ← or_state_fault (part_of root_of root_limit k.root)
-  snapshot ← part_in (part_of snapshot_of snapshot_limit) k.snapshot
-  targets ← part_in (part_of targets_of targets_limit) k.targets
-  timestamp ← part_in (part_of timestamp_of timestamp_limit) k.timestamp
+  root ← or_state_fault (part_of form.root root_limit k.root)
+  snapshot ← part_in (part_of form.snapshot snapshot_limit) k.snapshot
+  targets ← part_in (part_of form.targets targets_limit) k.targets
+  timestamp ← part_in (part_of form.timestamp timestamp_limit) k.timestamp
   Ok (record { root = root; timestamp = timestamp; snapshot = snapshot; targets = targets })
 
 -- the files of a state's text, which is spelled just so

@@ -3,7 +3,7 @@
 ghost use Rattle.std.specs.Prelude.{◌≡◌, ◌+◌, IfOk, bytes_eq, codes, find, option_map};
 ghost use Rattle.std.specs.Prelude.{string_bytes};
 ghost use Rattle.meta.specs.Names.{root_name, versioned as due_name};
-ghost use Rattle.examine.specs.Expecting.{expectation, listed_of};
+ghost use Rattle.examine.specs.Expecting.{expectation};
 ghost use Rattle.rolechain.specs.Expected as spec;
 
 use examine::{Expectation, Listed};
@@ -54,18 +54,14 @@ pub(crate) fn snapshot_name(
 }
 
 /// What the snapshot that is so listed is expected to be (TUF 1.0 section 5.5).
-pub(crate) fn due_snapshot<'a>(
-    root: &'a Root,
-    listing: &'a Listing,
-    name: &'a str,
-) -> Expectation<'a>
+pub(crate) fn due_snapshot<'a>(root: &'a Root, listing: &Listing, name: &'a str) -> Expectation<'a>
     requires { name.now
         ≡ due_name root.now.consistent listing.now.version (codes "snapshot.json") }
     ensures { expectation result ≡ spec.next_snapshot root.now listing.now }
 {
     Expectation {
         name,
-        listed: Listed::As(listing),
+        listed: Listed::As(*listing),
         ring: root.ring(),
         role: root.snapshot(),
     }
@@ -74,33 +70,32 @@ pub(crate) fn due_snapshot<'a>(
 /// How the snapshot lists a role's targets file, and the name under which the file lies: where it
 /// is listed and the root asks for consistent snapshots, with its listed version in front (TUF 1.0
 /// sections 5.6 and 5.6.7). Only memory can be refused.
-pub fn place_of<'a>(
+pub fn place_of(
     alloc: Global,
     root: &Root,
-    snapshot: &'a Snapshot,
+    snapshot: &Snapshot,
     role: &str,
-) -> Result<(Listed<'a>, String), AllocError>
-    ensures listed { IfOk result (λ p. listed_of p.0 ≡ spec.listing_of role.now snapshot.now) }
+) -> Result<(Listed, String), AllocError>
+    ensures listed { IfOk result (λ p. p.0 ≡ spec.listing_of role.now snapshot.now) }
     ensures name { IfOk result (λ p. string_bytes p.1
         ≡ spec.file_name root.now role.now (spec.listing_of role.now snapshot.now)) }
 {
     let plain = role_name(alloc, role)?;
     match find_name(snapshot.files(), plain.as_str()) {
         Some(named) => {
-            let listing = &named.listing;
-            let version = listing.version.get();
+            let version = named.listing.version.get();
             let name = versioned(alloc, root.consistent(), version, plain.as_str())?;
-            Ok((Listed::As(listing), name))
+            Ok((Listed::As(named.listing), name))
         }
         None => Ok((Listed::Absent, plain)),
     }
 }
 
 /// What the top-level targets file that lies there is expected to be (TUF 1.0 section 5.6).
-pub(crate) fn due_targets<'a>(root: &'a Root, listed: Listed<'a>, name: &'a str) -> Expectation<'a>
+pub(crate) fn due_targets<'a>(root: &'a Root, listed: Listed, name: &'a str) -> Expectation<'a>
     ensures { expectation result ≡ record {
       name = name.now;
-      listed = listed_of listed.entry;
+      listed = listed;
       ring = root.now.ring;
       role = root.now.targets;
     } }

@@ -1,10 +1,11 @@
 //! The faults of a trusted state's text.
 
 ghost use Rattle.std.specs.Prelude.{◌≡◌};
+ghost use Rattle.cjson.specs.declared.fault.ReadFault.TheVariants as read;
 ghost use Rattle.rolechain.specs.declared.fault.StateFault.TheVariants as state;
 
-use cjson::NoMemory;
-use std::alloc::{AllocError, AllocFailed};
+use cjson::{NoMemory, ReadFault};
+use std::alloc::AllocError;
 use thiserror::Error;
 
 /// Why a trusted state was not read.
@@ -37,10 +38,14 @@ impl From<AllocError> for StateFault {
     }
 }
 
-impl<T: Drop> From<AllocFailed<T>> for StateFault {
-    ghost from_gives = { λ _ e. e ≡ state.NoMemory };
+impl From<ReadFault> for StateFault {
+    ghost from_gives = { λ r e. (r ≡ read.Malformed → e ≡ state.Malformed)
+        × (r ≡ read.NoMemory → e ≡ state.NoMemory) };
 
-    fn from(_refused: AllocFailed<T>) -> StateFault {
-        StateFault::NoMemory
+    fn from(fault: ReadFault) -> StateFault {
+        match fault {
+            ReadFault::Malformed => StateFault::Malformed,
+            ReadFault::NoMemory => StateFault::NoMemory,
+        }
     }
 }

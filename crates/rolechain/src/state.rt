@@ -179,14 +179,14 @@ fn copy_of<A: Reading + Drop>(part: &Option<Part<A>>) -> Result<Option<Part<A>>,
 
 /// Notes for the proof that a file is what its bytes are read as; nothing is done.
 fn note_read<A: Reading + Drop>(part: &Part<A>)
-    ensures { IsRead A.of_document A.limit part.now }
+    ensures { IsRead A.form A.limit part.now }
 {
     let _bytes = part.bytes();
     let _reading = part.reading();
 }
 
 fn note_each_read<A: Reading + Drop>(part: &Option<Part<A>>)
-    ensures { IfSome part.now (IsRead A.of_document A.limit) }
+    ensures { IfSome part.now (IsRead A.form A.limit) }
 {
     if let Some(part) = part {
         note_read(part);

@@ -1,9 +1,7 @@
 //! The text of a trusted state.
 
-ghost use Rattle.std.specs.Prelude.{◌≡◌, ◌≢◌, ◌++◌, Ok, Some, None, IfOk, IfErr, OnOk, option_map};
-ghost use Rattle.serde_json.specs.View.{view};
+ghost use Rattle.std.specs.Prelude.{◌≡◌, ◌++◌, Ok, Some, IfOk, OnOk, option_map};
 ghost use Rattle.cjson.specs.Canon.{canon};
-ghost use Rattle.cjson.specs.Document.{tree_of};
 ghost use Rattle.meta.specs.Part.{part_of};
 ghost use Rattle.rolechain.specs.Kept as spec;
 ghost use Rattle.rolechain.specs.Parts.{AreRead};
@@ -13,7 +11,7 @@ ghost use Rattle.rolechain.specs.Text.{state_in, kept_in, part_in};
 use crate::fault::StateFault;
 use crate::state::Trusted;
 use cjson::form::{FromJson, needed, optional};
-use cjson::{Misread, NoMemory, read_tree};
+use cjson::{NoMemory, ReadFault, read_tree};
 use meta::{Fault, Part, Reading, Root, Snapshot, Stop, Targets, Timestamp};
 use serde_json::Value;
 use std::alloc::{AllocError, Global};
@@ -36,12 +34,12 @@ impl Model for Hex {
 impl FromJson for Hex {
     ghost form = { spec.hex_text };
 
-    fn from_json(alloc: Global, value: &Value) -> Result<Hex, Misread> {
-        let text = value.as_str().ok_or(Misread::Malformed)?;
+    fn from_json(alloc: Global, value: &Value) -> Result<Hex, ReadFault> {
+        let text = value.as_str().ok_or(ReadFault::Malformed)?;
         match hex::decode(alloc, text) {
             Ok(bytes) => Ok(Hex { bytes }),
-            Err(hex::FromHexError::OutOfMemory) => Err(Misread::NoMemory),
-            Err(_) => Err(Misread::Malformed),
+            Err(hex::FromHexError::OutOfMemory) => Err(ReadFault::NoMemory),
+            Err(_) => Err(ReadFault::Malformed),
         }
     }
 }
@@ -72,7 +70,7 @@ impl Model for Kept {
 impl FromJson for Kept {
     ghost form = { spec.kept };
 
-    fn from_json(alloc: Global, value: &Value) -> Result<Kept, Misread> {
+    fn from_json(alloc: Global, value: &Value) -> Result<Kept, ReadFault> {
         Ok(Kept {
             root: needed(alloc, value, "root")?,
             snapshot: optional(alloc, value, "snapshot")?,
@@ -99,7 +97,11 @@ impl Trusted {
         ensures state { ReadsState (state_of text.now) result }
         ensures own { IfOk result (λ t. text.now ≡ spec.kept_text (spec.kept_of t)) }
     {
-        read_state(alloc, text)
+        let kept = kept_in(alloc, text)?;
+        if has_long(&kept) {
+            return Err(StateFault::TooLong);
+        }
+        state_in(alloc, kept)
     }
 
     /// The text of a state file: the canonical JSON of an object whose members `root` and, where
@@ -112,15 +114,6 @@ impl Trusted {
             canon (spec.kept_tree (spec.kept_of self.now)) ≡ Some text.items) }
         ensures read { IfOk result (λ text. state_of text.items ≡ Ok self.now) }
     {
-        self.text(alloc)
-    }
-
-    /// The text of a state file.
-    fn text(&self, alloc: Global) -> Result<Vec<u8>, NoMemory>
-        ensures text { IfOk result (λ text. text.items
-            ≡ spec.kept_text (spec.kept_of self.now)) }
-        ensures parts { AreRead self.now }
-    {
         let root = self.root.bytes();
         let snapshot = self.snapshot.as_ref().map(|part| part.bytes());
         let targets = self.targets.as_ref().map(|part| part.bytes());
@@ -129,23 +122,12 @@ impl Trusted {
     }
 }
 
-/// The state that a text is, asked in order: its spelling, the limits, the files' forms.
-fn read_state(alloc: Global, text: &[u8]) -> Result<Trusted, StateFault>
-    ensures { ReadsState (state_of text.now) result }
-{
-    let kept = kept_in(alloc, text)?;
-    if has_long(&kept) {
-        return Err(StateFault::TooLong);
-    }
-    state_in(alloc, kept)
-}
-
 /// The files of a text that is spelled as a state's.
 fn kept_in(alloc: Global, text: &[u8]) -> Result<Kept, StateFault>
     ensures { ReadsState (kept_in text.now) result }
 {
-    let tree = tree_in(alloc, text)?;
-    let kept = read_kept(alloc, &tree)?;
+    let tree = read_tree(alloc, text)?;
+    let kept = Kept::from_json(alloc, &tree)?;
     let spelled = respelled(alloc, &kept)?;
     if text != spelled.as_slice() {
         return Err(StateFault::Malformed);
@@ -153,33 +135,9 @@ fn kept_in(alloc: Global, text: &[u8]) -> Result<Kept, StateFault>
     Ok(kept)
 }
 
-fn tree_in(alloc: Global, text: &[u8]) -> Result<Value, StateFault>
-    ensures ok { IfOk result (λ tree. tree_of text.now ≡ Some (view tree)) }
-    ensures err { IfErr result (λ e. e ≢ StateFault.NoMemory
-        → (e ≡ StateFault.Malformed) × (tree_of text.now ≡ None)) }
-{
-    match read_tree(alloc, text) {
-        Ok(tree) => Ok(tree),
-        Err(Misread::Malformed) => Err(StateFault::Malformed),
-        Err(Misread::NoMemory) => Err(StateFault::NoMemory),
-    }
-}
-
-fn read_kept(alloc: Global, tree: &Value) -> Result<Kept, StateFault>
-    ensures ok { IfOk result (λ k. spec.kept (view tree.now) ≡ Some k) }
-    ensures err { IfErr result (λ e. e ≢ StateFault.NoMemory
-        → (e ≡ StateFault.Malformed) × (spec.kept (view tree.now) ≡ None)) }
-{
-    match Kept::from_json(alloc, tree) {
-        Ok(kept) => Ok(kept),
-        Err(Misread::Malformed) => Err(StateFault::Malformed),
-        Err(Misread::NoMemory) => Err(StateFault::NoMemory),
-    }
-}
-
 /// The file of these bytes.
 fn read_part<A: Reading + Drop>(alloc: Global, bytes: Vec<u8>) -> Result<Part<A>, StateFault>
-    ensures { ReadsState (or_state_fault (part_of A.of_document A.limit bytes.items)) result }
+    ensures { ReadsState (or_state_fault (part_of A.form A.limit bytes.items)) result }
 {
     match Part::read(alloc, bytes) {
         Ok(part) => Ok(part),
@@ -244,7 +202,7 @@ fn part_in<A: Reading + Drop>(
     alloc: Global,
     hex: Option<Hex>,
 ) -> Result<Option<Part<A>>, StateFault>
-    ensures { ReadsState (part_in (part_of A.of_document A.limit) hex) result }
+    ensures { ReadsState (part_in (part_of A.form A.limit) hex) result }
 {
     match hex {
         Some(hex) => Ok(Some(read_part(alloc, hex.bytes)?)),

@@ -1,7 +1,6 @@
 -- What is told of the small repository.
 use Rattle.std.specs.Prelude.{ℕ, List, Option}
-use Rattle.examine.specs.Checks.{Files}
-use Rattle.update.specs.Told.{IsTold, Start, outcome_of}
+use Rattle.update.specs.Told.{Files, IsTold, Start, outcome_of}
 
 -- An outcome of the workflow, of which a writer was given the lines, with its status.
 pub record IsSampled (wanted : List (List ℕ)) (status : ℕ) (old new : Option (List ℕ))

@@ -4,7 +4,6 @@ ghost use Rattle.std.specs.Prelude.{◌≡◌};
 ghost use Rattle.seals.specs.Faults.{fault_of};
 ghost use Rattle.seals.specs.declared.fault.MakeFault.TheVariants as fault;
 
-use cjson::NoMemory;
 use lms::SignFault;
 use std::alloc::{AllocError, AllocFailed};
 use thiserror::Error;
@@ -36,14 +35,6 @@ impl<T: Drop> From<AllocFailed<T>> for MakeFault {
     ghost from_gives = { λ _ e. e ≡ fault.NoMemory };
 
     fn from(_refused: AllocFailed<T>) -> MakeFault {
-        MakeFault::NoMemory
-    }
-}
-
-impl From<NoMemory> for MakeFault {
-    ghost from_gives = { λ _ e. e ≡ fault.NoMemory };
-
-    fn from(_refused: NoMemory) -> MakeFault {
         MakeFault::NoMemory
     }
 }

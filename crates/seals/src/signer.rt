@@ -8,17 +8,12 @@ use lms::{Height, Secret, Width};
 use std::alloc::Global;
 
 /// A key under an id.
+#[derive(Drop)]
 pub struct Signer {
     /// What `keyid` says beside a signature of the key.
     pub id: String,
     /// The key.
     pub secret: Secret,
-}
-
-impl Drop for Signer {
-    fn drop(self) {
-        let Signer { id, secret } = self;
-    }
 }
 
 /// The key of W8 and key byte `s`: its identifier is 16 bytes `s`, and it is made from 32 bytes `s`

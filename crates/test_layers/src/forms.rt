@@ -3,7 +3,7 @@
 ghost use Rattle.std.specs.Prelude.{List, ℕ, option_map};
 ghost use Rattle.cjson.specs.Form as form_of;
 
-use cjson::Misread;
+use cjson::ReadFault;
 use cjson::form::FromJson;
 use cjson::list::Items;
 use cjson::members::{FromMember, read_members};
@@ -28,9 +28,10 @@ impl Model for Named {
 }
 
 impl FromMember for Named {
-    ghost member_form = { λ name d. option_map (λ n. (name, n)) (form_of.whole 0 d) };
+    ghost member_form = { λ name d.
+        option_map (λ n. (name, n)) (form_of.whole 0 form_of.greatest d) };
 
-    fn from_member(alloc: Global, name: &str, value: &Value) -> Result<Named, Misread> {
+    fn from_member(alloc: Global, name: &str, value: &Value) -> Result<Named, ReadFault> {
         let length = Length::from_json(alloc, value)?;
         let name = Text::new(String::from_str(alloc, name)?);
         Ok(Named { name, length })
@@ -38,7 +39,7 @@ impl FromMember for Named {
 }
 
 /// What the members of an object are read as.
-fn members(alloc: Global, json: &str) -> Result<Result<Items<Named>, Misread>, Fail> {
+fn members(alloc: Global, json: &str) -> Result<Result<Items<Named>, ReadFault>, Fail> {
     let value = Value::from_str(alloc, json)?;
     Ok(read_members(alloc, &value))
 }
@@ -61,7 +62,7 @@ fn objects(rt: HostRuntime) -> Result<(), Fail> {
 fn no_objects(rt: HostRuntime) -> Result<(), Fail> {
     for json in ["{\"a\":1,\"b\":-1}", "[1]", "1"] {
         let fault = members(rt.alloc(), json)?.err();
-        assert_eq!(rt; fault, Some(Misread::Malformed), "{json}");
+        assert_eq!(rt; fault, Some(ReadFault::Malformed), "{json}");
     }
     Ok(())
 }

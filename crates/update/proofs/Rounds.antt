@@ -1,5 +1,5 @@
 -- The outcomes of a keeper's rounds are those of cycles on the repositories.
-use Rattle.std.proofs.Common.{Result, Ok, Err, IfOk, OnOk, ◌≡◌, ◌∙◌, ◌+◌, ◌<◌, List, [], ◌∷◌, ◌++◌, ℕ, ap, ap₂, refl, subst, sym, length, take, get_or}
+use Rattle.std.proofs.Common.{◌≡◌, ◌∙◌, ◌+◌, ◌<◌, List, [], ◌∷◌, ◌++◌, ℕ, ap, ap₂, refl, subst, sym, length, take, get_or}
 use Rattle.std.proofs.lemmas.List.{take_more}
 use Rattle.std.specs.List.{AllZip}
 use Rattle.meta.specs.declared.repo.Repo.{Repo}
@@ -65,12 +65,3 @@ pub state_is : (s : Start) (repos : List Repo) (rounds : List Round) (most : ℕ
     → last ≡ state_after s repos
 state_is s repos rounds most trusted last are limit state is =
     is ∙ ap₂ (λ m t. keeper.state_after m t rounds) limit state ∙ last_state s repos rounds are
-
--- what follows from an answer
-pub if_ok : {A E : Type 0} {P Q : A → Type 0} (r : Result A E) → ((x : A) → P x → Q x) → IfOk r P → IfOk r Q
-if_ok (Ok x) f p = f x p
-if_ok (Err e) f p = tt
-
-pub on_ok : {A E : Type 0} {P Q : Type 0} (r : Result A E) → (P → Q) → OnOk r P → OnOk r Q
-on_ok (Ok x) f p = f p
-on_ok (Err e) f p = tt

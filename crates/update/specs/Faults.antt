@@ -1,7 +1,7 @@
 -- The fault that is told of a refused root.
 use Rattle.meta.specs.declared.fault.Fault.{Fault}
 use Rattle.meta.specs.declared.fault.Fault.TheVariants as fault
-use Rattle.rolechain.specs.declared.fault.StateFault.{StateFault}
+pub use Rattle.rolechain.specs.declared.fault.StateFault.{StateFault}
 use Rattle.rolechain.specs.declared.fault.StateFault.TheVariants.{TooLong}
 
 -- a root over its limit, or one without a reading

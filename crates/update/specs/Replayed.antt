@@ -4,11 +4,9 @@ use Rattle.std.specs.Io.KnownBytes.{Appends}
 use Rattle.std.specs.List.{AllZip}
 use Rattle.meta.specs.declared.repo.Repo.{Repo}
 use Rattle.examine.specs.Expecting.{file_in}
-use Rattle.rolechain.specs.State.{State}
-use Rattle.cycle.specs.Workflow.{Outcome}
 use Rattle.report.specs.Lines.{cycles_text}
 use Rattle.report.specs.Status.{last_status}
-use Rattle.update.specs.Told.{Loaded, Start, outcome_of, state_text}
+use Rattle.update.specs.Told.{State, Outcome, Loaded, Start, outcome_of, state_text}
 
 -- the workflow's outcome on these files
 abbrev pub outcome_in : Start → Repo → Outcome
@@ -16,7 +14,7 @@ outcome_in s r = outcome_of s (file_in r.metadata) (file_in r.targets)
 
 -- what the next cycle begins with
 abbrev pub after : Start → Outcome → Start
-after s o = record { trusted = o.trusted; moment = s.moment; wanted = s.wanted; limit = s.limit }
+after s o = record s { trusted = o.trusted }
 
 -- the outcomes of the cycles, each from the state of the one before
 unfoldable pub outcomes_of : Start → List Repo → List Outcome

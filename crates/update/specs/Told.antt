@@ -3,19 +3,13 @@ use Rattle.std.specs.Prelude.{◌≡◌, ℕ, List, Bool, true, Option, String, 
 use Rattle.std.specs.declared.alloc.Global.{Global}
 use Rattle.std.specs.BTreeMap.{BTreeMap}
 use Rattle.std.specs.Io.KnownBytes.{Appends}
-use Rattle.moment.specs.Moment.{Moment}
-use Rattle.examine.specs.Checks.{Files}
 use Rattle.examine.specs.Expecting.{file_in}
-use Rattle.rolechain.specs.State.{State}
 use Rattle.rolechain.specs.Kept.{kept_of, kept_text}
 use Rattle.rolechain.specs.Text.{root_state, state_of}
-use Rattle.rolechain.specs.declared.fault.StateFault.{StateFault}
-use Rattle.rolechain.specs.declared.end.Step.TheVariants.{Root}
-use Rattle.rolechain.specs.declared.end.End.TheVariants.{Stopped}
-use Rattle.cycle.specs.Workflow.{Outcome, workflow}
-use Rattle.report.specs.Lines.{end_text, outcome_text, root_text}
+pub use Rattle.cycle.specs.Workflow.{Moment, Files, State, Stopped, Outcome, workflow}
+use Rattle.report.specs.Lines.{Root, end_text, outcome_text, root_text}
 use Rattle.report.specs.Status.{outcome_status}
-use Rattle.update.specs.Faults.{fault_of}
+use Rattle.update.specs.Faults.{StateFault, fault_of}
 use Rattle.update.specs.Moments.{IsMomentOf}
 
 -- the trusted state, the moment, the wanted paths, and how many roles a search visits at most

@@ -2,14 +2,13 @@
 ghost use Rattle.std.specs.Prelude.{◌≡◌, ◌≢◌, ◌≤◌, ◌⊎◌, ⊤, true, IfErr, IfOk, OnErr, OnOk};
 ghost use Rattle.std.specs.Prelude.{option_map, map, string_bytes};
 ghost use Rattle.folder.specs.Folders.{IsLoaded};
-ghost use Rattle.cycle.specs.Cycles.{outcomes_of as keeper_outcomes, state_after as keeper_state};
 ghost use Rattle.update.specs.Told.{Begins, state_text};
 ghost use Rattle.update.specs.Replayed.{AreLoaded, AreTold, IsReplayed, outcomes_of, state_after};
 ghost use Rattle.update.specs.Starting.{AreRounds, start_from, start_of};
 
 use crate::start::{Folders, Start, Terms, begin, limits_of, loaded};
 use crate::state::keep_state;
-use cycle::{Keeper, Limits, Moment, Open, Outcome, Repo, Round};
+use cycle::{Keeper, Moment, Open, Outcome, Repo, Round};
 use failure::Failure;
 use folder::Folder;
 use report::tell_cycles;
@@ -206,23 +205,5 @@ fn outcomes<R: Threads + Wait + Sync>(
 {
     let limits = limits_of(start)?;
     let rounds = rounds_of(alloc, repos, start.moment, start.wanted)?;
-    all_of(rt, keeper, rounds.as_slice(), &limits, start.workers)
-}
-
-/// The outcomes of a keeper's rounds.
-fn all_of<R: Threads + Wait + Sync>(
-    rt: &R,
-    keeper: &mut Keeper,
-    rounds: &[Round<'_>],
-    limits: &Limits,
-    workers: usize,
-) -> Result<Vec<Outcome>, Failure>
-    requires workers { workers ≤ 64 }
-    ensures outcomes { IfOk result (λ all. all.items
-        ≡ keeper_outcomes limits.now.roles keeper.old rounds.now) }
-    ensures state { OnOk result (keeper.new
-        ≡ keeper_state limits.now.roles keeper.old rounds.now) }
-    ensures refused { IfErr result (λ f. f ≡ Failure.Memory) }
-{
-    Ok(keeper.cycles(rt, rounds, limits, workers, &Open)?)
+    Ok(keeper.cycles(rt, rounds.as_slice(), &limits, start.workers, &Open)?)
 }

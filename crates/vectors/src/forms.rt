@@ -2,10 +2,10 @@
 
 use crate::plain::Json;
 use anyhow::{Result, bail};
-use cjson::Misread;
+use cjson::ReadFault;
 use cjson::form::{FromJson, needed, optional};
 use cjson::list::Items;
-use cjson::number::{AtLeast, Length, Positive};
+use cjson::number::{Length, Positive, Within};
 use cjson::text::Text;
 use sessions::Step;
 use std::alloc::Global;
@@ -16,19 +16,25 @@ pub fn at_least(alloc: Global, step: &Step) -> Result<String> {
     match step.word(0)? {
         "0" => number(alloc, Length::from_json(alloc, &json.tree)),
         "1" => number(alloc, Positive::from_json(alloc, &json.tree)),
-        "7" => number(alloc, AtLeast::<7>::from_json(alloc, &json.tree)),
-        "8" => number(alloc, AtLeast::<8>::from_json(alloc, &json.tree)),
+        "7" => number(
+            alloc,
+            Within::<7, 9_223_372_036_854_775_807>::from_json(alloc, &json.tree),
+        ),
+        "8" => number(
+            alloc,
+            Within::<8, 9_223_372_036_854_775_807>::from_json(alloc, &json.tree),
+        ),
         _ => bail!("no such bound"),
     }
 }
 
-fn number<const LEAST: u64>(
+fn number<const LEAST: u64, const MOST: u64>(
     alloc: Global,
-    number: Result<AtLeast<LEAST>, Misread>,
+    number: Result<Within<LEAST, MOST>, ReadFault>,
 ) -> Result<String> {
     match number {
         Ok(number) => Ok(format!(in alloc; "{}\n", number.get())?),
-        Err(fault) => misread(alloc, fault),
+        Err(fault) => not_read(alloc, fault),
     }
 }
 
@@ -42,10 +48,10 @@ pub fn digits(alloc: Global, step: &Step) -> Result<String> {
     }
 }
 
-fn spelled<const N: usize>(alloc: Global, bytes: Result<[u8; N], Misread>) -> Result<String> {
+fn spelled<const N: usize>(alloc: Global, bytes: Result<[u8; N], ReadFault>) -> Result<String> {
     match bytes {
         Ok(bytes) => Ok(format!(in alloc; "{:?}\n", hex::encode(alloc, bytes)?.as_str())?),
-        Err(fault) => misread(alloc, fault),
+        Err(fault) => not_read(alloc, fault),
     }
 }
 
@@ -55,10 +61,10 @@ pub fn needed_truth(alloc: Global, step: &Step) -> Result<String> {
     truth(alloc, needed(alloc, &json.tree, step.word(0)?))
 }
 
-fn truth(alloc: Global, truth: Result<bool, Misread>) -> Result<String> {
+fn truth(alloc: Global, truth: Result<bool, ReadFault>) -> Result<String> {
     match truth {
         Ok(truth) => Ok(format!(in alloc; "{truth}\n")?),
-        Err(fault) => misread(alloc, fault),
+        Err(fault) => not_read(alloc, fault),
     }
 }
 
@@ -68,11 +74,11 @@ pub fn optional_truth(alloc: Global, step: &Step) -> Result<String> {
     truth_or_none(alloc, optional(alloc, &json.tree, step.word(0)?))
 }
 
-fn truth_or_none(alloc: Global, found: Result<Option<bool>, Misread>) -> Result<String> {
+fn truth_or_none(alloc: Global, found: Result<Option<bool>, ReadFault>) -> Result<String> {
     match found {
         Ok(Some(found)) => truth(alloc, Ok(found)),
         Ok(None) => Ok(String::from_str(alloc, "none\n")?),
-        Err(fault) => misread(alloc, fault),
+        Err(fault) => not_read(alloc, fault),
     }
 }
 
@@ -82,10 +88,10 @@ pub fn needed_text(alloc: Global, step: &Step) -> Result<String> {
     quoted(alloc, needed(alloc, &json.tree, step.word(0)?))
 }
 
-fn quoted(alloc: Global, text: Result<Text, Misread>) -> Result<String> {
+fn quoted(alloc: Global, text: Result<Text, ReadFault>) -> Result<String> {
     match text {
         Ok(text) => Ok(format!(in alloc; "{:?}\n", text.into_string().as_str())?),
-        Err(fault) => misread(alloc, fault),
+        Err(fault) => not_read(alloc, fault),
     }
 }
 
@@ -94,7 +100,7 @@ pub fn list(alloc: Global, step: &Step) -> Result<String> {
     let json = Json::read(alloc, step.text_behind(0))?;
     match Items::<bool>::from_json(alloc, &json.tree) {
         Ok(items) => listed(alloc, items),
-        Err(fault) => misread(alloc, fault),
+        Err(fault) => not_read(alloc, fault),
     }
 }
 
@@ -114,6 +120,6 @@ fn push_truths(text: &mut String, front: &str, truths: &[bool]) -> Result<()> {
     Ok(())
 }
 
-fn misread(alloc: Global, fault: Misread) -> Result<String> {
+fn not_read(alloc: Global, fault: ReadFault) -> Result<String> {
     Ok(format!(in alloc; "{fault:?}\n")?)
 }

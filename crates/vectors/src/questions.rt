@@ -2,7 +2,7 @@
 
 use crate::plain::told;
 use anyhow::{Context, Result, bail};
-use keys::{Algorithm, Ask, Direct, Judge};
+use keys::{Algorithm, Ask, DigestAsk, Direct, Judge, SignatureAsk};
 use lms::Public;
 use sessions::Step;
 use std::alloc::Global;
@@ -17,13 +17,13 @@ const PUBLIC: [u8; 56] = [
 pub fn digest(alloc: Global, step: &Step) -> Result<String> {
     let algorithm = algorithm_of(step.word(0)?)?;
     let digest = hex::decode(alloc, step.word(1)?)?;
-    let ask = Ask::Digest {
+    let ask = DigestAsk {
         file: "a",
         algorithm,
         bytes: step.word(2)?.as_bytes(),
         digest: &digest,
     };
-    told(alloc, Direct.valid(&ask)?)
+    told(alloc, Direct.valid(&Ask::Digest(ask))?)
 }
 
 fn algorithm_of(word: &str) -> Result<Algorithm> {
@@ -45,18 +45,18 @@ pub fn alike(alloc: Global, step: &Step) -> Result<String> {
 /// The question of a signature in a file at a place, as `a:0`, or of a file's digest, as `a`.
 fn ask_of<'a>(word: &'a str, public: &'a Public) -> Result<Ask<'a>> {
     match word.split_once(":") {
-        Some((file, place)) => Ok(Ask::Signature {
+        Some((file, place)) => Ok(Ask::Signature(SignatureAsk {
             file,
             place: place.parse::<usize>()?,
             public,
             message: b"m",
             sig: "00",
-        }),
-        None => Ok(Ask::Digest {
+        })),
+        None => Ok(Ask::Digest(DigestAsk {
             file: word,
             algorithm: Algorithm::Sha256,
             bytes: b"m",
             digest: b"d",
-        }),
+        })),
     }
 }

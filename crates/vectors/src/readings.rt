@@ -131,8 +131,8 @@ impl Shown for Targets {
             text.push_str("no delegations\n")?;
             return Ok(());
         };
-        push_keys(alloc, text, delegations.ring())?;
-        push_delegated(text, delegations.roles())
+        push_keys(alloc, text, &delegations.ring)?;
+        push_delegated(text, &delegations.roles)
     }
 }
 
@@ -179,19 +179,19 @@ fn push_delegated(text: &mut String, roles: &Roles) -> Result<()> {
     match roles {
         Roles::Listed(roles) => push_delegations(text, roles.as_slice()),
         Roles::Binned(bins) => {
-            write!(text, "bins {} {:?} ", bins.bits(), bins.prefix())?;
-            push_role(text, bins.keys())
+            write!(text, "bins {} {:?} ", bins.bits.get(), bins.prefix.as_str())?;
+            push_role(text, &bins.keys)
         }
     }
 }
 
 fn push_delegations(text: &mut String, roles: &[Delegation]) -> Result<()> {
     for role in roles {
-        let end = if role.is_terminating() { "stop" } else { "go" };
-        write!(text, "role {:?} {end}", role.name())?;
-        push_paths(text, role.paths())?;
+        let end = if role.terminating { "stop" } else { "go" };
+        write!(text, "role {:?} {end}", role.name.as_str())?;
+        push_paths(text, &role.paths)?;
         text.push(' ')?;
-        push_role(text, role.keys())?;
+        push_role(text, &role.keys)?;
     }
     Ok(())
 }

@@ -237,8 +237,8 @@ struct Witness {
 
 impl Witness {
     fn note(&mut self, ask: &Ask) -> Result<(), NoMemory> {
-        if let Ask::Signature { file, place, .. } = *ask {
-            writeln!(self.asks, "asked of {file} {place}")?;
+        if let Ask::Signature(ask) = ask {
+            writeln!(self.asks, "asked of {} {}", ask.file, ask.place)?;
         }
         Ok(())
     }

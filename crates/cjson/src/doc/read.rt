@@ -9,7 +9,7 @@ ghost use Rattle.cjson.specs.DocOf.{doc_of};
 ghost use Rattle.cjson.specs.Document as spec;
 
 use crate::doc::{Doc, Entry};
-use crate::fault::{DocFault, Misread};
+use crate::fault::{DocFault, ReadFault};
 use crate::form::needed;
 use crate::list::Items;
 use crate::tree::read_tree;
@@ -60,8 +60,8 @@ fn read_json(alloc: Global, file: &[u8]) -> Result<Value, DocFault>
 {
     match read_tree(alloc, file) {
         Ok(tree) => Ok(tree),
-        Err(Misread::Malformed) => Err(DocFault::NotJson),
-        Err(Misread::NoMemory) => Err(DocFault::NoMemory),
+        Err(ReadFault::Malformed) => Err(DocFault::NotJson),
+        Err(ReadFault::NoMemory) => Err(DocFault::NoMemory),
     }
 }
 
@@ -106,7 +106,7 @@ fn read_entries(alloc: Global, tree: &Value) -> Result<Items<Entry>, DocFault>
 {
     match needed(alloc, tree, "signatures") {
         Ok(entries) => Ok(entries),
-        Err(Misread::Malformed) => Err(DocFault::BadSignatures),
-        Err(Misread::NoMemory) => Err(DocFault::NoMemory),
+        Err(ReadFault::Malformed) => Err(DocFault::BadSignatures),
+        Err(ReadFault::NoMemory) => Err(DocFault::NoMemory),
     }
 }

@@ -1,12 +1,11 @@
 use Rattle.std.proofs.Common.{◌≡◌, vec_len}
 use Rattle.deleg.specs.Query.{outlook, pending}
-use Rattle.deleg.specs.Values.{quest_of}
 use Rattle.deleg.proofs.walk.next_frame.Given as goal
 
 abbrev pub invariant-loop-frame : goal.invariant-loop-frame
 invariant-loop-frame l =
-    let q = quest_of l.query in
-    outlook q (pending q.path l.initial.stack.items) l.seen ≡ outlook q (pending q.path l.stack.items) l.seen
+    let q = l.query in
+    outlook q (pending q.path.now l.initial.stack.items) l.seen ≡ outlook q (pending q.path.now l.stack.items) l.seen
 
 abbrev pub decreases-loop-frame : goal.decreases-loop-frame
 decreases-loop-frame l = vec_len l.stack

@@ -1,11 +1,15 @@
-use Rattle.std.proofs.Common.{rules}
+use Rattle.std.proofs.Common.{◌<◌, length, sym, ◌∙◌, subst, arith}
+use Rattle.board.proofs.Keeps.{gives_back}
+use Rattle.board.proofs.Calls.{same_table, same_truths}
 use Rattle.board.proofs.board.Board.give_back.Goals as goal
 
-pub open-requires-clause-right : goal.open-requires-clause-right
-open-requires-clause-right = search rules
-
-pub invariant_of-seat : goal.invariant_of-seat
-invariant_of-seat = search rules
-
-pub returns-clause-view : goal.returns-clause-view
-returns-clause-view = search rules
+pub store-requires : goal.store-requires
+store-requires c =
+    let j = c.in-Some.j in
+    let of = same_truths _ _ _ _ c.self.view_is c.seat.view_is c.requires.seat in
+    let within : j < length c.self.inside.table.shared.key.list = subst (λ xs. j < length xs) of (c.seat.invariant.within j c.in-Some.is) in
+    let size = c.self.invariant.0 in (
+      same_table _ _ _ _ c.self.view_is c.seat.view_is c.requires.seat,
+      omega arith,
+      gives_back _ _ _ _ j within (sym c.seat.invariant.holds ∙ c.in-Some.is),
+    )

@@ -1,6 +1,6 @@
 use Rattle.std.proofs.Common.{sym, ap, ◌∙◌, drop}
 use Rattle.std.proofs.lemmas.List.{drop-drop}
-use Rattle.deleg.specs.Binned.{edges_by}
+use Rattle.deleg.specs.Edge.{edges_by}
 use Rattle.deleg.proofs.frame.Frame.skip.Goals as goal
 
 pub returns-then-self-edge_count : goal.returns-then-self-edge_count

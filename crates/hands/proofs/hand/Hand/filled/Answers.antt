@@ -1,5 +1,11 @@
 use Rattle.std.proofs.Common.{rules}
+use Rattle.std.specs.Prelude.{Ok}
+use Rattle.hands.proofs.Owned.{owned}
 use Rattle.hands.proofs.hand.Hand.filled.Goals as goal
 
 pub invariant_of-result : goal.invariant_of-result
-invariant_of-result = search rules
+invariant_of-result c = (
+  owned _ _ _ (Ok c.in_ok-filled.field-0) c.requires.order c.requires.below c.in_ok-filled.ensures.flavor c.in_ok-filled.ensures.view,
+  search rules,
+  c.requires.some,
+)

@@ -1,5 +1,5 @@
 use Rattle.std.proofs.Common.{rules}
-use Rattle.meta.proofs.root.parse.Goals as goal
+use Rattle.meta.proofs.root.RootReading.read.Goals as goal
 
 pub returns-in_err-read_header : goal.returns-in_err-read_header
 returns-in_err-read_header = search rules

@@ -1,5 +1,5 @@
 use Rattle.std.proofs.Common.{rules}
-use Rattle.meta.proofs.timestamp.parse.Goals as goal
+use Rattle.meta.proofs.targets.TargetsReading.read.Goals as goal
 
 pub returns : goal.returns
 returns = search rules

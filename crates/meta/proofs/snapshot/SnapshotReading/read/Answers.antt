@@ -1,5 +1,5 @@
 use Rattle.std.proofs.Common.{rules}
-use Rattle.meta.proofs.targets.parse.Goals as goal
+use Rattle.meta.proofs.snapshot.SnapshotReading.read.Goals as goal
 
 pub returns : goal.returns
 returns = search rules

@@ -1,5 +1,5 @@
 use Rattle.std.proofs.Common.{rules}
-use Rattle.meta.proofs.snapshot.parse.Goals as goal
+use Rattle.meta.proofs.timestamp.TimestampReading.read.Goals as goal
 
 pub returns : goal.returns
 returns = search rules

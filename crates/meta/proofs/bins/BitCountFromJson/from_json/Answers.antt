@@ -1,8 +1,0 @@
-use Rattle.std.proofs.Common.{rules}
-use Rattle.meta.proofs.bins.BitCountFromJson.from_json.Goals as goal
-
-pub invariant_of-result : goal.invariant_of-result
-invariant_of-result = search rules
-
-pub returns : goal.returns
-returns = search rules
