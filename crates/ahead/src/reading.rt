@@ -73,26 +73,13 @@ struct TopLevel<'a> {
 /// lists, and the targets files from the top-level one on. Each file that is read adds its
 /// document. A file that can't be read is passed over, and so is what it would lead to. It refuses
 /// for want of memory alone.
-pub fn read_ahead(scope: &Scope, documents: &mut Vec<Document>) -> Result<Ahead, NoMemory> {
-    let mut ahead = Ahead {
-        roots: read_roots(scope, documents)?,
-        timestamp: None,
-        snapshot: None,
-        roles: Roles {
-            files: Vec::new(scope.alloc),
-            places: BTreeMap::new(scope.alloc),
-        },
+pub fn read_ahead(scope: &Scope) -> Result<(Ahead, Vec<Document>), NoMemory> {
+    let mut reader = Reader {
+        scope: *scope,
+        documents: Vec::new(scope.alloc),
     };
-    ahead.timestamp = read_file(scope, "timestamp.json", documents)?;
-    ahead.snapshot = read_snapshot(scope, &ahead, documents)?;
-    if let Some(snapshot) = &ahead.snapshot {
-        let top = TopLevel {
-            root: last_root(scope.trusted, ahead.roots.as_slice()),
-            snapshot: &snapshot.reading,
-        };
-        read_roles(scope, &top, &mut ahead.roles, documents)?;
-    }
-    Ok(ahead)
+    let ahead = reader.read_all()?;
+    Ok((ahead, reader.documents))
 }
 
 /// The last of the roots.
@@ -103,71 +90,160 @@ pub(crate) fn last_root<'b>(trusted: &'b Trusted, roots: &'b [Read<Root>]) -> &'
     }
 }
 
-/// The roots behind the trusted one, by their names.
-fn read_roots(scope: &Scope, documents: &mut Vec<Document>) -> Result<Vec<Read<Root>>, NoMemory> {
-    let mut roots = Vec::new(scope.alloc);
-    let mut version = scope.trusted.root_version();
-    for _ in 0..MOST_ROOTS {
-        if version >= LAST_VERSION {
-            break;
+/// Who reads files, and keeps the document of each.
+#[derive(Drop)]
+struct Reader<'a> {
+    scope: Scope<'a>,
+    documents: Vec<Document>,
+}
+
+impl<'a> Reader<'a> {
+    fn read_all(&mut self) -> Result<Ahead, NoMemory> {
+        let roots = self.read_roots()?;
+        let root = last_root(self.scope.trusted, roots.as_slice());
+        let timestamp = self.read_file("timestamp.json")?;
+        let snapshot = match &timestamp {
+            Some(timestamp) => self.read_snapshot(root, &timestamp.reading)?,
+            None => None,
+        };
+        let mut roles = Roles {
+            files: Vec::new(self.scope.alloc),
+            places: BTreeMap::new(self.scope.alloc),
+        };
+        if let Some(snapshot) = &snapshot {
+            let snapshot = &snapshot.reading;
+            self.read_roles(&TopLevel { root, snapshot }, &mut roles)?;
         }
-        version += 1;
-        let name = root_name(scope.alloc, version)?;
-        let Some(read) = read_file(scope, name.as_str(), documents)? else {
-            break;
+        Ok(Ahead {
+            roots,
+            timestamp,
+            snapshot,
+            roles,
+        })
+    }
+
+    /// The roots behind the trusted one, by their names.
+    fn read_roots(&mut self) -> Result<Vec<Read<Root>>, NoMemory> {
+        let mut roots = Vec::new(self.scope.alloc);
+        let mut version = self.scope.trusted.root_version();
+        for _ in 0..MOST_ROOTS {
+            if version >= LAST_VERSION {
+                break;
+            }
+            version += 1;
+            let name = root_name(self.scope.alloc, version)?;
+            let Some(read) = self.read_file(name.as_str())? else {
+                break;
+            };
+            roots.push(read)?;
+        }
+        Ok(roots)
+    }
+
+    /// The snapshot under the name that the timestamp's listing gives it.
+    fn read_snapshot(
+        &mut self,
+        root: &Root,
+        timestamp: &Timestamp,
+    ) -> Result<Option<Read<Snapshot>>, NoMemory> {
+        let version = timestamp.snapshot().version.get();
+        let alloc = self.scope.alloc;
+        let name = versioned(alloc, root.consistent(), version, "snapshot.json")?;
+        self.read_file(name.as_str())
+    }
+
+    /// Reads the targets files that some wanted path leads to, the top-level one first, and then
+    /// breadth first.
+    fn read_roles(&mut self, top: &TopLevel, roles: &mut Roles) -> Result<(), NoMemory> {
+        let first = String::from_str(self.scope.alloc, "targets")?;
+        self.read_role(top, first, roles)?;
+        for place in 0..self.scope.files {
+            let names = match roles.files.get(place) {
+                Some(file) => names_in(self.scope.alloc, file)?,
+                None => break,
+            };
+            self.read_each(top, names, roles)?;
+        }
+        Ok(())
+    }
+
+    /// Reads the files of these roles.
+    fn read_each(
+        &mut self,
+        top: &TopLevel,
+        names: Vec<String>,
+        roles: &mut Roles,
+    ) -> Result<(), NoMemory> {
+        for name in names {
+            self.read_role(top, name, roles)?;
+        }
+        Ok(())
+    }
+
+    /// Reads a role's file, unless that was tried before.
+    fn read_role(
+        &mut self,
+        top: &TopLevel,
+        role: String,
+        roles: &mut Roles,
+    ) -> Result<(), NoMemory> {
+        let place = roles.files.len();
+        if place >= self.scope.files || roles.places.contains_key(role.as_str()) {
+            return Ok(());
+        }
+        match self.role_file(top, role.as_str())? {
+            Some(file) => {
+                roles.files.push(file)?;
+                roles.places.insert(role, Some(place))?;
+            }
+            None => {
+                roles.places.insert(role, None)?;
+            }
+        }
+        Ok(())
+    }
+
+    /// A role's file, where it can be read under the name that the snapshot's listing gives it, and
+    /// where it leads.
+    fn role_file(&mut self, top: &TopLevel, role: &str) -> Result<Option<RoleFile>, NoMemory> {
+        let alloc = self.scope.alloc;
+        let (listed, name) = place_of(alloc, top.root, top.snapshot, role)?;
+        let Listed::As(_) = listed else {
+            return Ok(None);
         };
-        roots.push(read)?;
-    }
-    Ok(roots)
-}
-
-/// The snapshot under the name that the timestamp's listing gives it.
-fn read_snapshot(
-    scope: &Scope,
-    ahead: &Ahead,
-    documents: &mut Vec<Document>,
-) -> Result<Option<Read<Snapshot>>, NoMemory> {
-    let Some(timestamp) = &ahead.timestamp else {
-        return Ok(None);
-    };
-    let root = last_root(scope.trusted, ahead.roots.as_slice());
-    let version = timestamp.reading.snapshot().version.get();
-    let name = versioned(scope.alloc, root.consistent(), version, "snapshot.json")?;
-    read_file(scope, name.as_str(), documents)
-}
-
-/// Reads the targets files that some wanted path leads to, the top-level one first, and then
-/// breadth first.
-fn read_roles(
-    scope: &Scope,
-    top: &TopLevel,
-    roles: &mut Roles,
-    documents: &mut Vec<Document>,
-) -> Result<(), NoMemory> {
-    let first = String::from_str(scope.alloc, "targets")?;
-    read_role(scope, top, first, roles, documents)?;
-    for place in 0..scope.files {
-        let names = match roles.files.get(place) {
-            Some(file) => names_in(scope.alloc, file)?,
-            None => break,
+        let Some(read) = self.read_file::<Targets>(name.as_str())? else {
+            return Ok(None);
         };
-        read_each(scope, top, names, roles, documents)?;
+        Ok(Some(RoleFile {
+            document: read.document,
+            followed: followed(alloc, &read.reading, self.scope.wanted)?,
+            targets: read.reading,
+        }))
     }
-    Ok(())
-}
 
-/// Reads the files of these roles.
-fn read_each(
-    scope: &Scope,
-    top: &TopLevel,
-    names: Vec<String>,
-    roles: &mut Roles,
-    documents: &mut Vec<Document>,
-) -> Result<(), NoMemory> {
-    for name in names {
-        read_role(scope, top, name, roles, documents)?;
+    /// Reads a file, where it is there and has the form of its kind, and keeps its document.
+    fn read_file<A: Reading + Drop>(&mut self, name: &str) -> Result<Option<Read<A>>, NoMemory> {
+        let alloc = self.scope.alloc;
+        let Some(bytes) = self.scope.repo.metadata.get(name) else {
+            return Ok(None);
+        };
+        if bytes.len() as u64 > A::limit() {
+            return Ok(None);
+        }
+        let doc = match read_document(alloc, bytes) {
+            Ok(doc) => doc,
+            Err(Stop::NoMemory) => return Err(NoMemory),
+            Err(Stop::Refused(_)) => return Ok(None),
+        };
+        let reading = match A::read(alloc, &doc) {
+            Ok(reading) => reading,
+            Err(ReadFault::NoMemory) => return Err(NoMemory),
+            Err(_) => return Ok(None),
+        };
+        let document = self.documents.len();
+        self.documents.push(Document::new(alloc, name, &doc)?)?;
+        Ok(Some(Read { document, reading }))
     }
-    Ok(())
 }
 
 /// The names of the roles that a file leads to.
@@ -177,88 +253,4 @@ fn names_in(alloc: Global, file: &RoleFile) -> Result<Vec<String>, NoMemory> {
         names.push(String::from_str(alloc, edge.name)?)?;
     }
     Ok(names)
-}
-
-/// Reads a role's file, unless that was tried before.
-fn read_role(
-    scope: &Scope,
-    top: &TopLevel,
-    role: String,
-    roles: &mut Roles,
-    documents: &mut Vec<Document>,
-) -> Result<(), NoMemory> {
-    if roles.files.len() >= scope.files || roles.places.contains_key(role.as_str()) {
-        return Ok(());
-    }
-    let place = match role_file(scope, top, role.as_str(), documents)? {
-        Some(file) => Some(add_file(&mut roles.files, file)?),
-        None => None,
-    };
-    roles.places.insert(role, place)?;
-    Ok(())
-}
-
-/// Adds the file behind the others, and answers its place.
-fn add_file(files: &mut Vec<RoleFile>, file: RoleFile) -> Result<usize, NoMemory> {
-    let place = files.len();
-    files.push(file)?;
-    Ok(place)
-}
-
-/// A role's file, where it can be read, and where it leads.
-fn role_file(
-    scope: &Scope,
-    top: &TopLevel,
-    role: &str,
-    documents: &mut Vec<Document>,
-) -> Result<Option<RoleFile>, NoMemory> {
-    let Some(read) = read_targets(scope, top, role, documents)? else {
-        return Ok(None);
-    };
-    Ok(Some(RoleFile {
-        document: read.document,
-        followed: followed(scope.alloc, &read.reading, scope.wanted)?,
-        targets: read.reading,
-    }))
-}
-
-/// Reads a role's file under the name that the snapshot's listing gives it.
-fn read_targets(
-    scope: &Scope,
-    top: &TopLevel,
-    role: &str,
-    documents: &mut Vec<Document>,
-) -> Result<Option<Read<Targets>>, NoMemory> {
-    let (listed, name) = place_of(scope.alloc, top.root, top.snapshot, role)?;
-    match listed {
-        Listed::As(_) => read_file(scope, name.as_str(), documents),
-        _ => Ok(None),
-    }
-}
-
-/// Reads a file, where it is there and has the form of its kind, and keeps its document.
-fn read_file<A: Reading + Drop>(
-    scope: &Scope,
-    name: &str,
-    documents: &mut Vec<Document>,
-) -> Result<Option<Read<A>>, NoMemory> {
-    let Some(bytes) = scope.repo.metadata.get(name) else {
-        return Ok(None);
-    };
-    if bytes.len() as u64 > A::limit() {
-        return Ok(None);
-    }
-    let doc = match read_document(scope.alloc, bytes) {
-        Ok(doc) => doc,
-        Err(Stop::NoMemory) => return Err(NoMemory),
-        Err(Stop::Refused(_)) => return Ok(None),
-    };
-    let reading = match A::read(scope.alloc, &doc) {
-        Ok(reading) => reading,
-        Err(ReadFault::NoMemory) => return Err(NoMemory),
-        Err(_) => return Ok(None),
-    };
-    let document = documents.len();
-    documents.push(Document::new(scope.alloc, name, &doc)?)?;
-    Ok(Some(Read { document, reading }))
 }

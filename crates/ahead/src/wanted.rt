@@ -6,7 +6,7 @@ use cjson::text::Text;
 use deleg::{Edge, bin_of, edge_at, edge_count, is_for, target_of};
 use examine::target_file;
 use keys::Algorithm;
-use meta::{Repo, Target, Targets};
+use meta::{Target, Targets};
 use std::alloc::Global;
 use std::collections::BTreeSet;
 
@@ -72,23 +72,18 @@ pub struct Digest<'a> {
 
 /// The digests of the wanted targets, as each file that was read lists them, of those whose files
 /// are there with the listed length. It stops once there are `scope.most`.
-pub fn digests<'a>(
-    scope: &Scope,
-    repo: &'a Repo,
-    ahead: &Ahead,
-) -> Result<Vec<Digest<'a>>, NoMemory> {
+pub fn digests<'a>(scope: &Scope<'a>, ahead: &Ahead) -> Result<Vec<Digest<'a>>, NoMemory> {
     let consistent = last_root(scope.trusted, ahead.roots.as_slice()).consistent();
     let mut found = Vec::new(scope.alloc);
     for path in scope.wanted {
-        add_listed(scope, repo, consistent, path.as_str(), ahead, &mut found)?;
+        add_listed(scope, consistent, path.as_str(), ahead, &mut found)?;
     }
     Ok(found)
 }
 
 /// Adds the digests of one target, as each file that was read lists them.
 fn add_listed<'a>(
-    scope: &Scope,
-    repo: &'a Repo,
+    scope: &Scope<'a>,
     consistent: bool,
     path: &str,
     ahead: &Ahead,
@@ -99,20 +94,20 @@ fn add_listed<'a>(
             break;
         }
         if let Some(target) = target_of(&file.targets, path) {
-            add_digests(scope.alloc, repo, consistent, target, found)?;
+            add_digests(scope, consistent, target, found)?;
         }
     }
     Ok(())
 }
 
 fn add_digests<'a>(
-    alloc: Global,
-    repo: &'a Repo,
+    scope: &Scope<'a>,
     consistent: bool,
     target: &Target,
     found: &mut Vec<Digest<'a>>,
 ) -> Result<(), NoMemory> {
-    let Some(bytes) = target_file(alloc, &repo.targets, consistent, target)? else {
+    let alloc = scope.alloc;
+    let Some(bytes) = target_file(alloc, &scope.repo.targets, consistent, target)? else {
         return Ok(());
     };
     if target.length.get() != bytes.len() as u64 {

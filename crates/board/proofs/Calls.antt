@@ -6,14 +6,11 @@ use Rattle.std.specs.List.{IsDistinct}
 use Rattle.board.specs.declared.look.Look.{Look}
 use Rattle.board.specs.declared.look.Look.TheVariants.{Open, Taken, Valid, Invalid}
 use Rattle.board.specs.declared.checks.TheConstants.{MOST_CHECKS}
-use Rattle.board.specs.Looks.{IsVerdict, word_of_look}
-use Rattle.board.specs.Moment.{truth, IsDecided}
+use Rattle.board.specs.Board.{IsVerdict, word_of_look, truth, IsDecided, Sat, newcomer, holding, released, having_seen, having_done, BoardValue, SeatValue, IsSeatOf, IsKept, HasAll, Keeps}
 use Rattle.board.proofs.Keeps.{not_open, not_taken}
 use Rattle.board.proofs.SeatLemmas.{keeps_all}
 use Rattle.board.specs.declared.view.View.{View}
-use Rattle.board.specs.Steps.{Sat, newcomer, holding, released, having_seen, having_done}
 use Rattle.atomic_table.specs.Seated.{TableId}
-use Rattle.board.specs.Seats.{BoardValue, SeatValue, IsSeatOf, IsKept, HasAll, Keeps}
 
 module _ (b b' : BoardValue) (s s' : SeatValue) (is : b ≡ b') (at : s ≡ s') (sits : IsSeatOf b' s') where
   pub same_table : s.board ≡ b.id

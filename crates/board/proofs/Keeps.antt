@@ -12,8 +12,7 @@ use prog.Atomic.{either}
 use Rattle.atomic_table.specs.Table.{State, Act, step, keeps, stepped, carried_after, Valid, Allows, Splits, Joins}
 use Rattle.atomic_table.proofs.Lists.{at_set, at_snoc, at_longer, set_else, set_again, exchanged}
 use Rattle.board.specs.declared.view.View.{View}
-use Rattle.board.specs.Moment.{truth, stop_word, check_word, IsDecided, times, times_done, Holds, Knows, IsLawful}
-use Rattle.board.specs.Steps.{Sat, newcomer, holding, released, having_seen, having_done, halting, joined, Claims, Publishes, GivesBack, Sees, Looks, Stops, Notices, Counts}
+use Rattle.board.specs.Board.{truth, stop_word, check_word, IsDecided, times, times_done, Holds, Knows, IsLawful, Sat, newcomer, holding, released, having_seen, having_done, halting, joined, Claims, Publishes, GivesBack, Sees, Looks, Stops, Notices, Counts}
 use Rattle.board.proofs.Counting.{contains_nil, contains_cons, contains_append, times_append, times_one, times_else, distinct, at_most, times_done_set, times_done_snoc, times_done_at, nobody_did}
 
 -- reading a list of views after a write

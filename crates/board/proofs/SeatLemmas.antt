@@ -4,12 +4,9 @@ use Rattle.std.proofs.lemmas.List.{append-nil}
 use Rattle.board.specs.declared.view.View.{View}
 use Rattle.board.specs.declared.look.Look.{Look}
 use Rattle.board.specs.declared.look.Look.TheVariants.{Open, Taken, Valid, Invalid}
-use Rattle.board.specs.Looks.{IsVerdict}
-use Rattle.board.specs.Steps.{holding, having_seen, having_done}
+use Rattle.board.specs.Board.{IsVerdict, holding, having_seen, having_done, truth, BoardValue, SeatValue, IsSeatOf, IsFree, GoesOn, HasAll, Keeps}
 use Rattle.std.specs.Prelude.{slice_get, Some, None}
 use Rattle.std.proofs.lemmas.Option.{get_or_from_slice_get}
-use Rattle.board.specs.Moment.{truth}
-use Rattle.board.specs.Seats.{BoardValue, SeatValue, IsSeatOf, IsFree, GoesOn, HasAll, Keeps}
 
 on_refl : (xs : List ℕ) → GoesOn xs xs
 on_refl xs = ([], sym (append-nil xs))

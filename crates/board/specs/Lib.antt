@@ -1,4 +1,1 @@
-pub mod Looks
-pub mod Moment
-pub mod Seats
-pub mod Steps
+pub mod Board

@@ -2,11 +2,9 @@
 ghost use Rattle.std.specs.Prelude.{◌≡◌, ◌<◌, ◌≤◌, true, false, Some, None, length, nat_eq, IsTrue};
 ghost use Rattle.std.specs.Prelude.{IsSome, IfSome, IfOk};
 ghost use Rattle.std.specs.List.{IsDistinct};
-ghost use Rattle.board.specs.Moment.{truth, Knows};
-ghost use Rattle.board.specs.Steps.{newcomer, holding, released, having_seen, having_done, halting};
-ghost use Rattle.board.specs.Steps.{joined};
-ghost use Rattle.board.specs.Seats.{IsSeatOf, IsFree, HasAll, Keeps};
-ghost use Rattle.board.specs.Looks.{IsVerdict};
+ghost use Rattle.board.specs.Board.{truth, Knows, newcomer, holding, released, having_seen};
+ghost use Rattle.board.specs.Board.{having_done, halting, joined, IsSeatOf, IsFree, HasAll, Keeps};
+ghost use Rattle.board.specs.Board.{IsVerdict};
 
 use crate::checks::{Checks, MOST_CHECKS};
 use crate::look::{INVALID, Look, OPEN, TAKEN, VALID};
@@ -35,7 +33,7 @@ pub struct Board {
 impl Model for Board {
     ghost use Rattle.std.specs.Prelude.{◌≡◌, ◌+◌, ◌≤◌, length};
     ghost use Rattle.board.specs.declared.checks.TheConstants.{MOST_CHECKS};
-    ghost use Rattle.board.specs.Seats.{BoardValue};
+    ghost use Rattle.board.specs.Board.{BoardValue};
 
     ghost Value = { BoardValue };
 

@@ -1,6 +1,6 @@
 //! What a board decides.
 ghost use Rattle.std.specs.Prelude.{◌≡◌, ◌≤◌, ◌<◌, Bool, List, length, IfOk};
-ghost use Rattle.board.specs.Moment.{truth};
+ghost use Rattle.board.specs.Board.{truth};
 
 use cjson::NoMemory;
 

@@ -1,6 +1,6 @@
 //! What a seat finds at a check.
 ghost use Rattle.std.specs.Prelude.{◌≡◌, ◌≤◌};
-ghost use Rattle.board.specs.Looks.{word_of_look};
+ghost use Rattle.board.specs.Board.{word_of_look};
 
 // What the word of a check says.
 pub(crate) const OPEN: u64 = 0;

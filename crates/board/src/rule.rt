@@ -7,8 +7,8 @@ use atomic_table::{Join, Play, Split, TableRule};
 pub struct Rule;
 
 impl TableRule<(), View, Truths> for Rule {
-    ghost use Rattle.board.specs.Moment.{IsLawful};
-    ghost use Rattle.board.specs.Steps.{newcomer};
+    ghost use Rattle.board.specs.Board.{IsLawful};
+    ghost use Rattle.board.specs.Board.{newcomer};
 
     ghost holds = { λ key s. IsLawful key.list s.words s.views };
 
@@ -19,7 +19,7 @@ impl TableRule<(), View, Truths> for Rule {
 pub struct Claim;
 
 impl Play<(), View> for Claim {
-    ghost use Rattle.board.specs.Steps.{Claims};
+    ghost use Rattle.board.specs.Board.{Claims};
 
     ghost then = { Claims };
 }
@@ -28,7 +28,7 @@ impl Play<(), View> for Claim {
 pub struct Publish;
 
 impl Play<(), View> for Publish {
-    ghost use Rattle.board.specs.Steps.{Publishes};
+    ghost use Rattle.board.specs.Board.{Publishes};
 
     ghost then = { Publishes };
 }
@@ -37,7 +37,7 @@ impl Play<(), View> for Publish {
 pub struct GiveBack;
 
 impl Play<(), View> for GiveBack {
-    ghost use Rattle.board.specs.Steps.{GivesBack};
+    ghost use Rattle.board.specs.Board.{GivesBack};
 
     ghost then = { GivesBack };
 }
@@ -46,7 +46,7 @@ impl Play<(), View> for GiveBack {
 pub struct LookAt;
 
 impl Play<(), View> for LookAt {
-    ghost use Rattle.board.specs.Steps.{Looks};
+    ghost use Rattle.board.specs.Board.{Looks};
 
     ghost then = { Looks };
 }
@@ -55,7 +55,7 @@ impl Play<(), View> for LookAt {
 pub struct Stop;
 
 impl Play<(), View> for Stop {
-    ghost use Rattle.board.specs.Steps.{Stops};
+    ghost use Rattle.board.specs.Board.{Stops};
 
     ghost then = { Stops };
 }
@@ -64,7 +64,7 @@ impl Play<(), View> for Stop {
 pub struct Notice;
 
 impl Play<(), View> for Notice {
-    ghost use Rattle.board.specs.Steps.{Notices};
+    ghost use Rattle.board.specs.Board.{Notices};
 
     ghost then = { Notices };
 }
@@ -73,7 +73,7 @@ impl Play<(), View> for Notice {
 pub struct Count;
 
 impl Play<(), View> for Count {
-    ghost use Rattle.board.specs.Steps.{Counts};
+    ghost use Rattle.board.specs.Board.{Counts};
 
     ghost then = { Counts };
 }
@@ -82,7 +82,7 @@ impl Play<(), View> for Count {
 pub struct Seats;
 
 impl Split<View> for Seats {
-    ghost use Rattle.board.specs.Steps.{newcomer};
+    ghost use Rattle.board.specs.Board.{newcomer};
 
     ghost left = { λ v. v };
 
@@ -91,7 +91,7 @@ impl Split<View> for Seats {
 
 impl Join<View> for Seats {
     ghost use Rattle.std.specs.Prelude.{[]};
-    ghost use Rattle.board.specs.Steps.{joined, newcomer};
+    ghost use Rattle.board.specs.Board.{joined, newcomer};
 
     ghost both = { joined };
 

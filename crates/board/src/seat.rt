@@ -18,7 +18,7 @@ pub struct Seat {
 }
 
 impl Model for Seat {
-    ghost use Rattle.board.specs.Seats.{SeatValue, IsKept};
+    ghost use Rattle.board.specs.Board.{SeatValue, IsKept};
 
     ghost Value = { SeatValue };
 

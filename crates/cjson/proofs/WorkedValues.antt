@@ -2,10 +2,9 @@
 use Rattle.std.specs.Prelude.{◌≡◌, refl, codes, false, Option, Some, None, option_map, Err, List, ℕ, [], ◌∷◌}
 use Rattle.serde_json.specs.Read.{read}
 use Rattle.cjson.proofs.OnLiterals.{cjson_on_literals}
-use Rattle.cjson.specs.Option.{◌>>=◌}
+use Rattle.cjson.specs.Form.{◌>>=◌, Form, optional, greatest, whole, text, ok, hex_bytes}
 use Rattle.cjson.specs.Canon.{canon, has_whole_numbers}
 use Rattle.cjson.specs.Document.{Document, tree_of, document}
-use Rattle.cjson.specs.Form.{Form, optional, greatest, whole, text, ok, hex_bytes}
 use Rattle.cjson.specs.declared.fault.DocFault.TheVariants.{NotJson, NotObject, Float, BadSignatures}
 
 -- ---- canonical texts

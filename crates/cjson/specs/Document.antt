@@ -1,16 +1,35 @@
 -- A metadata file as a document: what is signed, its canonical text, and who signed (TUF 1.0
 -- section 4.2).
-use Rattle.std.specs.Prelude.{ℕ, List, codes, if◌then◌else◌, Option, None, option_map, option_and_then, Result, Ok}
+use Rattle.std.specs.Prelude.{Bool, if◌then◌else◌, Option, Some, None, Result, Ok, Err, ⊤, ℕ, List, codes, option_map, option_and_then}
 use Rattle.std.specs.Str.{is_utf8}
 use Rattle.serde_json.specs.Data.{object}
-use Rattle.serde_json.specs.Read.{read}
+use Rattle.serde_json.specs.View.{view}
 use Rattle.serde_json.specs.Find.{get, as_object}
-use Rattle.cjson.specs.Checks.{◌>>=◌, or_refuse}
+use Rattle.serde_json.specs.Read.{read}
 use Rattle.cjson.specs.Canon.{canon}
-use Rattle.cjson.specs.Form.{Data, needed, list}
-use Rattle.cjson.specs.Entry.{entry, Entry}
+use Rattle.cjson.specs.Form.{Data, needed, list, entry, Entry}
+use Rattle.cjson.specs.declared.doc.Doc.{Doc}
 use Rattle.cjson.specs.declared.fault.DocFault.{DocFault}
 use Rattle.cjson.specs.declared.fault.DocFault.TheVariants.{NotJson, NotObject, Float, BadSignatures}
+
+-- # Checks in order: the first that fails is the answer.
+
+-- the next check, where none has failed
+infixl 10 ◌>>=◌
+abbrev pub ◌>>=◌ : {A B E : Type 0} → Result A E → (A → Result B E) → Result B E
+Err e >>= f = Err e
+Ok x >>= f = f x
+
+-- the fault, where the check fails
+abbrev pub refuse_if : {E : Type 0} → Bool → E → Result ⊤ E
+refuse_if fails fault = if fails then Err fault else Ok tt
+
+-- the value, or the fault where there is none
+abbrev pub or_refuse : {A E : Type 0} → Option A → E → Result A E
+or_refuse None fault = Err fault
+or_refuse (Some x) fault = Ok x
+
+-- # The document of a file.
 
 pub record Document : Type 0 where
   pub signed : Data
@@ -42,3 +61,8 @@ document file = do
   text ← or_refuse (canon signed) Float
   entries ← or_refuse (entries_of tree) BadSignatures
   Ok (record { signed = signed; text = text; entries = entries })
+
+-- # What contracts see of a `Doc`.
+
+abbrev pub doc_of : Doc → Document
+doc_of d = record { signed = view d.tree; text = d.canonical.items; entries = d.listed }

@@ -1,10 +1,21 @@
 -- The forms of a JSON member. A form reads a tree, or gives nothing where the tree hasn't that
 -- form.
-use Rattle.std.specs.Prelude.{ℕ, ◌&&◌, nat_le, if◌then◌else◌, List, [], ◌∷◌, Bool, true, false, Option, Some, None, option_map, option_and_then, Result, Ok, Err, ⊤}
+use Rattle.std.specs.Prelude.{Option, Some, None, ℕ, ◌&&◌, nat_le, if◌then◌else◌, List, [], ◌∷◌, Bool, true, false, option_map, option_and_then, Result, Ok, Err, ⊤, codes, ◌≡◌}
 pub use Rattle.serde_json.specs.Data.{Data, Items, no_items, item, Members, no_members, member}
 use Rattle.serde_json.specs.Find.{get, as_str, as_number, as_u64, as_array, as_object}
 use Rattle.hex.specs.Hex.{decode_sized}
-use Rattle.cjson.specs.Option.{◌>>=◌}
+pub use Rattle.cjson.specs.declared.doc.Entry.{Entry}
+use Rattle.cjson.specs.declared.fault.ReadFault.{ReadFault}
+use Rattle.cjson.specs.declared.fault.ReadFault.TheVariants.{Malformed, NoMemory}
+
+-- # The `?` of the definitions: the next step, where there is a value.
+
+infixl 10 ◌>>=◌
+abbrev pub ◌>>=◌ : {A B : Type 0} → Option A → (A → Option B) → Option B
+None >>= f = None
+Some x >>= f = f x
+
+-- # The forms.
 
 abbrev pub Form : Type 0 → Type 0
 Form A = Data → Option A
@@ -95,3 +106,23 @@ abbrev pub hex_bytes : ℕ → Form (List ℕ)
 hex_bytes size d = do
   digits ← as_str d
   ok (decode_sized digits size)
+
+-- # An entry of `signatures` (TUF 1.0 section 4.2).
+
+abbrev pub entry : Form Entry
+entry d = do
+  keyid ← needed (codes "keyid") text d
+  sig ← needed (codes "sig") text d
+  Some (record { keyid = keyid; sig = sig })
+
+-- # What a reader answers. Want of memory says nothing.
+
+-- the value, as `seen` sees it, or `Malformed` where there is none
+abbrev pub ReadsAs : {A B : Type 0} → Option A → Result B ReadFault → (B → A) → Type 0
+ReadsAs o (Ok x) seen = o ≡ Some (seen x)
+ReadsAs o (Err Malformed) seen = o ≡ None
+ReadsAs o (Err NoMemory) seen = Unit {0}
+
+-- the form's value
+abbrev pub Reads : {A : Type 0} → Option A → Result A ReadFault → Type 0
+Reads o r = ReadsAs o r (λ x. x)

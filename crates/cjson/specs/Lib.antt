@@ -1,10 +1,3 @@
-pub mod Option
-pub mod Checks
 pub mod Form
-pub mod Reads
-pub mod Canon
-pub mod Entry
 pub mod Document
-pub mod Trees
-pub mod DocOf
-pub mod Faults
+pub mod Canon

@@ -25,7 +25,7 @@ pub struct Entry {
 }
 
 impl FromJson for Entry {
-    ghost use Rattle.cjson.specs.Entry as spec;
+    ghost use Rattle.cjson.specs.Form as spec;
 
     ghost form = { spec.entry };
 
@@ -56,7 +56,7 @@ impl Drop for Doc {
 }
 
 impl Doc {
-    ghost use Rattle.cjson.specs.DocOf.{doc_of};
+    ghost use Rattle.cjson.specs.Document.{doc_of};
 
     /// The tree of `signed`.
     pub fn tree(&self) -> &Value

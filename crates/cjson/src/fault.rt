@@ -2,8 +2,8 @@
 
 ghost use Rattle.std.specs.Prelude.{◌≡◌};
 ghost use Rattle.cjson.specs.declared.fault.CanonicalFault.TheVariants as canon;
+ghost use Rattle.cjson.specs.declared.fault.DocFault.TheVariants as doc;
 ghost use Rattle.cjson.specs.declared.fault.ReadFault.TheVariants as read;
-ghost use Rattle.cjson.specs.Faults.{doc_fault_of};
 
 use std::alloc::{AllocError, AllocFailed};
 use thiserror::Error;
@@ -84,7 +84,8 @@ impl<T: Drop> From<AllocFailed<T>> for CanonicalFault {
 }
 
 impl From<CanonicalFault> for DocFault {
-    ghost from_gives = { λ c e. e ≡ doc_fault_of c };
+    ghost from_gives = { λ c e. (c ≡ canon.Float → e ≡ doc.Float)
+        × (c ≡ canon.NoMemory → e ≡ doc.NoMemory) };
 
     fn from(fault: CanonicalFault) -> DocFault {
         match fault {

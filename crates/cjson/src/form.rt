@@ -4,7 +4,6 @@ ghost use Rattle.std.specs.Prelude.{◌≡◌, Option, Err, IfOk, IfErr};
 ghost use Rattle.serde_json.specs.Data.{Data};
 ghost use Rattle.serde_json.specs.View.{view};
 ghost use Rattle.cjson.specs.Form as form_of;
-ghost use Rattle.cjson.specs.Reads.{Reads};
 
 use crate::fault::{NoMemory, ReadFault};
 use serde_json::Value;
@@ -16,7 +15,7 @@ pub trait FromJson: Sized {
 
     /// What `value` is read as; `Malformed` where it hasn't the form.
     fn from_json(alloc: Global, value: &Value) -> Result<Self, ReadFault>
-        ensures read { Reads (form (view value.now)) result };
+        ensures read { form_of.Reads (form (view value.now)) result };
 }
 
 /// A member that has to be there.
@@ -24,7 +23,7 @@ pub trait FromJson: Sized {
 /// `Malformed` is answered where `value` is no object, has no member of that name, or has one of
 /// another form.
 pub fn needed<T: FromJson>(alloc: Global, value: &Value, name: &str) -> Result<T, ReadFault>
-    ensures read { Reads (form_of.needed name.now T.form (view value.now)) result }
+    ensures read { form_of.Reads (form_of.needed name.now T.form (view value.now)) result }
 {
     let member = value.get(name).ok_or(ReadFault::Malformed)?;
     T::from_json(alloc, member)
@@ -39,7 +38,7 @@ pub fn optional<T: FromJson>(
     value: &Value,
     name: &str,
 ) -> Result<Option<T>, ReadFault>
-    ensures read { Reads (form_of.optional name.now T.form (view value.now)) result }
+    ensures read { form_of.Reads (form_of.optional name.now T.form (view value.now)) result }
 {
     match value.get(name) {
         Some(member) => Ok(Some(T::from_json(alloc, member)?)),
@@ -50,7 +49,7 @@ pub fn optional<T: FromJson>(
 /// What was read, or None where the value hasn't the form. Only where memory was refused to the
 /// reader, it is refused here.
 pub fn if_formed<T>(read: Result<T, ReadFault>) -> Result<Option<T>, NoMemory>
-    ensures value { (o : Option T) → Reads o read → IfOk result (λ x. x ≡ o) }
+    ensures value { (o : Option T) → form_of.Reads o read → IfOk result (λ x. x ≡ o) }
     ensures memory { IfErr result (λ _. read ≡ Err ReadFault.NoMemory) }
 {
     match read {

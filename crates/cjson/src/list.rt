@@ -3,7 +3,6 @@
 ghost use Rattle.std.specs.Prelude.{◌≡◌};
 ghost use Rattle.serde_json.specs.View.{items_view};
 ghost use Rattle.cjson.specs.Form as form_of;
-ghost use Rattle.cjson.specs.Reads.{Reads};
 
 use crate::fault::ReadFault;
 use crate::form::FromJson;
@@ -60,7 +59,7 @@ impl<T: FromJson + Drop> FromJson for Items<T> {
 }
 
 fn read_each<T: FromJson + Drop>(alloc: Global, found: &[Value]) -> Result<Items<T>, ReadFault>
-    ensures { Reads (form_of.each T.form (items_view found.now)) result }
+    ensures { form_of.Reads (form_of.each T.form (items_view found.now)) result }
 {
     let mut items = Vec::with_capacity(alloc, found.len())?;
     for item in found {

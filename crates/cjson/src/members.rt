@@ -4,7 +4,7 @@ ghost use Rattle.std.specs.Prelude.{Option, List, ℕ};
 ghost use Rattle.serde_json.specs.Data.{Data};
 ghost use Rattle.serde_json.specs.View.{view, members_view};
 ghost use Rattle.cjson.specs.Form as form_of;
-ghost use Rattle.cjson.specs.Reads.{Reads};
+ghost use Rattle.cjson.specs.Form.{Reads};
 
 use crate::fault::ReadFault;
 use crate::list::Items;

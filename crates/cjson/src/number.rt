@@ -1,6 +1,6 @@
 //! Whole numbers, bytes in hexadecimal, and true or false.
 
-ghost use Rattle.std.specs.Prelude.{◌≡◌, ◌≤◌, IfSome, Option, Some, None};
+ghost use Rattle.std.specs.Prelude.{◌≡◌, ◌≤◌, ◌↔◌, IfSome, IsSome};
 ghost use Rattle.serde_json.specs.View.{view};
 ghost use Rattle.cjson.specs.Form as form_of;
 
@@ -20,7 +20,7 @@ fn whole(value: &Value, least: u64, most: u64) -> Option<u64>
 }
 
 /// A whole number from `LEAST` to `MOST`; `Malformed` for any other value.
-#[derive(Clone, Copy)]
+#[derive(Clone, Copy, Debug, PartialEq, Eq)]
 pub struct Within<const LEAST: u64, const MOST: u64> {
     number: u64,
 }
@@ -44,6 +44,18 @@ impl<const LEAST: u64, const MOST: u64> Model for Within<LEAST, MOST> {
 }
 
 impl<const LEAST: u64, const MOST: u64> Within<LEAST, MOST> {
+    /// The number, where it is from `LEAST` to `MOST`.
+    pub fn new(number: u64) -> Option<Within<LEAST, MOST>>
+        ensures some { IsSome result ↔ (LEAST ≤ number) × (number ≤ MOST) }
+        ensures value { IfSome result (λ n. n ≡ number) }
+    {
+        if LEAST <= number && number <= MOST {
+            Some(Within { number })
+        } else {
+            None
+        }
+    }
+
     /// The number, from `LEAST` to `MOST`.
     pub fn get(&self) -> u64
         ensures value { result ≡ self.now }

@@ -1,7 +1,8 @@
 //! Bytes as a tree of JSON.
 
+ghost use Rattle.serde_json.specs.View.{view};
 ghost use Rattle.cjson.specs.Document.{tree_of};
-ghost use Rattle.cjson.specs.Trees.{ReadsTree};
+ghost use Rattle.cjson.specs.Form.{ReadsAs};
 
 use crate::fault::ReadFault;
 use serde_json::Value;
@@ -10,7 +11,7 @@ use std::alloc::Global;
 /// The tree of bytes that are JSON in UTF-8, of at most 127 levels; `Malformed` where they aren't.
 /// Of members named twice the last one counts.
 pub fn read_tree(alloc: Global, bytes: &[u8]) -> Result<Value, ReadFault>
-    ensures tree { ReadsTree (tree_of bytes.now) result }
+    ensures tree { ReadsAs (tree_of bytes.now) result view }
 {
     match Value::from_slice(alloc, bytes) {
         Ok(tree) => Ok(tree),

@@ -4,7 +4,7 @@ ghost use Rattle.failure.specs.Failures.{is_callers};
 
 use crate::disks::{replay_on_disk, verify_on_disk};
 use crate::making::make;
-use crate::tasks::{Task, task_of};
+use crate::terms::word;
 use clap::ArgMatches;
 use clap::error::ErrorKind;
 use failure::{Failure, tell_failure};
@@ -54,25 +54,27 @@ fn perform_words<
     ensures known { IfOk result (λ status. status ≤ 3) }
 {
     match words::parse(alloc, words) {
-        Ok(matches) => perform_task(rt, threads, alloc, &matches, out),
+        Ok(matches) => perform_command(rt, threads, alloc, &matches, out),
         Err(error) => refuse_words(alloc, &error, out, err),
     }
 }
 
-fn perform_task<R: Files + Clock + AllocGlobal + Clone + Drop, T: Threads + Wait + Sync, W: Write>(
-    rt: &R,
-    threads: &T,
-    alloc: Global,
-    matches: &ArgMatches<'_>,
-    out: &mut W,
-) -> Result<u8, Failure>
+fn perform_command<
+    R: Files + Clock + AllocGlobal + Clone + Drop,
+    T: Threads + Wait + Sync,
+    W: Write,
+>(rt: &R, threads: &T, alloc: Global, matches: &ArgMatches<'_>, out: &mut W) -> Result<u8, Failure>
     ensures known { IfOk result (λ status. status ≤ 2) }
 {
-    match task_of(alloc, matches)? {
-        Task::Init { root, out: state } => init(alloc, &mut Machine::new(rt), root, state, out),
-        Task::Make { script, folder } => make(rt, alloc, script, folder),
-        Task::Verify(task) => verify_on_disk(rt, threads, alloc, &task, out),
-        Task::Replay(task) => replay_on_disk(rt, threads, alloc, &task, out),
+    let (name, words) = matches.subcommand().ok_or(Failure::Words)?;
+    match name {
+        "init" => {
+            let (root, state) = (word(words, "ROOT")?, word(words, "out")?);
+            init(alloc, &mut Machine::new(rt), root, state, out)
+        }
+        "make" => make(rt, alloc, word(words, "SCRIPT")?, word(words, "DIR")?),
+        "replay" => replay_on_disk(rt, threads, alloc, words, out),
+        _ => verify_on_disk(rt, threads, alloc, words, out),
     }
 }
 

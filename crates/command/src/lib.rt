@@ -7,7 +7,7 @@ mod disks;
 mod dispatch;
 mod making;
 mod process;
-mod tasks;
+mod terms;
 
 pub use dispatch::perform;
 pub use process::run;

@@ -1,7 +1,7 @@
 //! A plan as checks of a board.
 ghost use Rattle.std.specs.Prelude.{◌≡◌, ◌<◌, IfSome, length};
-ghost use Rattle.keys.specs.Truth.{truth};
-ghost use Rattle.board.specs.Moment as moment;
+ghost use Rattle.keys.specs.Keys.{truth};
+ghost use Rattle.board.specs.Board as moment;
 ghost use Rattle.crew.specs.Questions.{truths_of};
 
 use crate::plan::Plan;

@@ -1,7 +1,7 @@
 //! A judge that takes what the workers found.
 ghost use Rattle.std.specs.Prelude.{◌≡◌, IfSome, None};
-ghost use Rattle.board.specs.Seats.{IsFree, Keeps};
-ghost use Rattle.keys.specs.Truth.{truth};
+ghost use Rattle.board.specs.Board.{IsFree, Keeps};
+ghost use Rattle.keys.specs.Keys.{truth};
 
 use crate::checks::Questions;
 use board::{Board, Look, Seat};
@@ -12,13 +12,13 @@ use std::marker::{Brand, Model, PhantomData};
 /// The seat that a judge began with, as a type: so it is known of a judge that comes back from a
 /// call which takes any.
 pub trait Sitting {
-    ghost use Rattle.board.specs.Seats.{SeatValue};
+    ghost use Rattle.board.specs.Board.{SeatValue};
 
     ghost start: { SeatValue };
 }
 
 impl Sitting for Brand {
-    ghost use Rattle.board.specs.Seats.{no_seat};
+    ghost use Rattle.board.specs.Board.{no_seat};
 
     ghost start = { no_seat };
 }
@@ -37,7 +37,7 @@ pub struct BoardJudge<'a, P: Questions, K: Sitting> {
 
 impl<'a, P: Questions, K: Sitting> Model for BoardJudge<'a, P, K> {
     ghost use Rattle.std.specs.Prelude.{◌≡◌};
-    ghost use Rattle.board.specs.Seats.{SeatValue, IsFree, Keeps};
+    ghost use Rattle.board.specs.Board.{SeatValue, IsFree, Keeps};
 
     ghost Value = { SeatValue };
 

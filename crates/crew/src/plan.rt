@@ -3,9 +3,6 @@
 ghost use Rattle.std.specs.Prelude.{◌≡◌, ◌≢◌, ◌≤◌, ◌<◌, ℕ, IfOk, IfSome, IfNone, All, Some, length};
 ghost use Rattle.std.specs.Prelude.{slice_get, vec_len};
 ghost use Rattle.crew.specs.Questions as spec;
-ghost use Rattle.crew.specs.Questions.{IsIndex, IsDistinct, question_of, truths_of};
-ghost use Rattle.crew.specs.PlanFields.{IsWhole, question_in};
-ghost use Rattle.crew.specs.Drafts.{IsDraft, Grows};
 
 use crate::draft::{Draft, put};
 use crate::mark::mark;
@@ -53,7 +50,7 @@ impl<'a> Drop for Plan<'a> {
 impl<'a> Model for Plan<'a> {
     ghost use Rattle.std.specs.Prelude.{List, All, ◌≤◌, vec_len};
     ghost use Rattle.crew.specs.Questions.{Question, IsIndex};
-    ghost use Rattle.crew.specs.PlanFields.{IsWhole, questions_in};
+    ghost use Rattle.crew.specs.Questions.{IsWhole, questions_in};
 
     ghost Value = { List Question };
 
@@ -80,15 +77,15 @@ impl<'a> Plan<'a> {
     /// Where `most` is 0, nothing is read. It refuses for want of memory alone.
     pub fn of(
         alloc: Global,
-        trusted: &Trusted,
+        trusted: &'a Trusted,
         repo: &'a Repo,
-        wanted: &[String],
+        wanted: &'a [String],
         roles: usize,
         most: usize,
     ) -> Result<Plan<'a>, NoMemory>
         requires most { most ≤ 4096 }
         ensures most { IfOk result (λ p. length p ≤ most) }
-        ensures distinct { IfOk result (λ p. IsDistinct p) }
+        ensures distinct { IfOk result (λ p. spec.IsDistinct p) }
     {
         if most == 0 {
             return Ok(Plan::of_draft(Draft::new(alloc, Vec::new(alloc), 0)));
@@ -102,15 +99,15 @@ impl<'a> Plan<'a> {
             files: below.saturating_add(1),
             most,
         };
-        Ok(Plan::of_draft(draft_of(&scope, repo)?))
+        Ok(Plan::of_draft(draft_of(&scope)?))
     }
 
     /// The plan of a draft.
     fn of_draft(draft: Draft<'a>) -> Plan<'a>
-        requires draft { IsDraft draft }
+        requires draft { spec.IsDraft draft }
         requires most { draft.most ≤ 4096 }
         ensures most { length result ≤ draft.entry.most }
-        ensures distinct { IsDistinct result }
+        ensures distinct { spec.IsDistinct result }
     {
         let Draft {
             documents,
@@ -136,7 +133,7 @@ impl<'a> Plan<'a> {
     /// The question of that number, from 0.
     pub fn ask(&self, j: usize) -> Ask<'_>
         requires below { j < length self.now }
-        ensures question { slice_get self.now j ≡ Some (question_of result) }
+        ensures question { slice_get self.now j ≡ Some (spec.question_of result) }
     {
         ask_of(self.documents.as_slice(), &self.questions[j])
     }
@@ -144,7 +141,7 @@ impl<'a> Plan<'a> {
     /// The answer to the question of that number. It takes no memory, so it never refuses.
     pub fn answer(&self, j: usize) -> Result<bool, NoMemory>
         requires below { j < length self.now }
-        ensures truth { IfOk result (λ b. slice_get (truths_of self.now) j ≡ Some b) }
+        ensures truth { IfOk result (λ b. slice_get (spec.truths_of self.now) j ≡ Some b) }
     {
         Direct.valid(&self.ask(j))
     }
@@ -153,9 +150,9 @@ impl<'a> Plan<'a> {
     /// hasn't it. It costs one digest of the question's names, and the comparison with one question
     /// at most.
     pub fn place_of(&self, ask: &Ask) -> Option<usize>
-        ensures some { IfSome result (λ j. slice_get self.now j ≡ Some (question_of ask.now)) }
+        ensures some { IfSome result (λ j. slice_get self.now j ≡ Some (spec.question_of ask.now)) }
         ensures none { IfNone result
-            ((j : ℕ) → slice_get self.now j ≢ Some (question_of ask.now)) }
+            ((j : ℕ) → slice_get self.now j ≢ Some (spec.question_of ask.now)) }
     {
         let mark = mark(ask);
         let j = *self.index.get(&mark)?;
@@ -164,38 +161,32 @@ impl<'a> Plan<'a> {
 }
 
 /// The questions that are likely to be asked.
-fn draft_of<'a>(scope: &Scope, repo: &'a Repo) -> Result<Draft<'a>, NoMemory>
-    ensures draft { IfOk result (λ d. IsDraft d) }
+fn draft_of<'a>(scope: &Scope<'a>) -> Result<Draft<'a>, NoMemory>
+    ensures draft { IfOk result (λ d. spec.IsDraft d) }
     ensures most { IfOk result (λ d. d.most ≡ scope.now.most) }
 {
-    let mut documents = Vec::new(scope.alloc);
-    let ahead = read_ahead(scope, &mut documents)?;
+    let (ahead, documents) = read_ahead(scope)?;
     let mut draft = Draft::new(scope.alloc, documents, scope.most);
-    ask_all(&mut draft, scope, repo, &ahead)?;
+    ask_all(&mut draft, scope, &ahead)?;
     Ok(draft)
 }
 
 /// Adds the questions about what was read: the signatures, and then the digests.
 #[tactic(auto, using(crate::proofs::Drafting::grows_none, crate::proofs::Drafting::grows_on))]
-fn ask_all<'a>(
-    draft: &mut Draft<'a>,
-    scope: &Scope,
-    repo: &'a Repo,
-    ahead: &Ahead,
-) -> Result<(), NoMemory>
-    requires { IsDraft draft.old }
-    ensures { Grows draft.old draft.new }
+fn ask_all<'a>(draft: &mut Draft<'a>, scope: &Scope<'a>, ahead: &Ahead) -> Result<(), NoMemory>
+    requires { spec.IsDraft draft.old }
+    ensures { spec.Grows draft.old draft.new }
 {
     let signers = signers_of(scope, ahead)?;
     sign_all(scope.alloc, draft, signers.as_slice())?;
-    put_all(draft, digests(scope, repo, ahead)?)
+    put_all(draft, digests(scope, ahead)?)
 }
 
 /// Adds questions about digests.
 #[tactic(auto, using(crate::proofs::Drafting::grows_none, crate::proofs::Drafting::grows_on))]
 fn put_all<'a>(draft: &mut Draft<'a>, all: Vec<Digest<'a>>) -> Result<(), NoMemory>
-    requires { IsDraft draft.old }
-    ensures { Grows draft.old draft.new }
+    requires { spec.IsDraft draft.old }
+    ensures { spec.Grows draft.old draft.new }
 {
     for listed in all {
         put(draft, Planned::Digest(listed))?;
@@ -205,8 +196,8 @@ fn put_all<'a>(draft: &mut Draft<'a>, all: Vec<Digest<'a>>) -> Result<(), NoMemo
 
 /// The question with its parts.
 pub(crate) fn ask_of<'b>(documents: &'b [Document], planned: &'b Planned<'_>) -> Ask<'b>
-    requires { IsWhole documents.now planned.now }
-    ensures { question_of result ≡ question_in documents.now planned.now }
+    requires { spec.IsWhole documents.now planned.now }
+    ensures { spec.question_of result ≡ spec.question_in documents.now planned.now }
 {
     match planned {
         Planned::Signature {

@@ -1,6 +1,6 @@
 //! What a worker does.
 ghost use Rattle.std.specs.Prelude.{◌≡◌, ◌<◌, length, Some};
-ghost use Rattle.board.specs.Seats.{IsSeatOf, IsFree, Keeps};
+ghost use Rattle.board.specs.Board.{IsSeatOf, IsFree, Keeps};
 
 use crate::gate::Gate;
 use board::{Board, Checks, Seat};

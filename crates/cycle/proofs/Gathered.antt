@@ -1,5 +1,5 @@
 -- The accepted roles that are told ascend, and are those of the searches.
-use Rattle.std.proofs.Common.{◌≡◌, ℕ, zero, suc, ◌+◌, ◌||◌, List, [], ◌∷◌, Bool, true, false, Ordering, Less, Equal, Greater, bytes_eq, refl, sym, ap, ◌∙◌, subst, arith, Result, Ok, Err, IfOk}
+use Rattle.std.proofs.Common.{◌≡◌, ℕ, zero, suc, ◌+◌, ◌||◌, List, [], ◌∷◌, Bool, true, false, Ordering, Less, Equal, Greater, bytes_eq, refl, sym, ap, ◌∙◌, subst, arith, Result, Ok, Err, IfOk, fold}
 use Rattle.std.specs.Prelude.{if◌then◌else◌}
 use Rattle.std.specs.List.{list_all, list_any, insert, prefix_len}
 use Rattle.std.specs.Ordering.{nat_cmp, is_lt, is_eq, ordering_reverse}
@@ -11,12 +11,11 @@ use Rattle.std.proofs.lemmas.Slice.Eq.{bytes_eq-Decides}
 use Rattle.std.proofs.lemmas.Bool.Decides.{Decides-eqb}
 use Rattle.examine.specs.Checks.{Files}
 use Rattle.moment.specs.Moment.{Moment}
-use Rattle.rolechain.specs.State.{State}
+use Rattle.rolechain.specs.Advance.{State}
 use Rattle.cjson.specs.declared.fault.NoMemory.{NoMemory}
 use Rattle.deleg.specs.Search.{has_role}
 use Rattle.deleg.specs.declared.accepted.Accepted.{Accepted}
-use Rattle.cycle.specs.Workflow.{Outcome, workflow, is_below, with_role, with_roles}
-use Rattle.cycle.specs.Gathered.{is_ascending, has, AreGathered, all_accepted}
+use Rattle.cycle.specs.Workflow.{Outcome, workflow, is_below, with_role, is_ascending, has, AreGathered, all_accepted}
 
 all-insert : (p : Accepted → Bool) (xs : List Accepted) (n : ℕ) (a : Accepted) → p a ≡ true → list_all p xs ≡ true → list_all p (insert xs n a) ≡ true
 all-insert p [] zero a new old = and_from _ _ new refl
@@ -83,7 +82,7 @@ with_role-at false all a is old = ascending-insert all a is old
 with_role-ascends : (all : List Accepted) (a : Accepted) → is_ascending all ≡ true → is_ascending (with_role all a) ≡ true
 with_role-ascends all a old = with_role-at _ all a refl old
 
-with_roles-ascend : (all more : List Accepted) → is_ascending all ≡ true → is_ascending (with_roles all more) ≡ true
+with_roles-ascend : (all more : List Accepted) → is_ascending all ≡ true → is_ascending (fold with_role all more) ≡ true
 with_roles-ascend all [] old = old
 with_roles-ascend all (a ∷ more) old = with_roles-ascend (with_role all a) more (with_role-ascends all a old)
 
@@ -100,7 +99,7 @@ any-insert p [] (suc n) a = refl
 any-insert p (x ∷ xs) zero a = refl
 any-insert p (x ∷ xs) (suc n) a = ap (λ b. p x || b) (any-insert p xs n a) ∙ turn (p x) (p a) (list_any p xs)
 
-every : (p : Accepted → Bool) (all more : List Accepted) → list_all p all ≡ true → list_all p more ≡ true → list_all p (with_roles all more) ≡ true
+every : (p : Accepted → Bool) (all more : List Accepted) → list_all p all ≡ true → list_all p more ≡ true → list_all p (fold with_role all more) ≡ true
 every p all [] old new = old
 every p all (a ∷ more) old new =
     let parts = and_parts _ _ new in
@@ -142,15 +141,15 @@ added : (all : List Accepted) (a : Accepted) (b : Bool) → has_role all a.role 
 added all a true h = h
 added all a false h = any-insert (λ x. bytes_eq x.role a.role) all _ a ∙ or-left _ _ (same-text a.role)
 
-stay : (all more : List Accepted) (role : List ℕ) → has_role all role ≡ true → has_role (with_roles all more) role ≡ true
+stay : (all more : List Accepted) (role : List ℕ) → has_role all role ≡ true → has_role (fold with_role all more) role ≡ true
 stay all [] role h = h
 stay all (a ∷ more) role h = stay (with_role all a) more role (stays all a role (has_role all a.role) h)
 
-whole : (all more : List Accepted) → list_all (λ a. has_role (with_roles all more) a.role) more ≡ true
+whole : (all more : List Accepted) → list_all (λ a. has_role (fold with_role all more) a.role) more ≡ true
 whole all [] = refl
 whole all (a ∷ more) = and_from _ _ (stay (with_role all a) more a.role (added all a _ refl)) (whole (with_role all a) more)
 
-with_roles-gathers : (found : List Accepted) → AreGathered found (with_roles [] found)
+with_roles-gathers : (found : List Accepted) → AreGathered found (fold with_role [] found)
 with_roles-gathers found = record {
   ascending = with_roles-ascend [] found refl;
   each_accepted = every (has found) [] found refl (has-all found);

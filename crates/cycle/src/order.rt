@@ -1,8 +1,8 @@
 //! The workflow, done in order by whatever judge.
 
 ghost use Rattle.std.specs.Prelude.{◌≡◌, IfOk, map, string_bytes, true};
-ghost use Rattle.examine.specs.Expecting.{file_in};
-ghost use Rattle.rolechain.specs.State.{is_ready};
+ghost use Rattle.examine.specs.Checks.{file_in};
+ghost use Rattle.rolechain.specs.Advance.{is_ready};
 ghost use Rattle.cycle.specs.Workflow as spec;
 
 use crate::limits::Limits;
@@ -66,18 +66,11 @@ fn close<J: Judge>(
     let store = Store {
         alloc: cycle.alloc,
         files: &cycle.repo.targets,
-        consistent: is_consistent(&trusted),
+        consistent: trusted.root().reading().consistent(),
     };
     let verdicts = verdicts_of(&store, searches, judge)?;
     let accepted = gathered(cycle.alloc, searches)?;
     Ok(Outcome::new(trusted, end, verdicts, accepted))
-}
-
-/// Whether the trusted root says that snapshots are consistent.
-fn is_consistent(trusted: &Trusted) -> bool
-    ensures { result ≡ trusted.now.root.reading.consistent }
-{
-    trusted.root().reading().consistent()
 }
 
 /// The search for each wanted path, in order.
@@ -115,7 +108,7 @@ fn searched<J: Judge>(
     let End::Ready = end else {
         return Ok(None);
     };
-    let limit = cycle.limits.roles();
+    let limit = cycle.limits.roles.get() as usize;
     let found = search(
         cycle.alloc,
         trusted,

@@ -1,9 +1,9 @@
 //! One cycle, on one thread or beside workers.
 
 ghost use Rattle.std.specs.Prelude.{◌≡◌, ◌≤◌, IfOk, map, string_bytes};
-ghost use Rattle.examine.specs.Expecting.{file_in};
+ghost use Rattle.examine.specs.Checks.{file_in};
 ghost use Rattle.cycle.specs.Workflow as spec;
-ghost use Rattle.cycle.specs.Gathered.{AreGathered, all_accepted};
+ghost use Rattle.cycle.specs.Workflow.{AreGathered, all_accepted};
 
 use crate::limits::Limits;
 use crate::order::Cycle;
@@ -96,13 +96,17 @@ pub(crate) fn beside_workers<R: Threads + Wait + Sync, G: Gate + Sync>(
 {
     let alloc = cycle.alloc;
     let limits = cycle.limits;
-    let most = if workers == 0 { 0 } else { limits.plan() };
+    let most = if workers == 0 {
+        0
+    } else {
+        limits.plan.get() as usize
+    };
     match Plan::of(
         alloc,
         cycle.trusted,
         cycle.repo,
         cycle.wanted,
-        limits.roles(),
+        limits.roles.get() as usize,
         most,
     ) {
         Ok(plan) => with_plan(rt, alloc, cycle, &plan, workers, gate, memory),

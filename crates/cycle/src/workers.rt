@@ -1,6 +1,6 @@
 //! Workers beside the thread that works in order.
 ghost use Rattle.std.specs.Prelude.{◌≡◌, ◌≤◌, All, IfOk, IfSome, length};
-ghost use Rattle.board.specs.Seats.{IsFree, Keeps};
+ghost use Rattle.board.specs.Board.{IsFree, Keeps};
 
 use crate::order::Ordered;
 use crate::outcome::Outcome;
@@ -21,7 +21,7 @@ use std::thread::{Promise, PromisedHandle, Scope, Threads};
 struct SeatOf(Snapshot<Board>);
 
 impl Promise<Seat> for SeatOf {
-    ghost use Rattle.board.specs.Seats.{IsFree};
+    ghost use Rattle.board.specs.Board.{IsFree};
 
     ghost kept_by = { λ p s. IsFree p.0.value s };
 }

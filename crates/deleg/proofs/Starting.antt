@@ -4,16 +4,13 @@ use Rattle.std.specs.Option.{option_map_or}
 use Rattle.moment.specs.Moment.{Moment}
 use Rattle.meta.specs.Metadata.{Root, Snapshot, Targets}
 use Rattle.meta.specs.declared.targets.Target.{Target}
-use Rattle.meta.specs.Part.{Part}
-use Rattle.examine.specs.Checks.{Files}
-use Rattle.rolechain.specs.State.{State}
-use Rattle.examine.specs.Expecting.{file_in}
+use Rattle.meta.specs.Content.{Part}
+use Rattle.examine.specs.Checks.{Files, file_in}
+use Rattle.rolechain.specs.Advance.{State}
 use Rattle.deleg.specs.declared.accepted.Searched.{Searched}
 use Rattle.deleg.specs.declared.accepted.Accepted.{Accepted}
-use Rattle.deleg.specs.Edge.{Edge, edges, followed}
-use Rattle.deleg.specs.Search.{done, settled, walk, target_of, search_from, search_in}
+use Rattle.deleg.specs.Search.{Edge, edges, followed, done, settled, walk, target_of, search_from, search_in, outlook, pending}
 use Rattle.deleg.specs.declared.query.Query.{Query}
-use Rattle.deleg.specs.Query.{outlook, pending}
 use Rattle.deleg.specs.declared.found.Found.TheVariants.{Listed}
 
 starts : (q : Query) (m : Targets) (files : List (List Edge)) → files ≡ edges m q.path.now ∷ [] → None ≡ target_of m q.path.now

@@ -5,12 +5,11 @@ use Rattle.std.proofs.lemmas.Bool.{le-leb, lt-leb}
 use Rattle.moment.specs.Moment.{Moment}
 use Rattle.meta.specs.Metadata.{Root, Snapshot, Targets}
 use Rattle.meta.specs.declared.targets.Target.{Target}
-use Rattle.meta.specs.Part.{Part}
+use Rattle.meta.specs.Content.{Part}
 use Rattle.meta.specs.declared.fault.Fault.{Fault}
 use Rattle.examine.specs.Checks.{Files}
 use Rattle.deleg.specs.declared.accepted.Accepted.{Accepted}
-use Rattle.deleg.specs.Edge.{Edge, followed}
-use Rattle.deleg.specs.Search.{Visited, done, go_on, and_then, walk_by, accepting, entered, examined, settled, visit, walk, IsPreorder, target_of, is_visited}
+use Rattle.deleg.specs.Search.{Edge, followed, Visited, done, go_on, and_then, walk_by, accepting, entered, examined, settled, visit, walk, IsPreorder, target_of, is_visited}
 use Rattle.deleg.specs.declared.found.Found.{Found}
 use Rattle.deleg.specs.declared.found.Found.TheVariants.{Listed, NotFound, LimitReached, RoleRefused}
 

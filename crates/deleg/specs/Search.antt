@@ -1,15 +1,171 @@
--- The search for a path through delegations, in preorder (TUF 1.0 section 5.6.7).
-use Rattle.std.specs.Prelude.{◌≡◌, ℕ, zero, suc, ◌+◌, ◌||◌, nat_le, if◌then◌else◌, List, [], ◌∷◌, ◌++◌, length, find, Bool, Option, Some, None, option_map, option_and_then, unwrap_or, bytes_eq, codes, Result, Ok, Err}
-use Rattle.std.specs.Option.{option_map_or}
+-- The search for a path through delegations (TUF 1.0 sections 4.5 and 5.6.7).
+use Rattle.hex.specs.Hex.{encode_lower}
+use Rattle.sha2.specs.Sha256.{sha256}
+use Rattle.std.specs.Prelude.{◌≢◌, ℕ, ◌==◌, ◌&&◌, ◌||◌, not, if◌then◌else◌, List, [], ◌∷◌, Bool, true, false, Option, None, Some, zero, suc, ◌+◌, ◌-◌, ◌*◌, ◌^◌, ◌/◌, ◌%◌, ◌++◌, codes, map, filter, chars, ◌≡◌, nat_le, length, find, option_map, option_and_then, unwrap_or, bytes_eq, Result, Ok, Err, ◌<◌}
+use Rattle.std.specs.Char.{digit_char}
+use Rattle.std.specs.Int.{w32, from_be_bytes}
 use Rattle.std.specs.List.{list_any}
-pub use Rattle.examine.specs.Checks.{Moment, Root, Snapshot, Targets, Target, Part, Fault, Files, targets_part}
-use Rattle.rolechain.specs.Expected.{next_targets}
-pub use Rattle.rolechain.specs.State.{State}
-pub use Rattle.deleg.specs.declared.accepted.Searched.{Searched}
-pub use Rattle.deleg.specs.declared.accepted.Accepted.{Accepted}
-pub use Rattle.deleg.specs.Edge.{Edge, followed}
-pub use Rattle.deleg.specs.declared.found.Found.{Found}
+use Rattle.std.specs.Option.{option_map_or}
+pub use Rattle.meta.specs.Metadata.{Key, RoleKeys, Targets, begins_with}
+use Rattle.meta.specs.declared.delegations.Roles.TheVariants as delegated
+use Rattle.meta.specs.declared.delegation.Paths.{Paths}
+pub use Rattle.meta.specs.declared.delegations.Bins.{Bins}
+use Rattle.meta.specs.declared.delegation.Delegation.{Delegation}
+use Rattle.meta.specs.declared.delegation.Paths.TheVariants.{Patterns, Prefixes}
+use Rattle.meta.specs.declared.delegations.Roles.{Roles}
+pub use Rattle.examine.specs.Checks.{file_in, Moment, Root, Snapshot, Target, Part, Fault, Files, targets_part}
+pub use Rattle.rolechain.specs.Advance.{State, next_targets}
+use Rattle.deleg.specs.declared.pattern.Compared.TheVariants as compared
+use Rattle.deleg.specs.declared.pattern.Compared.{Compared}
+use Rattle.deleg.specs.declared.edge.Edge as program
 use Rattle.deleg.specs.declared.found.Found.TheVariants.{Listed, NotFound, LimitReached, RoleRefused}
+pub use Rattle.deleg.specs.declared.accepted.Accepted.{Accepted}
+pub use Rattle.deleg.specs.declared.found.Found.{Found}
+use Rattle.deleg.specs.declared.query.Query.{Query}
+pub use Rattle.deleg.specs.declared.accepted.Searched.{Searched}
+
+-- # Which paths a pattern matches (TUF 1.0 section 4.5).
+
+-- The pattern matches the path, both as characters: 42 is `*`, 63 is `?` and 47 is `/`.
+pub data Matches : List ℕ → List ℕ → Type 0 where
+  both_end : Matches [] []
+  itself : (c : ℕ) (cs ds : List ℕ) → c ≢ 42 → c ≢ 63 → Matches cs ds → Matches (c ∷ cs) (c ∷ ds)
+  any_one : (d : ℕ) (cs ds : List ℕ) → d ≢ 47 → Matches cs ds → Matches (63 ∷ cs) (d ∷ ds)
+  run_ends : (cs ds : List ℕ) → Matches cs ds → Matches (42 ∷ cs) ds
+  run_goes_on : (d : ℕ) (cs ds : List ℕ)
+      → d ≢ 47 → Matches (42 ∷ cs) ds → Matches (42 ∷ cs) (d ∷ ds)
+
+-- whether the pattern's character, which isn't `*`, matches the path's
+abbrev pub stands_for : ℕ → ℕ → Bool
+stands_for c d = if c == 63 then not (d == 47) else c == d
+
+-- whether the rest matches behind some run without `/`
+abbrev pub behind_run : (List ℕ → Bool) → List ℕ → Bool
+behind_run rest [] = rest []
+behind_run rest (d ∷ ds) = rest (d ∷ ds) || (not (d == 47) && behind_run rest ds)
+
+abbrev pub behind_one : ℕ → (List ℕ → Bool) → List ℕ → Bool
+behind_one c rest [] = false
+behind_one c rest (d ∷ ds) = stands_for c d && rest ds
+
+-- the same, as a test
+abbrev pub is_match : List ℕ → List ℕ → Bool
+is_match [] [] = true
+is_match [] (d ∷ ds) = false
+is_match (c ∷ cs) path =
+    if c == 42 then behind_run (is_match cs) path else behind_one c (is_match cs) path
+
+-- # Which paths a prefix of digests matches (TUF 1.0 section 4.5).
+
+-- the path's digest in lower-case hexadecimal
+abbrev pub path_digest : List ℕ → List ℕ
+path_digest path = encode_lower (sha256 path)
+
+-- # What comparing the characters before a pattern's first `*` leaves.
+
+pub data Remainder : Type 0 where
+  -- what follows the `*`, and the path from there
+  at_run : List ℕ → List ℕ → Remainder
+  whole : Remainder
+  fails : Remainder
+
+abbrev pub remainder_one : ℕ → (List ℕ → Remainder) → List ℕ → Remainder
+remainder_one c rest [] = fails
+remainder_one c rest (d ∷ ds) = if stands_for c d then rest ds else fails
+
+abbrev pub remainder : List ℕ → List ℕ → Remainder
+remainder [] [] = whole
+remainder [] (d ∷ ds) = fails
+remainder (c ∷ cs) ds = if c == 42 then at_run cs ds else remainder_one c (remainder cs) ds
+
+abbrev pub remainder_of : Compared → Remainder
+remainder_of (compared.AtRun pattern path) = at_run (chars pattern.now) (chars path.now)
+remainder_of compared.Whole = whole
+remainder_of compared.Fails = fails
+
+-- the path behind one more character of a run, where the run may go on
+abbrev pub past_one : List ℕ → Option (List ℕ)
+past_one [] = None
+past_one (d ∷ ds) = if d == 47 then None else Some ds
+
+-- # The hash bin of a path (this project's profile).
+
+-- the number that the first bits of a digest are
+abbrev pub first_bits : ℕ → List ℕ → ℕ
+first_bits bits digest = from_be_bytes w32 digest / 2 ^ (32 - bits)
+
+-- so many hexadecimal digits of a number, the last ones
+abbrev pub hexadecimal : ℕ → ℕ → List ℕ
+hexadecimal zero n = []
+hexadecimal (suc left) n = digit_char (n / 2 ^ (4 * left) % 16) ∷ hexadecimal left n
+
+-- how many hexadecimal digits the greatest number of so many bits has
+abbrev pub width : ℕ → ℕ
+width bits = (bits + 3) / 4
+
+-- the name of the bin of that number
+abbrev pub name_of : Bins → ℕ → List ℕ
+name_of bins n = bins.prefix ++ codes "-" ++ hexadecimal (width bins.bits) n
+
+-- the name of the path's bin
+abbrev pub bin_name : Bins → List ℕ → List ℕ
+bin_name bins path = name_of bins (first_bits bins.bits (sha256 path))
+
+-- # The delegations of a targets file, and the paths that they are for (TUF 1.0 section 4.5).
+
+-- one of the patterns or prefixes matches the path
+abbrev pub is_matched : Paths → List ℕ → Bool
+is_matched (Patterns ps) path = list_any (λ p. is_match (chars p) (chars path)) ps
+is_matched (Prefixes ps) path = list_any (λ p. begins_with p (path_digest path)) ps
+
+-- a delegation to a role, with the keys of the file that has it; none of `paths` is every path
+pub record Edge : Type 0 where
+  pub ring : List Key
+  pub name : List ℕ
+  pub keys : RoleKeys
+  pub terminating : Bool
+  pub paths : Option Paths
+
+abbrev pub edge : List Key → List ℕ → RoleKeys → Bool → Option Paths → Edge
+edge ring name keys terminating paths =
+    record { ring = ring; name = name; keys = keys; terminating = terminating; paths = paths }
+
+abbrev pub to_role : List Key → Delegation → Edge
+to_role ring d = edge ring d.name d.keys d.terminating (Some d.paths)
+
+-- the delegation to the bin of that name: it is for every path, and terminating
+abbrev pub to_bin : List Key → Bins → List ℕ → Edge
+to_bin ring bins name = edge ring name bins.keys true None
+
+-- the name of the path's bin, where a file delegates to bins
+abbrev pub bin_in : List ℕ → Roles → List ℕ
+bin_in path (delegated.Listed roles) = []
+bin_in path (delegated.Binned bins) = bin_name bins path
+
+abbrev pub bin_of : Targets → List ℕ → List ℕ
+bin_of m path = option_map_or (λ d. bin_in path d.roles) m.delegations []
+
+-- the delegations, where the path's bin has that name: those that are listed, or the one to the bin
+abbrev pub edges_in : List Key → List ℕ → Roles → List Edge
+edges_in ring bin (delegated.Listed roles) = map (to_role ring) roles
+edges_in ring bin (delegated.Binned bins) = to_bin ring bins bin ∷ []
+
+abbrev pub edges_by : List ℕ → Targets → List Edge
+edges_by bin m = option_map_or (λ d. edges_in d.ring bin d.roles) m.delegations []
+
+-- the delegations for a path
+abbrev pub edges : Targets → List ℕ → List Edge
+edges m path = edges_by (bin_of m path) m
+
+-- the delegation is for the path
+abbrev pub is_for : List ℕ → Edge → Bool
+is_for path e = option_map_or (λ p. is_matched p path) e.paths true
+
+-- the delegations that a search follows, in order
+abbrev pub followed : Targets → List ℕ → List Edge
+followed m path = filter (is_for path) (edges m path)
+
+-- # The search for a path through delegations, in preorder (TUF 1.0 section 5.6.7).
 
 -- what came of a visit or a walk, or None where the search goes on; and the delegated roles that
 -- were accepted till then
@@ -108,3 +264,53 @@ abbrev pub search_in : Files → Moment → State → List ℕ → ℕ → Optio
 search_in files now s path most =
     option_and_then (λ snap. option_map (λ m.
     search_from files now s.root.reading snap.reading path most m.reading) s.targets) s.snapshot
+
+-- # A search that is under way.
+
+-- what the search gives, where these delegations are pending and these roles were accepted
+unfoldable pub outlook : Query → List Edge → List Accepted → Searched
+outlook q es seen =
+    settled (walk (file_in q.files.now) q.moment q.root.now q.snapshot.now q.path.now q.limit es seen)
+
+-- the pending delegations of each file, the last file's first
+abbrev pub pending : List ℕ → List (List Edge) → List Edge
+pending path [] = []
+pending path (es ∷ files) = pending path files ++ filter (is_for path) es
+
+-- one file's before those of the others
+abbrev pub pending_with : List ℕ → List Edge → List (List Edge) → List Edge
+pending_with path es files = filter (is_for path) es ++ pending path files
+
+-- not for the path, or to a role that was visited with others to be tried after it
+abbrev pub is_passed : List ℕ → List Accepted → Edge → Bool
+is_passed path seen e = not (is_for path e) || (is_visited seen e.name && not e.terminating)
+
+abbrev pub starts_passed : List ℕ → List Accepted → List Edge → Bool
+starts_passed path seen [] = false
+starts_passed path seen (e ∷ es) = is_passed path seen e
+
+-- from the first one that isn't passed over
+abbrev pub after_passed : List ℕ → List Accepted → List Edge → List Edge
+after_passed path seen [] = []
+after_passed path seen (e ∷ es) =
+    if is_passed path seen e then after_passed path seen es else e ∷ es
+
+-- the first one is for the path, and its role wasn't visited
+abbrev pub IsNext : List ℕ → List Accepted → List Edge → Type 0
+IsNext path seen [] = ⊥
+IsNext path seen (e ∷ es) = (is_for path e ≡ true) × (is_visited seen e.name ≡ false)
+
+-- the search goes on with other pending delegations, and with one more role accepted
+abbrev pub GoesOn : Query → List Edge → List Accepted → List Edge → List Accepted → Type 0
+GoesOn q es seen es' seen' =
+    (outlook q es seen ≡ outlook q es' seen')
+    × (length seen' ≡ length seen + 1) × (length seen' < q.limit)
+
+abbrev pub Ends : Query → List Edge → List Accepted → Found → List Accepted → Type 0
+Ends q es seen found seen' = outlook q es seen ≡ record { found = found; accepted = seen' }
+
+-- # What a delegation of the program stands for.
+
+abbrev pub edge_of : program.Edge → Edge
+edge_of e =
+    edge e.ring.now e.name.now e.keys.now e.terminating (option_map (λ p. p.now) e.paths)

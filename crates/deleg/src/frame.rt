@@ -1,9 +1,7 @@
 //! The files on the stack of a search, and which of their delegations are tried next.
 
 ghost use Rattle.std.specs.Prelude.{◌≡◌, IfOk, drop, slice_get, option_map};
-ghost use Rattle.deleg.specs.Edge as spec;
-ghost use Rattle.deleg.specs.Query as query;
-ghost use Rattle.deleg.specs.Values.{edge_of};
+ghost use Rattle.deleg.specs.Search as spec;
 
 use crate::accepted::Accepted;
 use crate::edge::{Edge, bin_of, edge_at, edge_count, is_for};
@@ -25,7 +23,7 @@ pub(crate) struct Frame {
 
 impl Model for Frame {
     ghost use Rattle.std.specs.Prelude.{List, drop};
-    ghost use Rattle.deleg.specs.Edge as spec;
+    ghost use Rattle.deleg.specs.Search as spec;
 
     ghost Value = { List spec.Edge };
 
@@ -47,7 +45,7 @@ impl Frame {
 
     /// The first delegation that is left.
     pub(crate) fn next(&self) -> Option<Edge<'_>>
-        ensures { option_map edge_of result ≡ slice_get self.now 0 }
+        ensures { option_map spec.edge_of result ≡ slice_get self.now 0 }
     {
         edge_at(self.file.reading(), self.bin.as_str(), self.tried)
     }
@@ -64,7 +62,7 @@ impl Frame {
     /// Leaves out the first delegations that aren't for the path or lead to visited roles, up to a
     /// terminating one that is for the path.
     pub(crate) fn pass(&mut self, path: &str, seen: &[Accepted])
-        ensures { self.new ≡ query.after_passed path.now seen.now self.old }
+        ensures { self.new ≡ spec.after_passed path.now seen.now self.old }
     {
         while self.starts_passed(path, seen) {
             self.skip();
@@ -72,7 +70,7 @@ impl Frame {
     }
 
     fn starts_passed(&self, path: &str, seen: &[Accepted]) -> bool
-        ensures { result ≡ query.starts_passed path.now seen.now self.now }
+        ensures { result ≡ spec.starts_passed path.now seen.now self.now }
     {
         let next = self.next();
         next.is_some_and(|edge| is_passed(&edge, path, seen))
@@ -81,7 +79,7 @@ impl Frame {
 
 /// Whether the delegation isn't for the path, or leads to a visited role and isn't terminating.
 fn is_passed(edge: &Edge, path: &str, seen: &[Accepted]) -> bool
-    ensures { result ≡ query.is_passed path.now seen.now (edge_of edge.now) }
+    ensures { result ≡ spec.is_passed path.now seen.now (spec.edge_of edge.now) }
 {
     !is_for(edge, path) || (is_visited(seen, edge.name) && !edge.terminating)
 }

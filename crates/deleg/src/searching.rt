@@ -2,8 +2,8 @@
 
 ghost use Rattle.std.specs.Prelude.{◌≡◌, IfOk, IsTrue, Some};
 ghost use Rattle.meta.specs.Metadata.{Snapshot};
-ghost use Rattle.examine.specs.Expecting.{file_in};
-ghost use Rattle.rolechain.specs.State.{is_ready};
+ghost use Rattle.examine.specs.Checks.{file_in};
+ghost use Rattle.rolechain.specs.Advance.{is_ready};
 ghost use Rattle.deleg.specs.Search as spec;
 
 use crate::accepted::Searched;

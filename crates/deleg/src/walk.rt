@@ -2,8 +2,7 @@
 
 ghost use Rattle.std.specs.Prelude.{◌≡◌, ◌+◌, ◌<◌, ◌∷◌, ◌++◌, [], Some, drop, length, option_map};
 ghost use Rattle.std.specs.Prelude.{if◌then◌else◌, IfOk, IfSome, IfNone};
-ghost use Rattle.deleg.specs.Query as spec;
-ghost use Rattle.deleg.specs.Search.{target_of as listed_in};
+ghost use Rattle.deleg.specs.Search as spec;
 ghost use Rattle.deleg.specs.declared.found.Found.TheVariants as found;
 
 use crate::accepted::{Accepted, Searched};
@@ -113,7 +112,7 @@ fn accept(
         ++ record { role = role; version = part.now.reading.header.version } ∷ []) }
     ensures found { IfOk result (λ o.
         o ≡ option_map (λ t. found.Listed role t (length seen.new.items + 1))
-        (listed_in part.now.reading query.now.path.now)) }
+        (spec.target_of part.now.reading query.now.path.now)) }
 {
     let name = Text::new(String::from_str(query.alloc, role.as_str())?);
     let version = part.reading().header().version.get();

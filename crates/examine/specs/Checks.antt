@@ -1,26 +1,27 @@
 -- The checks of one file, in order (TUF 1.0 sections 5.3 to 5.6): the first that fails is the
 -- answer.
-use Rattle.std.specs.Prelude.{ℕ, ◌&&◌, ◌||◌, ◌==◌, nat_lt, nat_le, not, if◌then◌else◌, List, [], ◌∷◌, Bool, true, false, Option, Some, None, option_map, option_and_then, Result, Ok, ⊤, bytes_eq}
+use Rattle.std.specs.Prelude.{ℕ, ◌&&◌, ◌||◌, ◌==◌, nat_lt, nat_le, not, if◌then◌else◌, List, [], ◌∷◌, Bool, true, false, Option, Some, None, option_map, option_and_then, Result, Ok, ⊤, bytes_eq, String, Vec}
+use Rattle.std.specs.BTreeMap.{BTreeMap, get_by_text}
 use Rattle.std.specs.List.{list_any, list_all}
 use Rattle.std.specs.Option.{option_map_or}
-use Rattle.keys.specs.Signers.{is_met}
-use Rattle.cjson.specs.Checks.{◌>>=◌, refuse_if, or_refuse}
+use Rattle.std.specs.declared.alloc.Global.{Global}
+use Rattle.cjson.specs.Document.{◌>>=◌, refuse_if, or_refuse, doc_of}
+use Rattle.keys.specs.Keys.{is_met}
 use Rattle.moment.specs.Moment.{is_before}
+pub use Rattle.meta.specs.Content.{Document, document_of, formed, content, target_names, Part, root_limit, timestamp_limit, snapshot_limit, targets_limit}
 pub use Rattle.meta.specs.Metadata.{Moment, Key, RoleKeys, Form, Root, Timestamp, Snapshot, Targets}
-use Rattle.meta.specs.declared.hashes.Hashes.{Hashes}
-pub use Rattle.meta.specs.declared.listing.Listing.{Listing}
-use Rattle.meta.specs.declared.header.Header.{Header}
-use Rattle.meta.specs.declared.snapshot.Named.{Named}
-pub use Rattle.meta.specs.declared.targets.Target.{Target}
 use Rattle.meta.specs.Metadata as form
-use Rattle.meta.specs.Content.{content}
-use Rattle.meta.specs.Names.{target_names}
-pub use Rattle.meta.specs.Part.{Part, root_limit, timestamp_limit, snapshot_limit, targets_limit}
+pub use Rattle.meta.specs.declared.targets.Target.{Target}
+pub use Rattle.meta.specs.declared.listing.Listing.{Listing}
+use Rattle.meta.specs.declared.snapshot.Named.{Named}
 pub use Rattle.meta.specs.declared.fault.Fault.{Fault}
-use Rattle.meta.specs.Reads.{Document, document_of, formed}
 pub use Rattle.meta.specs.declared.fault.Fault.TheVariants.{NotListed, Missing, Unsigned, VersionWrong, Rollback, Expired}
-use Rattle.examine.specs.declared.expectation.Listed.{Listed}
+use Rattle.meta.specs.declared.hashes.Hashes.{Hashes}
+use Rattle.meta.specs.declared.header.Header.{Header}
+use Rattle.examine.specs.declared.fetch.Candidate as fetch
 use Rattle.examine.specs.declared.expectation.Listed.TheVariants.{Absent, As}
+use Rattle.examine.specs.declared.expectation.Listed.{Listed}
+use Rattle.examine.specs.declared.expectation.Expectation as program
 
 -- the files of a repository by their names
 abbrev pub Files : Type 0
@@ -202,3 +203,17 @@ first_there files (name ∷ names) = option_map_or Some (files name) (first_ther
 abbrev pub target_file : Files → Bool → Target → Option (List ℕ)
 target_file files consistent t =
     first_there files (target_names consistent t.path t.hashes.sha256 t.hashes.sha512)
+
+-- # What the values of the program stand for.
+
+abbrev pub expectation : program.Expectation → Expectation
+expectation e =
+    record { name = e.name.now; listed = e.listed; ring = e.ring.now; role = e.role.now }
+
+-- the file of a name
+abbrev pub file_in : BTreeMap (String Global) (Vec ℕ Global) → Files
+file_in files name = option_map (λ v. v.items) (get_by_text files name)
+
+-- what a file that was fetched stands for
+abbrev pub candidate_of : {A : Type 0} → fetch.Candidate A → Candidate A
+candidate_of c = record { part = c.part; doc = doc_of c.doc }

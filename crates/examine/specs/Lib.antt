@@ -1,10 +1,5 @@
 pub use Rattle.keys.specs.Keys
-pub use Rattle.keys.specs.Signers
 pub use Rattle.moment.specs.Moment
 pub use Rattle.meta.specs.Metadata
-pub use Rattle.meta.specs.Reads
-pub use Rattle.meta.specs.Part
 pub use Rattle.meta.specs.Content
-pub use Rattle.meta.specs.Answers
 pub mod Checks
-pub mod Expecting

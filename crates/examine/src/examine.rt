@@ -1,9 +1,9 @@
 //! The examination of a file of each kind.
 
 ghost use Rattle.std.specs.Prelude.{option_map};
-ghost use Rattle.meta.specs.Answers.{Answers};
+ghost use Rattle.meta.specs.Content.{Answers};
 ghost use Rattle.examine.specs.Checks as spec;
-ghost use Rattle.examine.specs.Expecting.{expectation, file_in};
+ghost use Rattle.examine.specs.Checks.{expectation, file_in};
 
 use crate::expectation::Expectation;
 use crate::fetch::{Candidate, fetch_signed, listed_version};

@@ -2,9 +2,9 @@
 
 ghost use Rattle.std.specs.Prelude.{◌≡◌, ◌≤◌, length, Some};
 ghost use Rattle.std.specs.Result.{result_map_both};
-ghost use Rattle.meta.specs.Answers.{Answers};
+ghost use Rattle.meta.specs.Content.{Answers};
 ghost use Rattle.examine.specs.Checks as spec;
-ghost use Rattle.examine.specs.Expecting.{candidate_of, expectation, file_in};
+ghost use Rattle.examine.specs.Checks.{candidate_of, expectation, file_in};
 
 use crate::expectation::{Expectation, Listed};
 use cjson::Doc;

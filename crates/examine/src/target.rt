@@ -2,7 +2,6 @@
 
 ghost use Rattle.std.specs.Prelude.{◌≡◌, IfOk, option_map};
 ghost use Rattle.examine.specs.Checks as spec;
-ghost use Rattle.examine.specs.Expecting.{file_in};
 
 use meta::Target;
 use meta::names::hashed;
@@ -19,7 +18,7 @@ pub fn target_file<'a>(
     target: &Target,
 ) -> Result<Option<&'a [u8]>, AllocError>
     ensures first { IfOk result (λ o. option_map (λ b. b.now) o
-        ≡ spec.target_file (file_in files.now) consistent target.now) }
+        ≡ spec.target_file (spec.file_in files.now) consistent target.now) }
 {
     if !consistent {
         return Ok(file_of(files, target.path.as_str()));
@@ -39,7 +38,7 @@ pub fn target_file<'a>(
 
 /// The file of that name.
 fn file_of<'a>(files: &'a BTreeMap<String, Vec<u8>>, name: &str) -> Option<&'a [u8]>
-    ensures { option_map (λ b. b.now) result ≡ file_in files.now name.now }
+    ensures { option_map (λ b. b.now) result ≡ spec.file_in files.now name.now }
 {
     Some(files.get(name)?.as_slice())
 }

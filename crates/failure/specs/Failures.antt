@@ -1,10 +1,17 @@
 -- Why a run ended early: whose mistake it is, and what is told of it.
-use Rattle.std.specs.Prelude.{ℕ, Bool, true, false, List, [], ◌∷◌, codes, decimal}
-use Rattle.seals.specs.declared.fault.MakeFault.{MakeFault}
-use Rattle.seals.specs.declared.fault.MakeFault.TheVariants as made
-use Rattle.failure.specs.declared.failure.Failure.{Failure}
+use Rattle.std.specs.Prelude.{ℕ, List, [], ◌∷◌, ◌++◌, Bool, true, false, codes, decimal}
 use Rattle.failure.specs.declared.failure.Failure.TheVariants.{Words, Now, State, Script, Input, Folder, Clock, Output, Memory}
-use Rattle.failure.specs.Line.{line}
+use Rattle.failure.specs.declared.failure.Failure.{Failure}
+
+-- # A line of words.
+
+-- the words with a space between them, and a line feed at the end
+abbrev pub line : List (List ℕ) → List ℕ
+line [] = 10 ∷ []
+line (word ∷ []) = word ++ 10 ∷ []
+line (word ∷ next ∷ more) = word ++ 32 ∷ line (next ∷ more)
+
+-- # Failures.
 
 -- whether the caller's words or files are at fault, and not the system
 abbrev pub is_callers : Failure → Bool
@@ -13,13 +20,6 @@ is_callers Now = true
 is_callers State = true
 is_callers (Script line) = true
 is_callers _ = false
-
--- a script that can't be followed is the caller's; a key without a leaf is told by `make` as its
--- line
-abbrev pub failure_of : MakeFault → Failure
-failure_of (made.Script line) = Script line
-failure_of made.Used = Memory
-failure_of made.NoMemory = Memory
 
 -- what is told of a failure, but for the line of a script
 abbrev pub failure_word : Failure → List ℕ

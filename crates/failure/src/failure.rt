@@ -1,11 +1,12 @@
 //! What ends a run early.
-ghost use Rattle.std.specs.Prelude.{◌≡◌, ◌≢◌, ◌↔◌, ◌⊎◌, true, OnOk};
+ghost use Rattle.std.specs.Prelude.{◌≡◌, ◌≢◌, ◌↔◌, ◌⊎◌, ℕ, true, OnOk};
 ghost use Rattle.std.specs.Io.KnownBytes.{Appends};
-ghost use Rattle.failure.specs.Failures.{is_callers, failure_of, failure_text, failure_word};
+ghost use Rattle.failure.specs.Failures.{is_callers, failure_text, failure_word};
 ghost use Rattle.std.specs.IoError.{error_kind};
 ghost use Rattle.failure.specs.declared.failure.Failure.TheVariants as failure;
 ghost use Rattle.folder.specs.declared.files.LoadFault.TheVariants as fault;
 ghost use Rattle.rolechain.specs.declared.fault.StateFault.TheVariants as state;
+ghost use Rattle.seals.specs.declared.fault.MakeFault.TheVariants as made;
 
 use cjson::NoMemory;
 use folder::LoadFault;
@@ -98,7 +99,8 @@ impl From<StateFault> for Failure {
 }
 
 impl From<MakeFault> for Failure {
-    ghost from_gives = { λ e f. f ≡ failure_of e };
+    ghost from_gives = { λ e f. ((line : ℕ) → e ≡ made.Script line → f ≡ failure.Script line)
+        × (e ≡ made.Used → f ≡ failure.Memory) × (e ≡ made.NoMemory → f ≡ failure.Memory) };
 
     fn from(error: MakeFault) -> Failure {
         match error {

@@ -1,7 +1,7 @@
 //! Folders of the file system.
 ghost use Rattle.std.specs.Prelude.{◌≡◌, ◌↔◌, true, List, ℕ, Bool, IfOk, string_bytes};
 ghost use Rattle.std.specs.IoError.{error_kind};
-ghost use Rattle.folder.specs.Disks as spec;
+ghost use Rattle.folder.specs.Folders as spec;
 
 use crate::files::{Folder, LoadFault};
 use std::alloc::{AllocError, Global};
@@ -25,23 +25,24 @@ pub enum Depth {
 #[derive(Drop)]
 pub struct Disk<'a, R> {
     rt: &'a R,
-    path: &'a str,
+    path: String,
     depth: Depth,
     faults: u64,
 }
 
 impl<'a, R> Model for Disk<'a, R> {
-    ghost use Rattle.folder.specs.Disks as spec;
+    ghost use Rattle.std.specs.Prelude.{string_bytes};
+    ghost use Rattle.folder.specs.Folders as spec;
 
     ghost Value = { spec.Disk };
 
-    ghost view = { λ d. record { path = d.path.now; depth = d.depth; faults = d.faults } };
+    ghost view = { λ d. record { path = string_bytes d.path; depth = d.depth; faults = d.faults } };
 }
 
 impl<'a, R> Disk<'a, R> {
     /// The folder of that path, of which no call has failed.
-    pub fn new(rt: &'a R, path: &'a str, depth: Depth) -> Disk<'a, R>
-        ensures fresh { result ≡ record { path = path.now; depth = depth; faults = 0 } }
+    pub fn new(rt: &'a R, path: String, depth: Depth) -> Disk<'a, R>
+        ensures fresh { result ≡ record { path = string_bytes path; depth = depth; faults = 0 } }
     {
         Disk {
             rt,
@@ -60,7 +61,7 @@ impl<'a, R: Files + AllocGlobal + Clone + Drop> Folder for Disk<'a, R> {
     ghost failures = { λ s. s.faults };
 
     fn names(&mut self, alloc: Global) -> Result<Vec<String>, LoadFault> {
-        match all_names(self.rt, alloc, self.path, self.depth) {
+        match all_names(self.rt, alloc, self.path.as_str(), self.depth) {
             Ok(names) => Ok(names),
             Err(error) => {
                 self.faults = self.faults.saturating_add(1);
@@ -70,7 +71,7 @@ impl<'a, R: Files + AllocGlobal + Clone + Drop> Folder for Disk<'a, R> {
     }
 
     fn read(&mut self, alloc: Global, name: &str) -> Result<Vec<u8>, LoadFault> {
-        let path = joined(alloc, self.path, name)?;
+        let path = joined(alloc, self.path.as_str(), name)?;
         match fs::read(self.rt, path.as_str()) {
             Ok(bytes) => Ok(bytes),
             Err(error) => {

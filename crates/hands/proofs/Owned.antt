@@ -5,8 +5,7 @@ use Rattle.std.proofs.lemmas.List.Elements.{All-append}
 use Rattle.cjson.specs.declared.fault.NoMemory.{NoMemory}
 use Rattle.crossbeam_deque.specs.Handles.{worker_flavor, worker_view}
 use Rattle.hands.specs.declared.rule.Took.{Took}
-use Rattle.hands.specs.Dealt.{took}
-use Rattle.hands.specs.Deques.{Deck, IsOwn}
+use Rattle.hands.specs.Parts.{took, Deck, IsOwn}
 use Rattle.hands.proofs.Deals.{range-snoc}
 
 range_below : (a m n : ℕ) → a + m ≤ n → All (λ x. x < n) (range_with_len a m)

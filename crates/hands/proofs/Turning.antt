@@ -2,7 +2,7 @@
 use Rattle.std.proofs.Common.{◌≡◌, ◌∙◌, ℕ, ◌+◌, ◌-◌, ◌*◌, ◌/◌, ◌%◌, ◌<◌, ◌≤◌, arith, ap}
 use Rattle.std.proofs.lemmas.Grind.{common_steps}
 use Rattle.std.proofs.lemmas.Nat.{row_fits, div_below}
-use Rattle.hands.specs.Turns.{IsNumber, HasTurn}
+use Rattle.hands.specs.Parts.{IsNumber, HasTurn}
 
 -- how far a number is in the shorter parts
 abbrev pub beyond : ℕ → ℕ → ℕ → ℕ

@@ -1,7 +1,6 @@
 -- Worked values of the definitions.
 use Rattle.std.proofs.Common.{◌≡◌, ℕ, [], ◌∷◌, arith, refl}
-use Rattle.hands.specs.Parts.{Part, even_parts}
-use Rattle.hands.specs.Turns.{IsNumber, HasTurn}
+use Rattle.hands.specs.Parts.{Part, even_parts, IsNumber, HasTurn}
 
 part : ℕ → ℕ → ℕ → ℕ → Part
 part count workers from end = record { count = count; workers = workers; from = from; end = end }

@@ -1,6 +1,14 @@
 -- Even parts of the numbers below a count.
-use Rattle.std.specs.Prelude.{ℕ, Bool, ◌&&◌, ◌+◌, ◌-◌, ◌*◌, ◌/◌, ◌%◌, ◌≡◌, ◌≤◌, min, List, map, count_by, nat_le, nat_lt, if◌then◌else◌, All}
+use lib.ListN.{get_elem?}
+use mathlib.Core.Option.{some}
+use Rattle.std.specs.Prelude.{ℕ, Bool, ◌&&◌, ◌+◌, ◌-◌, ◌*◌, ◌/◌, ◌%◌, ◌≡◌, ◌≤◌, min, List, map, count_by, nat_le, nat_lt, if◌then◌else◌, All, ◌<◌, ◌==◌, true, [], ◌∷◌, ◌++◌, length}
 use Rattle.std.specs.List.{range_with_len}
+use Rattle.std.specs.declared.alloc.Global.{Global}
+use Rattle.crossbeam_deque.specs.Handles.{view, Pass, IsPassOf, stealer_deque, worker_flavor, worker_view}
+use Rattle.crossbeam_deque.specs.declared.handles.Worker.{Worker}
+use Rattle.crossbeam_deque.specs.declared.handles.Stealer.{Stealer}
+use Rattle.hands.specs.declared.rule.Rule.{Rule}
+use Rattle.hands.specs.declared.rule.Took.{Took}
 
 -- the numbers from `from` up to `end`, which isn't one of them, of those below `count`, dealt to so
 -- many workers
@@ -44,3 +52,82 @@ has n p = nat_le p.from n && nat_lt n p.end
 -- each number below the count is in one part, and no other number is in any
 pub record EachOnce (count : ℕ) (parts : List Part) : Type 0 where
   pub once : (n : ℕ) → count_by (has n) parts ≡ (if nat_lt n count then 1 else 0)
+
+-- # The order of the numbers where the parts of all workers are taken in turns: their first numbers,
+-- then their second ones, and so on.
+
+-- the number is that of part k behind `before` others
+pub record IsNumber (count workers n k before : ℕ) : Type 0 where
+  pub part : k < workers
+  pub within : before < size_of (part_of count workers k)
+  pub number : n ≡ start_of count workers k + before
+
+-- where the number comes: behind whole rounds of all workers, and in its own round behind those of
+-- the parts below
+pub record HasTurn (count workers n turn : ℕ) : Type 0 where
+  pub k : ℕ
+  pub before : ℕ
+  pub is_number : IsNumber count workers n k before
+  pub is_turn : turn ≡ before * workers + k
+
+-- # The protocol of one deque: what it holds is the end of what was pushed, and each number that left
+-- it was taken by one thread.
+
+-- what a thread knows of the deque
+abbrev pub took : List ℕ → List ℕ → Bool → Took
+took pushed taken alone = record { pushed = pushed; taken = taken; alone = alone }
+
+-- how often a number stands in a list
+abbrev pub times : ℕ → List ℕ → ℕ
+times n xs = count_by (λ x. x == n) xs
+
+-- f of what each thread knows, added up
+abbrev pub total : (Took → ℕ) → List Took → ℕ
+total f [] = 0
+total f (v ∷ vs) = f v + total f vs
+
+-- each thread knows all that was pushed, and one that is alone is the only one
+abbrev pub Fits : List ℕ → ℕ → Took → Type 0
+Fits pushed threads v = (v.pushed ≡ pushed) × (v.alone ≡ true → threads ≡ 1)
+
+-- what was pushed is what left at the front and then what is held, and a number left as often as
+-- all threads took it
+abbrev pub Dealt : List ℕ → List Took → Type 0
+Dealt items views =
+    (front : List ℕ) × (pushed : List ℕ) × (pushed ≡ front ++ items)
+    × ((n : ℕ) → times n front ≡ total (λ v. times n v.taken) views)
+    × ((thread : ℕ) (v : Took) → get_elem? views thread ≡ some v → Fits pushed (length views) v)
+
+-- these numbers were taken, which stand in what was pushed
+abbrev pub Takes : Took → List ℕ → Took → Type 0
+Takes v xs w =
+    (w ≡ took v.pushed (v.taken ++ xs) v.alone)
+    × ((before : List ℕ) × (after : List ℕ) × (v.pushed ≡ before ++ (xs ++ after)))
+
+-- these numbers were pushed
+abbrev pub Pushes : Took → List ℕ → Took → Type 0
+Pushes v xs w = w ≡ took (v.pushed ++ xs) v.taken v.alone
+
+-- # What a hand keeps of its own deque and of the others'.
+
+-- a worker's own deque
+abbrev pub Deck : Type 0
+Deck = Worker ℕ Global Took Rule
+
+-- a way to steal from a deque
+abbrev pub Thief : Type 0
+Thief = Stealer ℕ Global Took Rule
+
+-- a deque, first in first out, to which the part's numbers were pushed in order, and nothing else
+-- ever
+pub record IsOwn (count from end : ℕ) (own : Deck) : Type 0 where
+  pub flavor : worker_flavor own ≡ 0
+  pub part : (worker_view own).pushed ≡ range_with_len from (end - from)
+  pub below : All (λ n. n < count) (worker_view own).pushed
+  pub order : from ≤ end
+  pub most : end ≤ count
+
+-- a way to a deque to which only numbers below the count were pushed
+pub record IsOther (count : ℕ) (thief : Thief) (pass : Pass ℕ Took Global) : Type 0 where
+  pub of : IsPassOf (stealer_deque thief) pass
+  pub below : All (λ n. n < count) (view pass).pushed

@@ -3,7 +3,7 @@ ghost use Rattle.std.specs.Prelude.{◌≡◌, ◌≤◌, ◌-◌, true, false, 
 ghost use Rattle.std.specs.List.{range_with_len};
 ghost use Rattle.crossbeam_deque.specs.Handles.{view, IsPassOf, worker_deque, stealer_deque};
 ghost use Rattle.crossbeam_deque.specs.Handles.{worker_flavor, worker_view, SameWorker};
-ghost use Rattle.hands.specs.Dealt.{took, Takes};
+ghost use Rattle.hands.specs.Parts.{took, Takes};
 
 use crate::rule::{Cut, Pushed, Rule, Taken, Took};
 use cjson::NoMemory;

@@ -1,6 +1,6 @@
 //! A worker's numbers.
 ghost use Rattle.std.specs.Prelude.{◌≡◌, ◌≤◌, ◌<◌, IfOk, IfSome};
-ghost use Rattle.hands.specs.Turns.{HasTurn};
+ghost use Rattle.hands.specs.Parts.{HasTurn};
 
 use crate::deck::{Deck, Thief, another, filled, pop, steal};
 use crate::rule::Took;
@@ -20,7 +20,7 @@ pub(crate) struct Other {
 
 impl Model for Other {
     ghost use Rattle.std.specs.Prelude.{ℕ};
-    ghost use Rattle.hands.specs.Deques.{IsOther};
+    ghost use Rattle.hands.specs.Parts.{IsOther};
 
     ghost Value = { ℕ };
 
@@ -56,7 +56,7 @@ pub struct Hand {
 impl Model for Hand {
     ghost use Rattle.std.specs.Prelude.{◌≡◌, ◌<◌, All};
     ghost use Rattle.hands.specs.Parts.{Part};
-    ghost use Rattle.hands.specs.Deques.{IsOwn};
+    ghost use Rattle.hands.specs.Parts.{IsOwn};
 
     ghost Value = { Part };
 

@@ -18,7 +18,7 @@ pub struct Rule;
 
 impl Protocol<usize, Took> for Rule {
     ghost use Rattle.std.specs.Prelude.{true, false, []};
-    ghost use Rattle.hands.specs.Dealt.{took, Dealt};
+    ghost use Rattle.hands.specs.Parts.{took, Dealt};
 
     ghost holds = { Dealt };
 
@@ -31,7 +31,7 @@ impl Protocol<usize, Took> for Rule {
 pub struct Pushed;
 
 impl Outcome<usize, Took> for Pushed {
-    ghost use Rattle.hands.specs.Dealt.{Pushes};
+    ghost use Rattle.hands.specs.Parts.{Pushes};
 
     ghost then = { Pushes };
 }
@@ -40,7 +40,7 @@ impl Outcome<usize, Took> for Pushed {
 pub struct Taken;
 
 impl Outcome<usize, Took> for Taken {
-    ghost use Rattle.hands.specs.Dealt.{Takes};
+    ghost use Rattle.hands.specs.Parts.{Takes};
 
     ghost then = { Takes };
 }
@@ -50,7 +50,7 @@ pub struct Cut;
 
 impl Split<Took> for Cut {
     ghost use Rattle.std.specs.Prelude.{false, []};
-    ghost use Rattle.hands.specs.Dealt.{took};
+    ghost use Rattle.hands.specs.Parts.{took};
 
     ghost left = { λ v. took v.pushed v.taken false };
 

@@ -1,7 +1,7 @@
 //! The order of the numbers where the parts are taken in turns.
 
 ghost use Rattle.std.specs.Prelude.{◌≡◌, ◌<◌};
-ghost use Rattle.hands.specs.Turns.{IsNumber, HasTurn};
+ghost use Rattle.hands.specs.Parts.{IsNumber, HasTurn};
 
 // Where number `n` comes if the parts of all workers are taken in turns: the first numbers of all
 // parts come first, then the second ones, and so on.

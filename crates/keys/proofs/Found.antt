@@ -9,7 +9,7 @@ use Rattle.std.specs.List.{list_any}
 use Rattle.std.specs.Cmp.Lexicographic.{slice_cmp}
 use Rattle.std.specs.BTreeSet.{BTreeSet, Updates}
 use Rattle.cjson.specs.declared.doc.Entry.{Entry}
-use Rattle.keys.specs.ById.{has_id, placed_of}
+use Rattle.keys.specs.Keys.{has_id, placed_of}
 use Rattle.keys.specs.declared.entries.Placed.{Placed}
 
 turned : (a b : List ℕ) → bytes_eq a b ≡ bytes_eq b a

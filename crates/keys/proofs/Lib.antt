@@ -1,4 +1,3 @@
-pub mod Asks
 pub mod Found
 pub mod Decoded
 mod WorkedValues

@@ -2,8 +2,7 @@
 use Rattle.std.proofs.Common.{◌≡◌, ℕ, List, [], ◌∷◌, true, false, Some, None, codes, refl}
 use Rattle.serde_json.specs.Data.{Data, number, string, array, object, item, no_items, member, no_members, unsigned}
 use Rattle.hex.specs.Hex.{decode_pairs}
-use Rattle.keys.specs.Keys.{is_lms, listed_key, ring, role_keys}
-use Rattle.keys.specs.Signers.{is_signed_by}
+use Rattle.keys.specs.Keys.{is_lms, listed_key, ring, role_keys, is_signed_by}
 
 -- {"keyids":["a","b","a"],"threshold":n}
 role : ℕ → Data

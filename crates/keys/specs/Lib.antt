@@ -1,10 +1,4 @@
-pub mod ById
-pub mod GivesText
+pub mod Keys
 pub use Rattle.cjson.specs.Document
-pub use Rattle.cjson.specs.DocOf
-pub use Rattle.cjson.specs.Entry
 pub use Rattle.cjson.specs.Form
 pub use Rattle.lms.specs.Lms
-pub mod Keys
-pub mod Signers
-pub mod Truth

@@ -1,8 +1,7 @@
 //! The judge that decides by itself.
 
 ghost use Rattle.std.specs.Prelude.{◌≡◌, Ok, bytes_eq};
-ghost use Rattle.keys.specs.Signers.{is_signed_by};
-ghost use Rattle.keys.specs.Truth.{truth, digest_by};
+ghost use Rattle.keys.specs.Keys.{is_signed_by, truth, digest_by};
 
 use crate::judge::{Algorithm, Ask, Judge};
 use cjson::NoMemory;

@@ -1,8 +1,8 @@
 //! A document's entries by the ids of their keys.
 
 ghost use Rattle.std.specs.Prelude.{◌≡◌, IfOk, map};
-ghost use Rattle.cjson.specs.DocOf.{doc_of};
-ghost use Rattle.keys.specs.ById.{IsById, placed_of, sigs_under};
+ghost use Rattle.cjson.specs.Document.{doc_of};
+ghost use Rattle.keys.specs.Keys.{IsById, placed_of, sigs_under};
 
 use cjson::{Doc, NoMemory};
 use std::alloc::Global;

@@ -1,7 +1,7 @@
 //! Questions about signatures and digests, and who answers them.
 
 ghost use Rattle.std.specs.Prelude.{◌≡◌, ◌↔◌, IsTrue, IfOk};
-ghost use Rattle.keys.specs.Truth.{IsSame, truth};
+ghost use Rattle.keys.specs.Keys.{question_of, truth};
 
 use cjson::NoMemory;
 use lms::Public;
@@ -57,7 +57,7 @@ impl Ask<'_> {
     /// Whether all parts of the two questions are equal, the name of the file and the place too. It
     /// takes no memory. Then the questions have one answer.
     pub fn same(&self, other: &Ask) -> bool
-        ensures parts { IsTrue result ↔ IsSame self.now other.now }
+        ensures parts { IsTrue result ↔ (question_of self.now ≡ question_of other.now) }
         ensures truth { IsTrue result → truth self.now ≡ truth other.now }
     {
         self == other

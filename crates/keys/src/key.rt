@@ -3,7 +3,6 @@
 ghost use Rattle.std.specs.Prelude.{◌≡◌, IfOk, string_bytes};
 ghost use Rattle.serde_json.specs.View.{view};
 ghost use Rattle.keys.specs.Keys as spec;
-ghost use Rattle.keys.specs.GivesText.{GivesText};
 
 use cjson::text::{Text, is_text};
 use cjson::{CanonicalFault, NoMemory, canonical};
@@ -27,7 +26,7 @@ pub struct Key {
 /// hexadecimal digits (TUF 1.0 section 4.2). An object with a number that isn't whole has no
 /// canonical text, so no id.
 pub fn key_id(alloc: Global, key: &Value) -> Result<String, CanonicalFault>
-    ensures digest { GivesText (spec.key_id (view key.now)) result string_bytes }
+    ensures digest { spec.GivesText (spec.key_id (view key.now)) result string_bytes }
 {
     let text = canonical(alloc, key)?;
     let digest: [u8; 32] = Sha256::digest(text.as_slice());

@@ -2,7 +2,7 @@
 
 ghost use Rattle.std.specs.Prelude.{◌≡◌, IfOk};
 ghost use Rattle.serde_json.specs.View.{view};
-ghost use Rattle.cjson.specs.Reads.{Reads};
+ghost use Rattle.cjson.specs.Form.{Reads};
 ghost use Rattle.keys.specs.Keys as spec;
 
 use crate::key::{Key, usable};

@@ -3,7 +3,6 @@
 ghost use Rattle.std.specs.Prelude.{◌≡◌, ℕ, List, IfOk, bytes_eq};
 ghost use Rattle.std.specs.List.{list_any};
 ghost use Rattle.serde_json.specs.View.{view};
-ghost use Rattle.keys.specs.ById.{has_id};
 ghost use Rattle.keys.specs.Keys as spec;
 
 use cjson::form::{FromJson, if_formed, needed};
@@ -36,7 +35,7 @@ impl RoleKeys {
     /// The set of the listed ids, in which one is found at the price of a few comparisons.
     pub(crate) fn id_set(&self, alloc: Global) -> Result<BTreeSet<&str>, NoMemory>
         ensures ids { IfOk result (λ s. (id : List ℕ)
-            → has_id s id ≡ list_any (bytes_eq id) self.now.ids) }
+            → spec.has_id s id ≡ list_any (bytes_eq id) self.now.ids) }
     {
         let mut ids: BTreeSet<&str> = BTreeSet::new(alloc);
         for id in self.ids.as_slice() {

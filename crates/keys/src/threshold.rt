@@ -1,9 +1,8 @@
 //! Whether enough keys signed a document.
 
 ghost use Rattle.std.specs.Prelude.{◌≡◌, ◌&&◌, IfOk};
-ghost use Rattle.cjson.specs.DocOf.{doc_of};
-ghost use Rattle.keys.specs.ById.{IsById, has_id};
-ghost use Rattle.keys.specs.Signers as spec;
+ghost use Rattle.cjson.specs.Document.{doc_of};
+ghost use Rattle.keys.specs.Keys as spec;
 
 use crate::entries::Entries;
 use crate::judge::{Ask, Judge, SignatureAsk};
@@ -57,8 +56,8 @@ fn has_signed<J: Judge>(
     key: &Key,
     judge: &mut J,
 ) -> Result<bool, NoMemory>
-    requires { IsById entries.now.by_id (doc_of doc.now).entries }
-    ensures { IfOk result (λ b. b ≡ (has_id listed.now key.now.id
+    requires { spec.IsById entries.now.by_id (doc_of doc.now).entries }
+    ensures { IfOk result (λ b. b ≡ (spec.has_id listed.now key.now.id
         && spec.has_entry (doc_of doc.now).text (doc_of doc.now).entries key.now)) }
 {
     Ok(listed.contains(key.id.as_str()) && has_entry(doc, file, entries, key, judge)?)
@@ -72,7 +71,7 @@ fn has_entry<J: Judge>(
     key: &Key,
     judge: &mut J,
 ) -> Result<bool, NoMemory>
-    requires { IsById entries.now.by_id (doc_of doc.now).entries }
+    requires { spec.IsById entries.now.by_id (doc_of doc.now).entries }
     ensures { IfOk result
         (λ b. b ≡ spec.has_entry (doc_of doc.now).text (doc_of doc.now).entries key.now) }
 {

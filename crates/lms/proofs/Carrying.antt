@@ -1,10 +1,9 @@
 -- Chains that go on.
-use Rattle.std.proofs.Common.{◌≡◌, ℕ, zero, suc, ◌+◌, ◌-◌, ◌<◌, ◌≤◌, List, [], ◌∷◌, ◌++◌, slice_index, get_or, slice_set, length, refl, sym, ap, ◌∙◌, append_assoc, add-one, arith, inl, inr}
+use Rattle.std.proofs.Common.{◌≡◌, ℕ, ◌+◌, ◌-◌, ◌<◌, ◌≤◌, List, [], ◌∷◌, ◌++◌, slice_index, get_or, slice_set, length, refl, sym, ap, ◌∙◌, append_assoc, add-one, arith, inl, inr}
 use Rattle.std.proofs.lemmas.Bool.{cases_eq}
 use Rattle.std.proofs.lemmas.List.{get_or-set_same, get_or-set_other}
 use Rattle.sha2.specs.Sha256.{sha256}
-use Rattle.lms.specs.Lms.{u16str, u32str, chain}
-use Rattle.lms.specs.Carrying.{AreOn, IsOn, row_of}
+use Rattle.lms.specs.Lms.{u16str, u32str, chain, AreOn, IsOn, row_of}
 use Rattle.lms.proofs.Chains.{chain_join, chain_none, chain_more}
 
 pub chain_next : (id : List ℕ) (q i a n : ℕ) (x : List ℕ) →

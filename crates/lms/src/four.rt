@@ -4,8 +4,7 @@ ghost use Rattle.std.specs.Prelude.{◌≡◌, ℕ, ◌+◌, ◌-◌, ◌<◌, �
 ghost use Rattle.std.specs.Prelude.{slice_index_or, List, ◌++◌};
 ghost use Rattle.sha2.specs.Sha256.{digest_bytes};
 ghost use Rattle.lanes.specs.Lanes.{IsPrefix, IsRow, lane};
-ghost use Rattle.lms.specs.Lms.{u16str, u32str, chain};
-ghost use Rattle.lms.specs.Carrying.{AreOn};
+ghost use Rattle.lms.specs.Lms.{u16str, u32str, chain, AreOn};
 
 use crate::ots::{Node, chain, put, u16str, u32str};
 use lanes::{digest, digest_words, prefix_words, step4};

@@ -4,10 +4,9 @@ ghost use Rattle.std.specs.Prelude.{◌≡◌, ℕ, ◌+◌, ◌-◌, ◌*◌, �
 ghost use Rattle.std.specs.Prelude.{length, slice_index, slice_index_or, take};
 ghost use Rattle.sha2.specs.Hashers.{Holds256};
 ghost use Rattle.sha2.specs.Sha256.{sha256};
-ghost use Rattle.lms.specs.Kind.{digit_bits, chain_count};
-ghost use Rattle.lms.specs.Carrying.{row_of};
-ghost use Rattle.lms.specs.Lms.{block, u16str, u32str, coef, lack, checksum, digit, chain};
-ghost use Rattle.lms.specs.Lms.{message_digest, chain_ends, ots_key, ots_digest};
+ghost use Rattle.lms.specs.Lms.{digit_bits, chain_count, row_of, block, u16str, u32str, coef, lack};
+ghost use Rattle.lms.specs.Lms.{checksum, digit, chain, message_digest, chain_ends, ots_key};
+ghost use Rattle.lms.specs.Lms.{ots_digest};
 ghost use Rattle.lms.specs.Signer.{chain_start, leaf_key};
 
 use crate::four::{MOST_CHAINS, carry_to_ends};

@@ -2,8 +2,7 @@
 
 ghost use Rattle.std.specs.Prelude.{◌≡◌, ◌↔◌, ℕ, ◌+◌, ◌-◌, ◌*◌, ◌^◌, ◌<◌, ◌≤◌, List, [], ◌++◌};
 ghost use Rattle.std.specs.Prelude.{IsTrue, OnOk, OnErr, IfOk, length, slice_index_or};
-ghost use Rattle.lms.specs.Kind.{chain_count, levels};
-ghost use Rattle.lms.specs.Lms.{is_valid, message_digest};
+ghost use Rattle.lms.specs.Lms.{chain_count, levels, is_valid, message_digest};
 ghost use Rattle.lms.specs.Signer.{IsTree, chain_start, leaf_key, path_of, public_of, randomizer};
 ghost use Rattle.lms.specs.Signer.{sibling, signature_by, signed_chains, tree};
 
@@ -54,7 +53,7 @@ pub struct Secret {
 impl Model for Secret {
     ghost use Rattle.std.specs.Prelude.{◌≡◌, ◌^◌, ◌≤◌, length};
     ghost use Rattle.lms.specs.Signer.{Signer, IsTree};
-    ghost use Rattle.lms.specs.Kind.{levels};
+    ghost use Rattle.lms.specs.Lms.{levels};
 
     ghost Value = { Signer };
 

@@ -26,20 +26,10 @@ impl Bins {
         if prefix != self.prefix.as_str() || digits.len() != width {
             return false;
         }
-        number(digits).is_some_and(|number| number.checked_shr(self.bits).unwrap_or(0) == 0)
+        let is_lower = digits
+            .bytes()
+            .all(|digit| matches!(digit, b'0'..=b'9' | b'a'..=b'f'));
+        let number = u64::from_str_radix(digits, 16).ok();
+        is_lower && number.is_some_and(|number| number.checked_shr(self.bits).unwrap_or(0) == 0)
     }
-}
-
-/// The number of at most eight lower-case hexadecimal digits.
-fn number(digits: &str) -> Option<u64> {
-    let mut number: u64 = 0;
-    for digit in digits.bytes() {
-        let value = match digit {
-            b'0'..=b'9' => digit - b'0',
-            b'a'..=b'f' => digit - b'a' + 10,
-            _ => return None,
-        };
-        number = number.checked_mul(16)?.checked_add(u64::from(value))?;
-    }
-    Some(number)
 }

@@ -2,40 +2,7 @@
 
 use crate::refusal::Refusal;
 use crate::words::Words;
-use lms::{Height, Width};
 use std::alloc::Global;
-
-/// A line of a script, as it is spelled.
-#[derive(Drop)]
-pub enum Line<'a> {
-    /// An empty line or a comment.
-    Passed,
-    /// `key S H` or `key S H W`
-    Key {
-        byte: u8,
-        width: Width,
-        height: Height,
-    },
-    /// `consistent yes` or `consistent no`
-    Consistent(bool),
-    /// `expires TEXT`
-    Expires(&'a str),
-    /// `top ROLE T KEYS`
-    Top {
-        role: &'a str,
-        quorum: Quorum,
-    },
-    /// `target ROLE PATH HEX HASHES`
-    Target(TargetLine<'a>),
-    /// `delegate FROM TO T KEYS END KIND LIST`
-    Delegate(DelegateLine<'a>),
-    /// `succinct FROM T KEYS BITS PREFIX`
-    Succinct(SuccinctLine<'a>),
-    /// `forget ROLE`
-    Forget(&'a str),
-    /// `write ROLE VERSION KEYS`
-    Write(WriteLine<'a>),
-}
 
 /// The keys of a role, by their bytes, and how many of them must sign.
 #[derive(Drop)]
@@ -52,7 +19,7 @@ pub enum Digests {
     Both,
 }
 
-/// A line that makes and lists a target.
+/// `target ROLE PATH HEX HASHES`, which makes and lists a target.
 #[derive(Drop)]
 pub struct TargetLine<'a> {
     pub role: &'a str,
@@ -61,7 +28,7 @@ pub struct TargetLine<'a> {
     pub digests: Digests,
 }
 
-/// A line that adds a delegation.
+/// `delegate FROM TO T KEYS END KIND LIST`, which adds a delegation.
 #[derive(Drop)]
 pub struct DelegateLine<'a> {
     pub from: &'a str,
@@ -74,7 +41,7 @@ pub struct DelegateLine<'a> {
     pub list: &'a str,
 }
 
-/// A line that delegates to hash bins.
+/// `succinct FROM T KEYS BITS PREFIX`, which delegates to hash bins.
 #[derive(Drop)]
 pub struct SuccinctLine<'a> {
     pub from: &'a str,
@@ -83,7 +50,7 @@ pub struct SuccinctLine<'a> {
     pub prefix: &'a str,
 }
 
-/// A line that makes a metadata file.
+/// `write ROLE VERSION KEYS`, which makes a metadata file.
 #[derive(Drop)]
 pub struct WriteLine<'a> {
     pub role: &'a str,
@@ -91,66 +58,20 @@ pub struct WriteLine<'a> {
     pub keys: Vec<u8>,
 }
 
-/// Reads a line without its line feed.
-pub fn read_line<'a>(alloc: Global, text: &'a str) -> Result<Line<'a>, Refusal> {
-    if text.is_empty() {
-        return Ok(Line::Passed);
-    }
-    if text.starts_with('#') {
-        return Ok(Line::Passed);
-    }
-    let mut words = Words::of(text);
-    let line = read_words(alloc, &mut words)?;
-    words.end()?;
-    Ok(line)
-}
-
-fn read_words<'a>(alloc: Global, words: &mut Words<'a>) -> Result<Line<'a>, Refusal> {
-    match words.word()? {
-        "key" => read_key(words),
-        "consistent" => Ok(Line::Consistent(words.choice("yes", "no")?)),
-        "expires" => Ok(Line::Expires(words.word()?)),
-        "top" => read_top(alloc, words),
-        "target" => read_target(alloc, words),
-        "delegate" => read_delegate(alloc, words),
-        "succinct" => read_succinct(alloc, words),
-        "forget" => Ok(Line::Forget(words.word()?)),
-        "write" => read_write(alloc, words),
-        _ => Err(Refusal::Line),
-    }
-}
-
-fn read_key<'a>(words: &mut Words<'a>) -> Result<Line<'a>, Refusal> {
-    Ok(Line::Key {
-        byte: words.key_byte()?,
-        height: words.height()?,
-        width: words.width()?,
-    })
-}
-
-fn read_quorum(alloc: Global, words: &mut Words<'_>) -> Result<Quorum, Refusal> {
+pub fn read_quorum(alloc: Global, words: &mut Words<'_>) -> Result<Quorum, Refusal> {
     Ok(Quorum {
         threshold: words.whole()?,
         keys: words.keys(alloc)?,
     })
 }
 
-fn read_top<'a>(alloc: Global, words: &mut Words<'a>) -> Result<Line<'a>, Refusal> {
-    let role = words.word()?;
-    if !matches!(role, "root" | "timestamp" | "snapshot" | "targets") {
-        return Err(Refusal::Line);
-    }
-    let quorum = read_quorum(alloc, words)?;
-    Ok(Line::Top { role, quorum })
-}
-
-fn read_target<'a>(alloc: Global, words: &mut Words<'a>) -> Result<Line<'a>, Refusal> {
-    Ok(Line::Target(TargetLine {
+pub fn read_target<'a>(alloc: Global, words: &mut Words<'a>) -> Result<TargetLine<'a>, Refusal> {
+    Ok(TargetLine {
         role: words.word()?,
         path: words.path()?,
         bytes: words.bytes(alloc)?,
         digests: read_digests(words)?,
-    }))
+    })
 }
 
 fn read_digests(words: &mut Words<'_>) -> Result<Digests, Refusal> {
@@ -162,30 +83,36 @@ fn read_digests(words: &mut Words<'_>) -> Result<Digests, Refusal> {
     }
 }
 
-fn read_delegate<'a>(alloc: Global, words: &mut Words<'a>) -> Result<Line<'a>, Refusal> {
-    Ok(Line::Delegate(DelegateLine {
+pub fn read_delegate<'a>(
+    alloc: Global,
+    words: &mut Words<'a>,
+) -> Result<DelegateLine<'a>, Refusal> {
+    Ok(DelegateLine {
         from: words.word()?,
         to: words.role()?,
         quorum: read_quorum(alloc, words)?,
         terminating: words.choice("stop", "go")?,
         by_paths: words.choice("paths", "prefixes")?,
         list: words.word()?,
-    }))
+    })
 }
 
-fn read_succinct<'a>(alloc: Global, words: &mut Words<'a>) -> Result<Line<'a>, Refusal> {
-    Ok(Line::Succinct(SuccinctLine {
+pub fn read_succinct<'a>(
+    alloc: Global,
+    words: &mut Words<'a>,
+) -> Result<SuccinctLine<'a>, Refusal> {
+    Ok(SuccinctLine {
         from: words.word()?,
         quorum: read_quorum(alloc, words)?,
         bits: words.bits()?,
         prefix: words.role()?,
-    }))
+    })
 }
 
-fn read_write<'a>(alloc: Global, words: &mut Words<'a>) -> Result<Line<'a>, Refusal> {
-    Ok(Line::Write(WriteLine {
+pub fn read_write<'a>(alloc: Global, words: &mut Words<'a>) -> Result<WriteLine<'a>, Refusal> {
+    Ok(WriteLine {
         role: words.word()?,
         version: words.whole()?,
         keys: words.keys(alloc)?,
-    }))
+    })
 }

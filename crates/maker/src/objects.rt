@@ -7,18 +7,6 @@ use serde_json::{Map, Value, json};
 use sha2::{Digest, Sha256, Sha512};
 use std::alloc::{AllocError, Global};
 
-/// The lower-case hexadecimal text of the bytes' SHA-256.
-pub fn sha256_text(alloc: Global, bytes: &[u8]) -> Result<String, AllocError> {
-    let digest: [u8; 32] = Sha256::digest(bytes);
-    hex::encode(alloc, digest)
-}
-
-/// The lower-case hexadecimal text of the bytes' SHA-512.
-pub fn sha512_text(alloc: Global, bytes: &[u8]) -> Result<String, AllocError> {
-    let digest: [u8; 64] = Sha512::digest(bytes);
-    hex::encode(alloc, digest)
-}
-
 /// Puts a value at a key, in place of what is there.
 pub fn put(
     alloc: Global,
@@ -46,16 +34,26 @@ pub fn quorum_object(alloc: Global, ids: Vec<Value>, threshold: u64) -> Result<V
     json!(in alloc; { "keyids": ids, "threshold": threshold })
 }
 
-/// The digests of a file.
+/// The digests of a file, in lower-case hexadecimal.
 pub fn hashes_object(alloc: Global, bytes: &[u8], digests: Digests) -> Result<Value, AllocError> {
     let mut hashes = Map::new(alloc);
     if digests != Digests::Sha512 {
-        let text = sha256_text(alloc, bytes)?;
-        put(alloc, &mut hashes, "sha256", Value::String(text))?;
+        let digest: [u8; 32] = Sha256::digest(bytes);
+        put(
+            alloc,
+            &mut hashes,
+            "sha256",
+            Value::String(hex::encode(alloc, digest)?),
+        )?;
     }
     if digests != Digests::Sha256 {
-        let text = sha512_text(alloc, bytes)?;
-        put(alloc, &mut hashes, "sha512", Value::String(text))?;
+        let digest: [u8; 64] = Sha512::digest(bytes);
+        put(
+            alloc,
+            &mut hashes,
+            "sha512",
+            Value::String(hex::encode(alloc, digest)?),
+        )?;
     }
     Ok(Value::Object(hashes))
 }

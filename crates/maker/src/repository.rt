@@ -1,15 +1,18 @@
 //! What the lines of a script make.
 
 use crate::bins::Bins;
-use crate::line::{DelegateLine, Line, Quorum, SuccinctLine, TargetLine, WriteLine};
+use crate::line::{
+    DelegateLine, Quorum, SuccinctLine, TargetLine, WriteLine, read_delegate, read_quorum,
+    read_succinct, read_target, read_write,
+};
 use crate::objects::{
     delegation_object, listing_object, put, quorum_object, succinct_object, target_name,
     target_object,
 };
 use crate::refusal::Refusal;
 use crate::ring::{ids_of, new_signer, place_of, places_of, put_keys};
+use crate::words::Words;
 use cjson::canonical;
-use lms::{Height, Width};
 use meta::names;
 use seals::{Signer, seal_text};
 use serde_json::{Map, Value, json};
@@ -89,27 +92,30 @@ impl Repository {
         })
     }
 
-    /// Carries out a line.
-    pub fn follow(&mut self, line: Line<'_>) -> Result<(), Refusal> {
-        match line {
-            Line::Passed => Ok(()),
-            Line::Key {
-                byte,
-                width,
-                height,
-            } => self.add_key(byte, width, height),
-            Line::Consistent(consistent) => {
-                self.consistent = consistent;
-                Ok(())
-            }
-            Line::Expires(text) => self.set_expires(text),
-            Line::Top { role, quorum } => self.set_top(role, quorum),
-            Line::Target(line) => self.add_target(&line),
-            Line::Delegate(line) => self.add_delegation(&line),
-            Line::Succinct(line) => self.add_bins(&line),
-            Line::Forget(role) => self.forget(role),
-            Line::Write(line) => self.write(&line),
+    /// Carries out a line without its line feed.
+    pub fn follow(&mut self, line: &str) -> Result<(), Refusal> {
+        if line.is_empty() || line.starts_with('#') {
+            return Ok(());
         }
+        let mut words = Words::of(line);
+        self.follow_words(&mut words)?;
+        words.end()
+    }
+
+    fn follow_words(&mut self, words: &mut Words<'_>) -> Result<(), Refusal> {
+        match words.word()? {
+            "key" => self.add_key(words)?,
+            "consistent" => self.consistent = words.choice("yes", "no")?,
+            "expires" => self.expires = String::from_str(self.alloc, words.word()?)?,
+            "top" => self.set_top(words)?,
+            "target" => self.add_target(&read_target(self.alloc, words)?)?,
+            "delegate" => self.add_delegation(&read_delegate(self.alloc, words)?)?,
+            "succinct" => self.add_bins(&read_succinct(self.alloc, words)?)?,
+            "forget" => self.forget(words.word()?)?,
+            "write" => self.write(&read_write(self.alloc, words)?)?,
+            _ => return Err(Refusal::Line),
+        }
+        Ok(())
     }
 
     /// The files, in the order of their names.
@@ -117,17 +123,16 @@ impl Repository {
         self.files.into_iter().collect(self.alloc)
     }
 
-    fn add_key(&mut self, byte: u8, width: Width, height: Height) -> Result<(), Refusal> {
+    /// `key S H` or `key S H W`
+    fn add_key(&mut self, words: &mut Words<'_>) -> Result<(), Refusal> {
+        let byte = words.key_byte()?;
+        let height = words.height()?;
+        let width = words.width()?;
         if place_of(&self.signers, byte).is_ok() {
             return Err(Refusal::Line);
         }
         let signer = new_signer(self.alloc, byte, width, height)?;
         self.signers.push(signer)?;
-        Ok(())
-    }
-
-    fn set_expires(&mut self, text: &str) -> Result<(), Refusal> {
-        self.expires = String::from_str(self.alloc, text)?;
         Ok(())
     }
 
@@ -141,7 +146,13 @@ impl Repository {
         Ok(())
     }
 
-    fn set_top(&mut self, name: &str, quorum: Quorum) -> Result<(), Refusal> {
+    /// `top ROLE T KEYS`
+    fn set_top(&mut self, words: &mut Words<'_>) -> Result<(), Refusal> {
+        let name = words.word()?;
+        if !matches!(name, "root" | "timestamp" | "snapshot" | "targets") {
+            return Err(Refusal::Line);
+        }
+        let quorum = read_quorum(self.alloc, words)?;
         let _known = places_of(self.alloc, &self.signers, &quorum.keys)?;
         if name == "targets" {
             self.make_role(name)?;
@@ -229,54 +240,43 @@ impl Repository {
     }
 
     fn write(&mut self, line: &WriteLine<'_>) -> Result<(), Refusal> {
+        let object = self.object_of(line)?;
+        let bytes = self.sealed(object, &line.keys)?;
+        let name = self.listed_name(line, &bytes)?;
+        let name = format!(in self.alloc; "metadata/{name}")?;
+        let _ = self.files.insert(name, bytes)?;
+        Ok(())
+    }
+
+    /// What the role's file says, where the role is there.
+    fn object_of(&mut self, line: &WriteLine<'_>) -> Result<Value, Refusal> {
         match line.role {
-            "root" => self.write_root(line),
-            "timestamp" => self.write_timestamp(line),
-            "snapshot" => self.write_snapshot(line),
-            _ => self.write_role(line),
+            "root" if self.tops.len() < 4 => Err(Refusal::Line),
+            "root" => self.root_object(line.version),
+            "timestamp" | "snapshot" if !self.is_made(line.role) => Err(Refusal::Line),
+            "timestamp" => self.timestamp_object(line.version),
+            "snapshot" => self.snapshot_object(line.version),
+            role => {
+                let _listing = self.listing_role(role)?;
+                self.role_object(role, line.version)
+            }
         }
     }
 
-    fn write_root(&mut self, line: &WriteLine<'_>) -> Result<(), Refusal> {
-        if self.tops.len() < 4 {
-            return Err(Refusal::Line);
+    /// The name of the role's file, which the next timestamp or snapshot lists.
+    fn listed_name(&mut self, line: &WriteLine<'_>, bytes: &[u8]) -> Result<String, Refusal> {
+        let alloc = self.alloc;
+        let name = names::role_name(alloc, line.role)?;
+        match line.role {
+            "root" => return Ok(names::root_name(alloc, line.version)?),
+            "timestamp" => return Ok(name),
+            "snapshot" => self.snapshot = Some(listing_object(alloc, bytes, line.version)?),
+            _ => {
+                let listing = listing_object(alloc, bytes, line.version)?;
+                put(alloc, &mut self.listed, name.as_str(), listing)?;
+            }
         }
-        let object = self.root_object(line.version)?;
-        let bytes = self.sealed(object, &line.keys)?;
-        let name = names::root_name(self.alloc, line.version)?;
-        self.put_metadata(name.as_str(), bytes)
-    }
-
-    fn write_timestamp(&mut self, line: &WriteLine<'_>) -> Result<(), Refusal> {
-        if !self.is_made(line.role) {
-            return Err(Refusal::Line);
-        }
-        let object = self.timestamp_object(line.version)?;
-        let bytes = self.sealed(object, &line.keys)?;
-        self.put_metadata("timestamp.json", bytes)
-    }
-
-    fn write_snapshot(&mut self, line: &WriteLine<'_>) -> Result<(), Refusal> {
-        if !self.is_made(line.role) {
-            return Err(Refusal::Line);
-        }
-        let object = self.snapshot_object(line.version)?;
-        let bytes = self.sealed(object, &line.keys)?;
-        self.snapshot = Some(listing_object(self.alloc, &bytes, line.version)?);
-        let name = names::versioned(self.alloc, self.consistent, line.version, "snapshot.json")?;
-        self.put_metadata(name.as_str(), bytes)
-    }
-
-    /// Writes the file of `targets` or of a delegated role.
-    fn write_role(&mut self, line: &WriteLine<'_>) -> Result<(), Refusal> {
-        let _listing = self.listing_role(line.role)?;
-        let object = self.role_object(line.role, line.version)?;
-        let bytes = self.sealed(object, &line.keys)?;
-        let listed = names::role_name(self.alloc, line.role)?;
-        let listing = listing_object(self.alloc, &bytes, line.version)?;
-        put(self.alloc, &mut self.listed, listed.as_str(), listing)?;
-        let name = names::versioned(self.alloc, self.consistent, line.version, listed.as_str())?;
-        self.put_metadata(name.as_str(), bytes)
+        Ok(names::versioned(alloc, self.consistent, line.version, name.as_str())?)
     }
 
     /// What a root file says (TUF 1.0 section 4.3).
@@ -366,11 +366,5 @@ impl Repository {
         let by = places_of(self.alloc, &self.signers, keys)?;
         let text = canonical(self.alloc, &signed)?;
         Ok(seal_text(self.alloc, &signed, &text, &mut self.signers, &by)?)
-    }
-
-    fn put_metadata(&mut self, name: &str, bytes: Vec<u8>) -> Result<(), Refusal> {
-        let name = format!(in self.alloc; "metadata/{name}")?;
-        let _ = self.files.insert(name, bytes)?;
-        Ok(())
     }
 }

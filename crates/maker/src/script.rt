@@ -2,7 +2,6 @@
 
 ghost use Rattle.std.specs.Prelude.{◌≢◌};
 
-use crate::line::read_line;
 use crate::refusal::Refusal;
 use crate::repository::Repository;
 use seals::MakeFault;
@@ -19,14 +18,9 @@ pub fn make(alloc: Global, script: &str) -> Result<Vec<(String, Vec<u8>)>, MakeF
 {
     let mut repository = Repository::new(alloc)?;
     for (place, text) in script.split('\n').enumerate() {
-        if let Err(refusal) = follow(alloc, &mut repository, text) {
+        if let Err(refusal) = repository.follow(text) {
             return Err(refusal.at(place.saturating_add(1)));
         }
     }
     Ok(repository.into_files()?)
-}
-
-fn follow(alloc: Global, repository: &mut Repository, text: &str) -> Result<(), Refusal> {
-    let line = read_line(alloc, text)?;
-    repository.follow(line)
 }

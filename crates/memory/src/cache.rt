@@ -2,8 +2,7 @@
 
 ghost use Rattle.std.specs.Prelude.{◌≡◌, ◌≤◌, All, IfOk, IfSome, string_bytes};
 ghost use Rattle.std.specs.BTreeMap.{values};
-ghost use Rattle.keys.specs.Signers.{is_signed_by};
-ghost use Rattle.keys.specs.Truth.{is_valid_in};
+ghost use Rattle.keys.specs.Keys.{is_signed_by, is_valid_in};
 
 use cjson::NoMemory;
 use keys::SignatureAsk;

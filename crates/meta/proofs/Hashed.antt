@@ -5,7 +5,7 @@ use Rattle.std.proofs.lemmas.List.{take-append-drop}
 use Rattle.std.proofs.lemmas.Str.Pattern.{NoCharPasses-char, drop_at_char}
 use Rattle.std.specs.Str.{NoCharPasses}
 use Rattle.std.specs.Str.Pattern.{RFindsChar, SplitsAroundMatch}
-use Rattle.meta.specs.Names.{hashed, has_slash}
+use Rattle.meta.specs.Content.{hashed, has_slash}
 
 -- no place of the path has a `/`
 abbrev HasNone : List ℕ → Type 0

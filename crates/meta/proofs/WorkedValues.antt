@@ -2,7 +2,7 @@
 use Rattle.std.specs.Prelude.{◌≡◌, refl, codes, Some, None, true, false, [], ◌∷◌}
 use Rattle.std.specs.Fmt.{digits}
 use Rattle.hex.specs.Hex.{encode_with}
-use Rattle.meta.specs.Names.{root_name, role_name, versioned, hashed, target_names}
+use Rattle.meta.specs.Content.{root_name, role_name, versioned, hashed, target_names}
 
 pub of_root : root_name 12 ≡ codes "12.root.json"
 unfolding digits

@@ -1,10 +1,5 @@
 pub use Rattle.keys.specs.Keys
-pub use Rattle.keys.specs.Truth
 pub use Rattle.moment.specs.Moment
-pub mod Names
+pub mod Content
 pub mod Patterns
 pub mod Metadata
-pub mod Reads
-pub mod Part
-pub mod Content
-pub mod Answers

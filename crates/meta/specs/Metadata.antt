@@ -1,25 +1,24 @@
 -- The four kinds of metadata file, and what is read from each (TUF 1.0 sections 4.3 to 4.6).
-use Rattle.std.specs.Prelude.{ℕ, if◌then◌else◌, List, length, take, Bool, false, Option, Some, None, is_some, unwrap_or, bytes_eq, codes}
+use Rattle.std.specs.Prelude.{ℕ, List, length, Bool, if◌then◌else◌, take, false, Option, Some, None, is_some, unwrap_or, bytes_eq, codes}
 use Rattle.serde_json.specs.Find.{as_str, as_bool, as_object}
-use Rattle.cjson.specs.Option.{◌>>=◌}
-pub use Rattle.cjson.specs.Form.{Data, Form, guard, all_members, has_text, needed, optional, list, members, text, greatest, whole, hex_bytes}
+pub use Rattle.cjson.specs.Form.{◌>>=◌, Data, Form, guard, all_members, has_text, needed, optional, list, members, text, greatest, whole, hex_bytes}
 use Rattle.keys.specs.Keys.{ring, role_keys}
-pub use Rattle.keys.specs.declared.key.Key.{Key}
 pub use Rattle.keys.specs.declared.role_keys.RoleKeys.{RoleKeys}
+pub use Rattle.keys.specs.declared.key.Key.{Key}
 pub use Rattle.moment.specs.Moment.{Moment, moment_of}
-use Rattle.meta.specs.declared.hashes.Hashes.{Hashes}
-use Rattle.meta.specs.declared.header.Header.{Header}
-use Rattle.meta.specs.declared.listing.Listing.{Listing}
-use Rattle.meta.specs.declared.snapshot.Named.{Named}
+use Rattle.meta.specs.Patterns.{is_pattern, is_prefix}
+use Rattle.meta.specs.declared.delegations.Delegations.{Delegations}
 use Rattle.meta.specs.declared.targets.Target.{Target}
 use Rattle.meta.specs.declared.delegation.Paths.{Paths}
 use Rattle.meta.specs.declared.delegation.Paths.TheVariants.{Patterns, Prefixes}
 use Rattle.meta.specs.declared.delegation.Delegation.{Delegation}
-use Rattle.meta.specs.declared.delegations.Bins.{Bins}
-use Rattle.meta.specs.declared.delegations.Roles.{Roles}
+use Rattle.meta.specs.declared.listing.Listing.{Listing}
 use Rattle.meta.specs.declared.delegations.Roles.TheVariants.{Listed, Binned}
-use Rattle.meta.specs.declared.delegations.Delegations.{Delegations}
-use Rattle.meta.specs.Patterns.{is_pattern, is_prefix}
+use Rattle.meta.specs.declared.delegations.Roles.{Roles}
+use Rattle.meta.specs.declared.snapshot.Named.{Named}
+use Rattle.meta.specs.declared.hashes.Hashes.{Hashes}
+use Rattle.meta.specs.declared.header.Header.{Header}
+use Rattle.meta.specs.declared.delegations.Bins.{Bins}
 
 -- section 4.3
 pub record Root : Type 0 where
@@ -137,18 +136,19 @@ target path d = do
   hashes ← needed (codes "hashes") hashes d
   Some (record { path = path; length = length; hashes = hashes })
 
-abbrev pub one_of : Option (List (List ℕ)) → Option (List (List ℕ)) → Option Paths
-one_of (Some found) None = Some (Patterns found)
-one_of None (Some found) = Some (Prefixes found)
-one_of None None = None
-one_of (Some found) (Some other) = None
+-- the value of the one of two members that is there, where the other isn't
+abbrev pub one_of : {A B C : Type 0} → (A → C) → (B → C) → Option A → Option B → Option C
+one_of first second (Some found) None = Some (first found)
+one_of first second None (Some found) = Some (second found)
+one_of first second None None = None
+one_of first second (Some found) (Some other) = None
 
 -- exactly one of `paths` and `path_hash_prefixes`
 abbrev pub paths : Form Paths
 paths d = do
   patterns ← optional (codes "paths") (list (text_that is_pattern)) d
   prefixes ← optional (codes "path_hash_prefixes") (list (text_that is_prefix)) d
-  one_of patterns prefixes
+  one_of Patterns Prefixes patterns prefixes
 
 abbrev pub delegation : Form Delegation
 delegation d = do
@@ -167,18 +167,12 @@ bins d = do
   prefix ← needed (codes "name_prefix") text d
   Some (record { keys = keys; bits = bits; prefix = prefix })
 
-abbrev pub roles_of : Option (List Delegation) → Option Bins → Option Roles
-roles_of (Some found) None = Some (Listed found)
-roles_of None (Some found) = Some (Binned found)
-roles_of None None = None
-roles_of (Some found) (Some other) = None
-
 -- exactly one of `roles` and `succinct_roles`
 abbrev pub roles : Form Roles
 roles d = do
   found ← optional (codes "roles") (list delegation) d
   succinct ← optional (codes "succinct_roles") bins d
-  roles_of found succinct
+  one_of Listed Binned found succinct
 
 abbrev pub delegations : Form Delegations
 delegations d = do

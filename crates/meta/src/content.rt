@@ -1,10 +1,9 @@
 //! The checks of length and digests.
 
 ghost use Rattle.std.specs.Prelude.{◌≡◌, IfOk, option_map};
-ghost use Rattle.cjson.specs.Checks.{refuse_if};
-ghost use Rattle.keys.specs.Truth.{digest_by};
+ghost use Rattle.cjson.specs.Document.{refuse_if};
+ghost use Rattle.keys.specs.Keys.{digest_by};
 ghost use Rattle.meta.specs.Content as spec;
-ghost use Rattle.meta.specs.Answers.{Answers};
 
 use crate::fault::{Fault, Stop};
 use crate::hashes::Hashes;
@@ -27,7 +26,7 @@ impl Content {
     /// Whether the bytes of a file of that name are within the limit, and have the length and the
     /// digests that are listed: the first of these checks that fails (TUF 1.0 sections 5.3 to 5.7).
     pub fn check<J: Judge>(&self, file: &str, bytes: &[u8], judge: &mut J) -> Result<(), Stop>
-        ensures answer { Answers
+        ensures answer { spec.Answers
             (spec.content self.now.limit self.now.length self.now.hashes bytes.now)
             result (λ x. x) }
     {

@@ -5,7 +5,7 @@ ghost use Rattle.std.specs.List.{list_all};
 ghost use Rattle.serde_json.specs.View.{view};
 ghost use Rattle.meta.specs.Metadata as spec;
 ghost use Rattle.meta.specs.Patterns as rule;
-ghost use Rattle.cjson.specs.Reads.{Reads};
+ghost use Rattle.cjson.specs.Form.{Reads};
 
 use cjson::ReadFault;
 use cjson::form::{FromJson, needed, optional};

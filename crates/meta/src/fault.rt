@@ -1,7 +1,8 @@
 //! The faults of files.
 
 ghost use Rattle.std.specs.Prelude.{◌≡◌};
-ghost use Rattle.meta.specs.Answers.{stop_of};
+ghost use Rattle.cjson.specs.declared.fault.ReadFault.TheVariants as read;
+ghost use Rattle.meta.specs.declared.fault.Fault.TheVariants as fault;
 ghost use Rattle.meta.specs.declared.fault.Stop.TheVariants as stop;
 
 use cjson::{NoMemory, ReadFault};
@@ -67,7 +68,8 @@ impl From<Fault> for Stop {
 }
 
 impl From<ReadFault> for Stop {
-    ghost from_gives = { λ f e. e ≡ stop_of f };
+    ghost from_gives = { λ f e. (f ≡ read.Malformed → e ≡ stop.Refused fault.Malformed)
+        × (f ≡ read.NoMemory → e ≡ stop.NoMemory) };
 
     fn from(fault: ReadFault) -> Stop {
         match fault {

@@ -4,7 +4,6 @@ ghost use Rattle.std.specs.Prelude.{◌≡◌, codes};
 ghost use Rattle.serde_json.specs.View.{view};
 ghost use Rattle.cjson.specs.Form as form_of;
 ghost use Rattle.meta.specs.Metadata as spec;
-ghost use Rattle.cjson.specs.Reads.{Reads};
 
 use cjson::ReadFault;
 use cjson::form::needed;
@@ -24,7 +23,7 @@ pub struct Header {
 }
 
 pub(crate) fn read_header(alloc: Global, kind: &str, value: &Value) -> Result<Header, ReadFault>
-    ensures { Reads (spec.header kind.now (view value.now)) result }
+    ensures { form_of.Reads (spec.header kind.now (view value.now)) result }
 {
     if !is_text(value, "_type", kind) || !is_of_version_one(value) {
         return Err(ReadFault::Malformed);

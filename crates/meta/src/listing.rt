@@ -1,8 +1,7 @@
 //! How one file is listed by another.
 
 ghost use Rattle.std.specs.Prelude.{◌≡◌};
-ghost use Rattle.meta.specs.Answers.{Answers};
-ghost use Rattle.meta.specs.Content.{content};
+ghost use Rattle.meta.specs.Content.{Answers, content};
 ghost use Rattle.meta.specs.Metadata as spec;
 
 use crate::content::Content;

@@ -1,7 +1,7 @@
 //! The names under which files lie in a repository (TUF 1.0, consistent snapshots).
 ghost use Rattle.std.specs.Prelude.{◌≡◌, IfOk, string_bytes};
 ghost use Rattle.hex.specs.Hex.{encode_lower};
-ghost use Rattle.meta.specs.Names as spec;
+ghost use Rattle.meta.specs.Content as spec;
 
 use std::alloc::{AllocError, Global};
 

@@ -2,11 +2,9 @@
 
 ghost use Rattle.std.specs.Prelude.{◌≡◌, ◌≤◌, ℕ, length, Option, Ok, IfOk};
 ghost use Rattle.serde_json.specs.Data.{Data};
-ghost use Rattle.cjson.specs.DocOf.{doc_of};
-ghost use Rattle.cjson.specs.Reads.{Reads};
-ghost use Rattle.meta.specs.Reads.{document_of, reading_of};
-ghost use Rattle.meta.specs.Answers.{Answers};
-ghost use Rattle.meta.specs.Part as spec;
+ghost use Rattle.cjson.specs.Document.{doc_of};
+ghost use Rattle.cjson.specs.Form.{Reads};
+ghost use Rattle.meta.specs.Content as spec;
 
 use crate::content::refuse_if;
 use crate::fault::{Fault, Stop};
@@ -48,8 +46,7 @@ struct File<A> {
 
 impl<A: Reading> Model for Part<A> {
     ghost use Rattle.std.specs.Prelude.{◌≡◌, ◌≤◌, length, Ok};
-    ghost use Rattle.meta.specs.Part as spec;
-    ghost use Rattle.meta.specs.Reads.{reading_of};
+    ghost use Rattle.meta.specs.Content as spec;
 
     ghost Value = { spec.Part A };
 
@@ -59,14 +56,14 @@ impl<A: Reading> Model for Part<A> {
     } };
 
     ghost invariant = { λ p.
-        (reading_of A.form p.file.value.bytes.items ≡ Ok p.file.value.reading)
+        (spec.reading_of A.form p.file.value.bytes.items ≡ Ok p.file.value.reading)
         × (length p.file.value.bytes.items ≤ A.limit) };
 }
 
 impl<A: Reading + Drop> Part<A> {
     /// A file of bytes that were read, within the limit of its kind.
     pub fn new(alloc: Global, bytes: Vec<u8>, reading: A) -> Result<Part<A>, NoMemory>
-        requires read { reading_of A.form bytes.items ≡ Ok reading }
+        requires read { spec.reading_of A.form bytes.items ≡ Ok reading }
         requires limit { length bytes.items ≤ A.limit }
         ensures value { IfOk result (λ p. p
             ≡ record { bytes = bytes.items; reading = reading }) }
@@ -78,7 +75,7 @@ impl<A: Reading + Drop> Part<A> {
     /// The file of these bytes: `TooLong` over the limit of its kind, else what its reading
     /// answers.
     pub fn read(alloc: Global, bytes: Vec<u8>) -> Result<Part<A>, Stop>
-        ensures answer { Answers (spec.part_of A.form A.limit bytes.items) result (λ p. p) }
+        ensures answer { spec.Answers (spec.part_of A.form A.limit bytes.items) result (λ p. p) }
     {
         refuse_if(bytes.len() as u64 > A::limit(), Fault::TooLong)?;
         let doc = read_document(alloc, &bytes)?;
@@ -105,7 +102,7 @@ impl<A: Reading + Drop> Part<A> {
     /// What is read from the bytes.
     pub fn reading(&self) -> &A
         ensures value { result.now ≡ self.now.reading }
-        ensures read { reading_of A.form self.now.bytes ≡ Ok result.now }
+        ensures read { spec.reading_of A.form self.now.bytes ≡ Ok result.now }
     {
         &self.file.reading
     }
@@ -113,7 +110,7 @@ impl<A: Reading + Drop> Part<A> {
 
 /// The document of a file's bytes, or `Malformed` where they are none.
 pub fn read_document(alloc: Global, bytes: &[u8]) -> Result<Doc, Stop>
-    ensures document { Answers (document_of bytes.now) result doc_of }
+    ensures document { spec.Answers (spec.document_of bytes.now) result doc_of }
 {
     match signed_bytes(alloc, bytes) {
         Ok(doc) => Ok(doc),

@@ -3,8 +3,8 @@
 ghost use Rattle.std.specs.Prelude.{◌≡◌};
 ghost use Rattle.serde_json.specs.View.{view};
 ghost use Rattle.meta.specs.Metadata as spec;
-ghost use Rattle.meta.specs.Part.{root_limit};
-ghost use Rattle.cjson.specs.Reads.{Reads};
+ghost use Rattle.meta.specs.Content.{root_limit};
+ghost use Rattle.cjson.specs.Form.{Reads};
 
 use crate::delegation::flag;
 use crate::header::{Header, read_header};

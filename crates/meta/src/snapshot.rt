@@ -2,7 +2,7 @@
 
 ghost use Rattle.std.specs.Prelude.{◌≡◌};
 ghost use Rattle.meta.specs.Metadata as spec;
-ghost use Rattle.meta.specs.Part.{snapshot_limit};
+ghost use Rattle.meta.specs.Content.{snapshot_limit};
 
 use crate::header::{Header, read_header};
 use crate::listing::Listing;

@@ -1,10 +1,8 @@
 //! Targets files, top-level and delegated.
 
 ghost use Rattle.std.specs.Prelude.{◌≡◌, IfOk, Some, option_map};
-ghost use Rattle.meta.specs.Answers.{Answers};
-ghost use Rattle.meta.specs.Content.{content};
+ghost use Rattle.meta.specs.Content.{Answers, content, targets_limit};
 ghost use Rattle.meta.specs.Metadata as spec;
-ghost use Rattle.meta.specs.Part.{targets_limit};
 
 use crate::content::Content;
 use crate::delegations::Delegations;

@@ -1,3 +1,1 @@
 pub mod Lines
-pub mod Quote
-pub mod Status

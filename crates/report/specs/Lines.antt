@@ -1,14 +1,31 @@
--- The lines that a run prints.
-use Rattle.std.specs.Prelude.{ℕ, List, [], ◌∷◌, ◌++◌, flat_map, zip, codes, decimal}
-use Rattle.std.specs.List.{enumerate_from}
+-- The lines that a run prints, and its exit status.
+use Rattle.std.specs.List.{enumerate_from, list_all, slice_get}
+use Rattle.std.specs.Option.{option_map_or}
+use Rattle.std.specs.Prelude.{ℕ, Bool, not, ◌&&◌, ◌==◌, nat_le, List, [], ◌∷◌, ◌++◌, if◌then◌else◌, flat_map, zip, codes, decimal, ◌-◌, true, false, length}
+use Rattle.hex.specs.Hex.{encode_lower}
 use Rattle.meta.specs.declared.fault.Fault.TheVariants.{NotListed, TooLong, LengthWrong, HashWrong, NoKnownHash, Malformed, Unsigned, VersionWrong, Rollback, Expired, Missing}
-use Rattle.rolechain.specs.declared.end.Step.{Step}
 pub use Rattle.rolechain.specs.declared.end.Step.TheVariants.{Root, Timestamp, Snapshot, Targets}
+use Rattle.rolechain.specs.declared.end.Step.{Step}
 use Rattle.cycle.specs.Workflow.{Fault, End, Ready, Stopped, Accepted, Outcome}
-use Rattle.cycle.specs.declared.verdict.Verdict.{Verdict}
 use Rattle.cycle.specs.declared.verdict.Verdict.TheVariants.{Good, NotFound, LimitReached, RoleRefused, FileRefused, NotSearched}
-use Rattle.failure.specs.Line.{line}
-use Rattle.report.specs.Quote.{quoted_text}
+use Rattle.cycle.specs.declared.verdict.Verdict.{Verdict}
+use Rattle.failure.specs.Failures.{line}
+
+-- # How a name is printed, so that it stands on one line and between quotes.
+
+-- whether the byte stands for itself: 0x20 to 0x7e, but neither `"` nor `\`
+abbrev pub is_plain : ℕ → Bool
+is_plain byte = nat_le 32 byte && nat_le byte 126 && not (byte == 34) && not (byte == 92)
+
+-- a plain byte, or else `\x` and two lower-case hexadecimal digits
+abbrev pub quoted_byte : ℕ → List ℕ
+quoted_byte byte = if is_plain byte then byte ∷ [] else 92 ∷ 120 ∷ encode_lower (byte ∷ [])
+
+-- each byte of the name, between double quotes
+abbrev pub quoted_text : List ℕ → List ℕ
+quoted_text name = 34 ∷ [] ++ flat_map quoted_byte name ++ 34 ∷ []
+
+-- # The lines.
 
 -- ---- words
 
@@ -78,3 +95,23 @@ cycle_text wanted (number, o) = line (codes "cycle" ∷ decimal number ∷ []) +
 -- one cycle after another, numbered from 1
 abbrev pub cycles_text : List (List ℕ) → List Outcome → List ℕ
 cycles_text wanted os = flat_map (cycle_text wanted) (enumerate_from 1 os)
+
+-- # The exit status of a whole run.
+
+-- whether the target was found and its file accepted
+abbrev pub is_good : Verdict → Bool
+is_good (Good role length) = true
+is_good _ = false
+
+-- 2 where the cycle stopped, else 0 where all verdicts are good, else 1
+abbrev pub status_of : End → Bool → ℕ
+status_of Ready true = 0
+status_of Ready false = 1
+status_of (Stopped step fault) all_good = 2
+
+abbrev pub outcome_status : Outcome → ℕ
+outcome_status o = status_of o.end (list_all is_good o.verdicts)
+
+-- the status of the last of the outcomes, and 0 where there is none
+abbrev pub last_status : List Outcome → ℕ
+last_status os = option_map_or outcome_status (slice_get os (length os - 1)) 0

@@ -1,8 +1,7 @@
 //! The lines of one cycle after another.
 ghost use Rattle.std.specs.Prelude.{◌≡◌, ◌≤◌, ◌⊎◌, ℕ, ◌++◌, IfErr, IfOk, OnOk, map, string_bytes};
 ghost use Rattle.std.specs.Io.KnownBytes.{Appends};
-ghost use Rattle.report.specs.Lines.{cycle_text, cycles_text};
-ghost use Rattle.report.specs.Status as spec;
+ghost use Rattle.report.specs.Lines as spec;
 
 use crate::lines::{push_outcome, put, status_of};
 use cycle::Outcome;
@@ -19,7 +18,7 @@ pub fn tell_cycles<W: Write>(
     out: &mut W,
 ) -> Result<u8, Failure>
     ensures written { OnOk result (Appends (W.contents out.old) (W.contents out.new)
-        (cycles_text (map string_bytes wanted.now) outcomes.now)) }
+        (spec.cycles_text (map string_bytes wanted.now) outcomes.now)) }
     ensures status { IfOk result (λ status. status ≡ spec.last_status outcomes.now) }
     ensures known { IfOk result (λ status. status ≤ 2) }
     ensures refused { IfErr result (λ f. (f ≡ Failure.Memory) ⊎ (f ≡ Failure.Output)) }
@@ -43,7 +42,7 @@ fn last_status(outcomes: &[Outcome]) -> u8
 /// All lines of the cycles.
 fn text_of(alloc: Global, outcomes: &[Outcome], wanted: &[String]) -> Result<String, AllocError>
     ensures lines { IfOk result (λ text. string_bytes text
-        ≡ cycles_text (map string_bytes wanted.now) outcomes.now) }
+        ≡ spec.cycles_text (map string_bytes wanted.now) outcomes.now) }
 {
     let mut text = String::new(alloc);
     for (place, outcome) in outcomes.iter().enumerate() {
@@ -61,7 +60,7 @@ fn push_cycle(
     wanted: &[String],
 ) -> Result<(), AllocError>
     ensures lines { OnOk result (string_bytes text.new ≡ string_bytes text.old
-        ++ cycle_text (map string_bytes wanted.now) (number, outcome.now)) }
+        ++ spec.cycle_text (map string_bytes wanted.now) (number, outcome.now)) }
 {
     writeln!(text, "cycle {number}")?;
     push_outcome(alloc, text, outcome, wanted)

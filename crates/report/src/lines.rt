@@ -2,11 +2,9 @@
 ghost use Rattle.std.specs.Prelude.{◌≡◌, ◌≤◌, ◌⊎◌, ◌↔◌, [], ◌∷◌, ◌++◌, true, All, IfErr, IfOk};
 ghost use Rattle.std.specs.Prelude.{OnOk, codes, decimal, flat_map, map, string_bytes};
 ghost use Rattle.std.specs.Io.KnownBytes.{Appends};
-ghost use Rattle.failure.specs.Line as words;
+ghost use Rattle.failure.specs.Failures as words;
 ghost use Rattle.report.specs.Lines as spec;
-ghost use Rattle.report.specs.Quote.{quoted_text};
 ghost use Rattle.std.specs.List.{list_all};
-ghost use Rattle.report.specs.Status.{is_good, outcome_status, status_of};
 
 use crate::quote::quoted;
 use cycle::{Accepted, End, Fault, Outcome, Step, Verdict};
@@ -25,7 +23,7 @@ pub fn tell<W: Write>(
 ) -> Result<u8, Failure>
     ensures written { OnOk result (Appends (W.contents out.old) (W.contents out.new)
         (spec.outcome_text outcome.now (map string_bytes wanted.now))) }
-    ensures status { IfOk result (λ status. status ≡ outcome_status outcome.now) }
+    ensures status { IfOk result (λ status. status ≡ spec.outcome_status outcome.now) }
     ensures known { IfOk result (λ status. status ≤ 2) }
     ensures refused { IfErr result (λ f. (f ≡ Failure.Memory) ⊎ (f ≡ Failure.Output)) }
 {
@@ -38,7 +36,7 @@ pub fn tell<W: Write>(
 /// The status of an outcome that ends so, with these verdicts.
 #[tactic(auto, using(crate::proofs::Statuses::all_good))]
 pub(crate) fn status_of(end: End, verdicts: &[Verdict]) -> u8
-    ensures status { result ≡ status_of end (list_all is_good verdicts.now) }
+    ensures status { result ≡ spec.status_of end (list_all spec.is_good verdicts.now) }
     ensures known { result ≤ 2 }
 {
     if end != End::Ready {
@@ -51,13 +49,13 @@ pub(crate) fn status_of(end: End, verdicts: &[Verdict]) -> u8
 }
 
 fn all_good(verdicts: &[Verdict]) -> bool
-    ensures test { (result ≡ true) ↔ All (λ v. is_good v ≡ true) verdicts.now }
+    ensures test { (result ≡ true) ↔ All (λ v. spec.is_good v ≡ true) verdicts.now }
 {
     verdicts.iter().all(accepts)
 }
 
 fn accepts(verdict: &Verdict) -> bool
-    ensures { result ≡ is_good verdict.now }
+    ensures { result ≡ spec.is_good verdict.now }
 {
     matches!(verdict, Verdict::Good { .. })
 }
@@ -170,8 +168,8 @@ fn push_good(
     role: &str,
 ) -> Result<(), AllocError>
     ensures line { OnOk result (string_bytes text.new ≡ string_bytes text.old
-        ++ words.line (codes "ok" ∷ quoted_text path.now ∷ decimal length
-        ∷ quoted_text role.now ∷ [])) }
+        ++ words.line (codes "ok" ∷ spec.quoted_text path.now ∷ decimal length
+        ∷ spec.quoted_text role.now ∷ [])) }
 {
     let path = quoted(alloc, path)?;
     let role = quoted(alloc, role)?;
@@ -181,7 +179,7 @@ fn push_good(
 /// Adds the line `no PATH WHY`.
 fn push_no(alloc: Global, text: &mut String, path: &str, why: &str) -> Result<(), AllocError>
     ensures line { OnOk result (string_bytes text.new ≡ string_bytes text.old
-        ++ words.line (codes "no" ∷ quoted_text path.now ∷ why.now ∷ [])) }
+        ++ words.line (codes "no" ∷ spec.quoted_text path.now ∷ why.now ∷ [])) }
 {
     let path = quoted(alloc, path)?;
     writeln!(text, "no {path} {why}")
@@ -196,8 +194,8 @@ fn push_refused(
     role: &str,
 ) -> Result<(), AllocError>
     ensures line { OnOk result (string_bytes text.new ≡ string_bytes text.old
-        ++ words.line (codes "no" ∷ quoted_text path.now ∷ spec.fault_word fault
-        ∷ quoted_text role.now ∷ [])) }
+        ++ words.line (codes "no" ∷ spec.quoted_text path.now ∷ spec.fault_word fault
+        ∷ spec.quoted_text role.now ∷ [])) }
 {
     let path = quoted(alloc, path)?;
     let role = quoted(alloc, role)?;

@@ -1,7 +1,7 @@
 //! Names as they are printed.
 ghost use Rattle.std.specs.Prelude.{◌≡◌, [], ◌∷◌, ◌++◌, IfOk, OnOk, string_bytes};
 ghost use Rattle.hex.specs.Hex.{encode_lower};
-ghost use Rattle.report.specs.Quote.{quoted_byte, quoted_text};
+ghost use Rattle.report.specs.Lines.{quoted_byte, quoted_text};
 
 use std::alloc::{AllocError, Global};
 

@@ -1,16 +1,14 @@
 -- The chain of roots, a root at a time.
 use Rattle.std.proofs.Common.{◌≡◌, ℕ, zero, suc, Option, Some, None, Result, Ok, Err, ◌<◌, ◌+◌, refl, sym, ap, ◌∙◌, subst, arith}
-use Rattle.cjson.specs.Checks.{◌>>=◌}
+use Rattle.cjson.specs.Document.{◌>>=◌}
 use Rattle.moment.specs.Moment.{Moment}
 use Rattle.meta.specs.Metadata.{Root}
-use Rattle.meta.specs.Part.{Part}
+use Rattle.meta.specs.Content.{Part}
 use Rattle.meta.specs.declared.fault.Fault.{Fault}
 use Rattle.examine.specs.Checks.{Files}
-use Rattle.rolechain.specs.State.{State}
+use Rattle.rolechain.specs.Advance.{State, Advanced, or_stop, with_root, successor, chained, followed, Leaves}
 use Rattle.rolechain.specs.declared.end.Step.TheVariants as step
 use Rattle.rolechain.specs.declared.end.Halt.{Halt}
-use Rattle.rolechain.specs.Advance.{Advanced, or_stop, with_root, successor, chained, followed}
-use Rattle.rolechain.specs.Answers.{Leaves}
 
 module _ (files : Files) (now : Moment) where
   -- what follows the answer of the next root, with so many roots to go behind it

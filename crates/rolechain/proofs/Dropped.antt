@@ -1,16 +1,14 @@
 -- What a chain of roots leaves of the timestamp and of the snapshot.
 use Rattle.std.proofs.Common.{◌≡◌, ℕ, zero, suc, ◌||◌, [], ◌∷◌, Bool, true, false, Option, Some, None, Result, Ok, Err, refl, ap, ◌∙◌, subst}
 use Rattle.std.specs.Prelude.{if◌then◌else◌, ⊤}
-use Rattle.cjson.specs.Checks.{◌>>=◌}
+use Rattle.cjson.specs.Document.{◌>>=◌}
 use Rattle.moment.specs.Moment.{Moment}
 use Rattle.meta.specs.Metadata.{Root, Timestamp, Snapshot, Targets}
-use Rattle.meta.specs.Part.{Part}
+use Rattle.meta.specs.Content.{Part}
 use Rattle.meta.specs.declared.fault.Fault.{Fault}
 use Rattle.examine.specs.Checks.{Files, expiry_check}
-use Rattle.rolechain.specs.State.{State}
+use Rattle.rolechain.specs.Advance.{State, Advanced, or_stop, is_rotated, with_root, with_newer, successor, followed, most_roots, unexpired, root_step, newer_timestamp, timestamp_step, listed_snapshot, snapshot_step, listed_targets, targets_step, steps, ended, advanced, AreChained, IsDropped, IsRootStep, rotates, last_root, is_early}
 use Rattle.rolechain.specs.declared.end.Step.TheVariants as step
-use Rattle.rolechain.specs.Advance.{Advanced, or_stop, is_rotated, with_root, with_newer, successor, followed, most_roots, unexpired, root_step, newer_timestamp, timestamp_step, listed_snapshot, snapshot_step, listed_targets, targets_step, steps, ended, advanced}
-use Rattle.rolechain.specs.Roots.{AreChained, IsDropped, IsRootStep, rotates, last_root, is_early}
 use Rattle.rolechain.proofs.Chain.{behind}
 use Rattle.rolechain.proofs.Longest.{with_root-root}
 

@@ -1,19 +1,17 @@
 -- Steps one after another.
 use Rattle.std.proofs.Common.{◌≡◌, Result, Ok, Err, ap, sym, subst, ◌∙◌}
 use Rattle.std.specs.Prelude.{⊤}
-use Rattle.cjson.specs.Checks.{◌>>=◌}
+use Rattle.cjson.specs.Document.{◌>>=◌}
 use Rattle.cjson.specs.declared.fault.NoMemory.{NoMemory}
-use Rattle.meta.specs.Answers.{Answers}
+use Rattle.meta.specs.Content.{Answers}
 use Rattle.meta.specs.declared.fault.Fault.{Fault}
 use Rattle.meta.specs.declared.fault.Stop.{Stop}
 use Rattle.meta.specs.declared.fault.Stop.TheVariants as stop
-use Rattle.rolechain.specs.State.{State}
+use Rattle.rolechain.specs.Advance.{State, Advanced, or_stop, ended, advanced_of, or_halt, Leaves, Ends}
 use Rattle.rolechain.specs.declared.end.Step.{Step}
 use Rattle.rolechain.specs.declared.end.End.{End}
 use Rattle.rolechain.specs.declared.end.Halt.{Halt}
 use Rattle.rolechain.specs.declared.end.Halt.TheVariants as halt
-use Rattle.rolechain.specs.Advance.{Advanced, or_stop, ended}
-use Rattle.rolechain.specs.Answers.{advanced_of, or_halt, Leaves, Ends}
 
 -- the rest of the steps, from where the first one left
 pub goes_on : (r : Result State Advanced) (f : State → Result State Advanced) (s t : State) (answer : Result ⊤ Halt) → r ≡ Ok s

@@ -1,18 +1,16 @@
 -- The last root that a cycle trusts is the last of the longest chain.
 use Rattle.std.proofs.Common.{◌≡◌, ℕ, zero, suc, Bool, true, false, Option, Some, None, Result, Ok, Err, inl, inr, refl, sym, ap, ◌∙◌, subst, arith}
 use Rattle.std.specs.Prelude.{if◌then◌else◌}
-use Rattle.cjson.specs.Checks.{◌>>=◌}
+use Rattle.cjson.specs.Document.{◌>>=◌}
 use Rattle.moment.specs.Moment.{Moment}
 use Rattle.meta.specs.Metadata.{Root, Timestamp}
-use Rattle.meta.specs.Part.{Part}
+use Rattle.meta.specs.Content.{Part}
 use Rattle.meta.specs.declared.fault.Fault.{Fault}
 use Rattle.examine.specs.Checks.{Files, expiry_check}
-use Rattle.rolechain.specs.State.{State}
+use Rattle.rolechain.specs.Advance.{State, Advanced, or_stop, is_rotated, with_root, with_newer, with_snapshot, with_targets, successor, followed, most_roots, unexpired, root_step, newer_timestamp, timestamp_step, listed_snapshot, snapshot_step, listed_targets, targets_step, steps, ended, advanced, IsLongestChain, IsRootStep}
 use Rattle.rolechain.specs.declared.end.Step.{Step}
 use Rattle.rolechain.specs.declared.end.Step.TheVariants as step
-use Rattle.rolechain.specs.Advance.{Advanced, or_stop, is_rotated, with_root, with_newer, with_snapshot, with_targets, successor, followed, most_roots, unexpired, root_step, newer_timestamp, timestamp_step, listed_snapshot, snapshot_step, listed_targets, targets_step, steps, ended, advanced}
 use Rattle.rolechain.proofs.Chain.{behind}
-use Rattle.rolechain.specs.Roots.{IsLongestChain, IsRootStep}
 
 root_of_rotated : (b : Bool) (s t : State) (r : Part Root) → s.root ≡ r → t.root ≡ r → (if b then s else t).root ≡ r
 root_of_rotated true s t r p q = p

@@ -1,17 +1,15 @@
 -- A cycle that ends ready leaves a ready state.
 use Rattle.std.proofs.Common.{◌≡◌, ℕ, zero, suc, Bool, true, false, ◌&&◌, Option, Some, None, Result, Ok, Err, is_some, refl, ap}
-use Rattle.cjson.specs.Checks.{◌>>=◌}
+use Rattle.cjson.specs.Document.{◌>>=◌}
 use Rattle.moment.specs.Moment.{Moment}
 use Rattle.meta.specs.Metadata.{Root, Timestamp}
-use Rattle.meta.specs.Part.{Part}
+use Rattle.meta.specs.Content.{Part}
 use Rattle.meta.specs.declared.fault.Fault.{Fault}
 use Rattle.examine.specs.Checks.{Files, expiry_check, first_timestamp}
-use Rattle.rolechain.specs.State.{State, is_ready}
-use Rattle.rolechain.specs.Expected.{due_timestamp}
+use Rattle.rolechain.specs.Advance.{State, is_ready, due_timestamp, Advanced, or_stop, with_root, with_newer, successor, chained, followed, unexpired, root_step, renewed, newer_timestamp, timestamp_step, listed_snapshot, snapshot_step, listed_targets, targets_step, steps, ended, advanced}
 use Rattle.rolechain.specs.declared.end.Step.{Step}
 use Rattle.rolechain.specs.declared.end.Step.TheVariants as step
 use Rattle.rolechain.specs.declared.end.End.TheVariants.{Ready}
-use Rattle.rolechain.specs.Advance.{Advanced, or_stop, with_root, with_newer, successor, chained, followed, unexpired, root_step, renewed, newer_timestamp, timestamp_step, listed_snapshot, snapshot_step, listed_targets, targets_step, steps, ended, advanced}
 
 -- where a step goes on, the state passes the test; a stop isn't ready
 abbrev Gives : (State → Bool) → Result State Advanced → Type 0

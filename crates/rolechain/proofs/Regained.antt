@@ -6,21 +6,18 @@ use Rattle.std.proofs.lemmas.Slice.Eq.{bytes_eq-Decides}
 use Rattle.hex.specs.Hex.{IsBytes}
 use Rattle.serde_json.specs.Data.{Data}
 use Rattle.serde_json.specs.Read.{read}
-use Rattle.cjson.specs.Checks.{◌>>=◌, refuse_if, or_refuse}
-use Rattle.cjson.specs.Document.{Document, tree_of, document}
+use Rattle.cjson.specs.Document.{◌>>=◌, refuse_if, or_refuse, Document, tree_of, document}
 use Rattle.cjson.specs.Form.{Form}
 use Rattle.cjson.specs.declared.fault.DocFault.{DocFault}
 use Rattle.cjson.specs.declared.fault.DocFault.TheVariants.{NotJson}
 use Rattle.cjson.specs.declared.fault.NoMemory.{NoMemory}
 use Rattle.meta.specs.Metadata.{Root, Timestamp, Snapshot, Targets}
 use Rattle.meta.specs.Metadata as form
-use Rattle.meta.specs.Part.{Part, part_of, root_limit, timestamp_limit, snapshot_limit, targets_limit}
-use Rattle.meta.specs.Reads.{or_malformed, document_of, formed, reading_of}
+use Rattle.meta.specs.Content.{Part, part_of, root_limit, timestamp_limit, snapshot_limit, targets_limit, or_malformed, document_of, formed, reading_of}
 use Rattle.meta.specs.declared.fault.Fault.{Fault}
 use Rattle.meta.specs.declared.fault.Fault.TheVariants as fault
-use Rattle.rolechain.specs.State.{State}
-use Rattle.rolechain.specs.Parts.{IsRead, AreRead}
-use Rattle.rolechain.specs.Kept.{Kept, kept, kept_of, bytes_in, kept_text, is_over, has_long, kept_tree}
+use Rattle.rolechain.specs.Advance.{State}
+use Rattle.rolechain.specs.Kept.{IsRead, AreRead, Kept, kept, kept_of, bytes_in, kept_text, is_over, has_long, kept_tree}
 use Rattle.rolechain.specs.Text.{or_state_fault, part_in, state_in, kept_in, state_of, ReadsState}
 use Rattle.rolechain.specs.declared.fault.StateFault.{StateFault}
 use Rattle.rolechain.specs.declared.fault.StateFault.TheVariants.{TooLong, Malformed}

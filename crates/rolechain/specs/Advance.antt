@@ -1,16 +1,81 @@
 -- The client workflow up to the top-level targets file (TUF 1.0 sections 5.3 to 5.6), in its order.
-use Rattle.std.specs.Prelude.{ℕ, zero, suc, ◌+◌, nat_le, ◌||◌, ◌&&◌, not, if◌then◌else◌, List, Bool, Option, Some, None, is_some, Result, Ok, Err, bytes_eq}
+use Rattle.std.specs.Prelude.{◌&&◌, Bool, Option, None, is_some, ℕ, ◌+◌, List, find, bytes_eq, codes, zero, suc, nat_le, ◌||◌, not, if◌then◌else◌, Some, Result, Ok, Err, ◌≡◌, ⊤, ◌≤◌, ◌⊎◌, [], ◌∷◌, true, false, option_map}
 use Rattle.std.specs.List.{list_all, list_any}
-use Rattle.cjson.specs.Checks.{◌>>=◌, refuse_if, or_refuse}
+use Rattle.std.specs.Option.{option_map_or}
 use Rattle.cjson.specs.Form.{greatest}
-use Rattle.meta.specs.Names.{root_name}
-pub use Rattle.examine.specs.Checks.{RoleKeys, Moment, Root, Timestamp, Snapshot, Targets, Part, Fault, NotListed, Expired, Files, is_expired, expiry_check, root_part, first_timestamp, next_timestamp, snapshot_part, targets_part}
-pub use Rattle.rolechain.specs.State.{State}
-use Rattle.rolechain.specs.Expected.{next_root, due_timestamp, next_snapshot, top_targets}
-pub use Rattle.rolechain.specs.declared.end.Step.{Step}
-use Rattle.rolechain.specs.declared.end.Step.TheVariants as step
-pub use Rattle.rolechain.specs.declared.end.End.{End}
+use Rattle.cjson.specs.Document.{◌>>=◌, refuse_if, or_refuse}
+use Rattle.cjson.specs.declared.fault.NoMemory.{NoMemory}
+pub use Rattle.meta.specs.Content.{Part, versioned, root_name, role_name}
+pub use Rattle.meta.specs.Metadata.{Root, Timestamp, Snapshot, Targets}
+use Rattle.meta.specs.declared.fault.Stop.{Stop}
+use Rattle.meta.specs.declared.fault.Stop.TheVariants as stop
+pub use Rattle.examine.specs.Checks.{Key, Listing, listed_version, Expectation, RoleKeys, Moment, Fault, NotListed, Expired, Files, is_expired, expiry_check, root_part, first_timestamp, next_timestamp, snapshot_part, targets_part}
+use Rattle.examine.specs.declared.expectation.Listed.TheVariants.{Absent, As, NotDue}
+use Rattle.examine.specs.declared.expectation.Listed.{Listed}
 pub use Rattle.rolechain.specs.declared.end.End.TheVariants.{Ready, Stopped}
+use Rattle.rolechain.specs.declared.end.End.TheVariants as end
+use Rattle.rolechain.specs.declared.end.Step.TheVariants as step
+use Rattle.rolechain.specs.declared.end.Halt.{Halt}
+pub use Rattle.rolechain.specs.declared.end.Step.{Step}
+pub use Rattle.rolechain.specs.declared.end.End.{End}
+use Rattle.rolechain.specs.declared.end.Halt.TheVariants as halt
+
+-- # What is trusted (TUF 1.0 section 5).
+
+-- the root, and each where trusted, the timestamp, snapshot and top-level targets file
+pub record State : Type 0 where
+  pub root : Part Root
+  pub timestamp : Option (Part Timestamp)
+  pub snapshot : Option (Part Snapshot)
+  pub targets : Option (Part Targets)
+
+-- all four are there
+abbrev pub is_ready : State → Bool
+is_ready s = is_some s.timestamp && is_some s.snapshot && is_some s.targets
+
+-- a root alone
+abbrev pub first : Part Root → State
+first root = record { root = root; timestamp = None; snapshot = None; targets = None }
+
+-- # What each file of the workflow is expected to be (TUF 1.0 sections 5.3 to 5.7).
+
+abbrev pub expected : List ℕ → Listed → List Key → RoleKeys → Expectation
+expected name listed ring role = record { name = name; listed = listed; ring = ring; role = role }
+
+-- the root that follows
+abbrev pub next_root : Root → Expectation
+next_root r = expected (root_name (r.header.version + 1)) NotDue r.ring r.root
+
+abbrev pub due_timestamp : Root → Expectation
+due_timestamp r = expected (codes "timestamp.json") NotDue r.ring r.timestamp
+
+-- as the timestamp lists it
+abbrev pub next_snapshot : Root → Listing → Expectation
+next_snapshot r l =
+    expected (versioned r.consistent l.version (codes "snapshot.json")) (As l) r.ring r.snapshot
+
+-- how the snapshot lists a role
+abbrev pub listing_of : List ℕ → Snapshot → Listed
+listing_of role snap =
+    option_map_or (λ n. As n.listing)
+    (find (λ n. bytes_eq n.name (role_name role)) snap.files) Absent
+
+-- the name under which a role's file lies
+abbrev pub file_name : Root → List ℕ → Listed → List ℕ
+file_name r role l =
+    option_map_or (λ version. versioned r.consistent version (role_name role))
+    (listed_version l) (role_name role)
+
+-- a role's targets file, by the keys of the file that delegates to it
+abbrev pub next_targets : Root → Snapshot → List ℕ → List Key → RoleKeys → Expectation
+next_targets r snap role ring keys =
+    expected (file_name r role (listing_of role snap)) (listing_of role snap) ring keys
+
+-- the top-level targets file
+abbrev pub top_targets : Root → Snapshot → Expectation
+top_targets r snap = next_targets r snap (codes "targets") r.ring r.targets
+
+-- # The workflow, step by step.
 
 -- the state that the cycle leaves, and how it ended
 pub record Advanced : Type 0 where
@@ -62,8 +127,7 @@ abbrev pub with_targets : State → Part Targets → State
 with_targets s p = record s { targets = Some p }
 
 abbrev pub reading_in : {A : Type 0} → Option (Part A) → Option A
-reading_in None = None
-reading_in (Some p) = Some p.reading
+reading_in p = option_map (λ p. p.reading) p
 
 -- the most roots that a cycle accepts
 abbrev pub most_roots : ℕ
@@ -174,3 +238,79 @@ ended (Err a) = a
 
 abbrev pub advanced : Files → Moment → State → Advanced
 advanced files now s = ended (steps files now s)
+
+-- # The chain of roots (TUF 1.0 section 5.3).
+
+-- two neighbours of a root and those behind it list other keys for the timestamp or the snapshot
+abbrev pub rotates : Part Root → List (Part Root) → Bool
+rotates a [] = false
+rotates a (b ∷ more) = is_rotated a.reading b.reading || rotates b more
+
+abbrev pub last_root : Part Root → List (Part Root) → Part Root
+last_root a [] = a
+last_root a (b ∷ more) = last_root b more
+
+-- a cycle that stops at a root or at the timestamp
+abbrev pub is_early : End → Bool
+is_early Ready = false
+is_early (Stopped step.Root fault) = true
+is_early (Stopped step.Timestamp fault) = true
+is_early (Stopped step.Snapshot fault) = false
+is_early (Stopped step.Targets fault) = false
+
+module _ (files : Files) (now : Moment) where
+  -- from a root to one of the next version, signed as the root before and as it itself asks
+  abbrev pub IsRootStep : Part Root → Part Root → Type 0
+  IsRootStep a b = successor files now a.reading ≡ Ok (Some b)
+
+  -- so many root steps from the one root to the other
+  abbrev pub IsChain : ℕ → Part Root → Part Root → Type 0
+  IsChain zero a b = a ≡ b
+  IsChain (suc n) a b = (next : Part Root) × IsRootStep a next × IsChain n next b
+
+  -- the longest chain from the one root ends at the other, or a chain of `most` steps does
+  abbrev pub IsLongestChain : ℕ → Part Root → Part Root → Type 0
+  IsLongestChain most a b =
+      (n : ℕ) × (n ≤ most) × IsChain n a b
+      × ((n ≡ most) ⊎ ((next : Part Root) → ¬ IsRootStep b next))
+
+  -- each root is a root step from the one before it
+  abbrev pub AreChained : Part Root → List (Part Root) → Type 0
+  AreChained a [] = Unit {0}
+  AreChained a (b ∷ more) = IsRootStep a b × AreChained b more
+
+  -- the roots of a chain were trusted, and the timestamp and the snapshot are gone exactly where
+  -- two neighbours of it are rotated (5.3.11)
+  pub record IsDropped (old new : State) : Type 0 where
+    pub roots : List (Part Root)
+    pub chained : AreChained old.root roots
+    pub last : last_root old.root roots ≡ new.root
+    pub timestamp : new.timestamp ≡ (if rotates old.root roots then None else old.timestamp)
+    pub snapshot : new.snapshot ≡ (if rotates old.root roots then None else old.snapshot)
+
+-- # What the values of the program stand for.
+
+abbrev pub advanced_of : State × End → Advanced
+advanced_of r = record { state = r.0; end = r.1 }
+
+-- a check that ends early, in a step of the cycle
+abbrev pub halt_of : Step → Stop → Halt
+halt_of at (stop.Refused fault) = halt.Stopped at fault
+halt_of at stop.NoMemory = halt.NoMemory
+
+abbrev pub or_halt : {A : Type 0} → Step → Result A Stop → Result A Halt
+or_halt at (Ok x) = Ok x
+or_halt at (Err why) = Err (halt_of at why)
+
+-- a step that goes on from the state, or stops the cycle with it; want of memory says nothing
+abbrev pub Leaves : Result State Advanced → Result ⊤ Halt → State → Type 0
+Leaves r (Ok done) s = r ≡ Ok s
+Leaves r (Err (halt.Stopped at fault)) s = r ≡ Err (stops s at fault)
+Leaves r (Err halt.NoMemory) s = Unit {0}
+
+-- how the cycle ends then
+abbrev pub Ends : Result ⊤ Halt → Result End NoMemory → Type 0
+Ends (Ok done) r = r ≡ Ok end.Ready
+Ends (Err (halt.Stopped at fault)) r = r ≡ Ok (end.Stopped at fault)
+Ends (Err halt.NoMemory) (Ok e) = ⊥
+Ends (Err halt.NoMemory) (Err e) = Unit {0}

@@ -1,13 +1,28 @@
--- The files that a state file keeps.
-use Rattle.std.specs.Prelude.{ℕ, ◌||◌, nat_lt, List, [], ◌∷◌, ◌++◌, length, Bool, false, Option, Some, None, codes}
+-- The trusted files, and what a state file keeps of them.
+use Rattle.std.specs.Prelude.{◌≡◌, ℕ, IfSome, Ok, ◌||◌, nat_lt, List, [], ◌∷◌, ◌++◌, length, Bool, false, Option, Some, None, codes, option_map}
 use Rattle.std.specs.Option.{option_map_or}
 use Rattle.serde_json.specs.Data.{Data, string, object, Members, no_members, member}
 use Rattle.serde_json.specs.Find.{as_str}
 use Rattle.hex.specs.Hex.{encode_lower, decode_of}
-use Rattle.cjson.specs.Option.{◌>>=◌}
-use Rattle.cjson.specs.Form.{needed, optional, ok}
-use Rattle.meta.specs.Part.{Form, Part, root_limit, timestamp_limit, snapshot_limit, targets_limit}
-pub use Rattle.rolechain.specs.State.{State}
+use Rattle.cjson.specs.Form.{needed, optional, ok, ◌>>=◌}
+use Rattle.meta.specs.Metadata as form
+use Rattle.meta.specs.Content.{Form, Part, part_of, root_limit, timestamp_limit, snapshot_limit, targets_limit}
+pub use Rattle.rolechain.specs.Advance.{State}
+
+-- # Every trusted file is the reading of its bytes (TUF 1.0 section 4).
+
+-- the file is what its bytes are read as, and they are within the limit
+abbrev pub IsRead : {A : Type 0} → Form A → ℕ → Part A → Type 0
+IsRead form limit p = part_of form limit p.bytes ≡ Ok p
+
+-- so is each file of the state, by the form and the limit of its kind
+pub record AreRead (s : State) : Type 0 where
+  pub root : IsRead form.root root_limit s.root
+  pub timestamp : IfSome s.timestamp (IsRead form.timestamp timestamp_limit)
+  pub snapshot : IfSome s.snapshot (IsRead form.snapshot snapshot_limit)
+  pub targets : IfSome s.targets (IsRead form.targets targets_limit)
+
+-- # What a state file keeps.
 
 -- the bytes of the trusted files
 pub record Kept : Type 0 where
@@ -17,8 +32,7 @@ pub record Kept : Type 0 where
   pub timestamp : Option (List ℕ)
 
 abbrev pub bytes_in : {A : Type 0} → Option (Part A) → Option (List ℕ)
-bytes_in None = None
-bytes_in (Some p) = Some p.bytes
+bytes_in p = option_map (λ p. p.bytes) p
 
 abbrev pub kept_of : State → Kept
 kept_of s = record {

@@ -1,13 +1,7 @@
 pub use Rattle.meta.specs.Metadata
 pub use Rattle.moment.specs.Moment
-pub use Rattle.meta.specs.Names
-pub use Rattle.meta.specs.Part
+pub use Rattle.meta.specs.Content
 pub use Rattle.examine.specs.Checks
-pub mod State
-pub mod Parts
-pub mod Expected
 pub mod Advance
-pub mod Roots
-pub mod Answers
 pub mod Kept
 pub mod Text

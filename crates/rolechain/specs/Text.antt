@@ -1,12 +1,11 @@
 -- The state file: the canonical JSON of an object with the trusted files in hexadecimal.
 use Rattle.std.specs.Prelude.{◌≡◌, ◌≢◌, ℕ, not, List, Option, Some, None, bytes_eq, Result, Ok, Err}
-use Rattle.cjson.specs.Document.{tree_of}
-use Rattle.cjson.specs.Checks.{◌>>=◌, refuse_if, or_refuse}
-use Rattle.meta.specs.Part.{Part, part_of, root_limit, timestamp_limit, snapshot_limit, targets_limit}
+use Rattle.cjson.specs.Document.{tree_of, ◌>>=◌, refuse_if, or_refuse}
+use Rattle.meta.specs.Content.{Part, part_of, root_limit, timestamp_limit, snapshot_limit, targets_limit}
 use Rattle.meta.specs.declared.fault.Fault.{Fault}
 use Rattle.meta.specs.Metadata as form
 use Rattle.meta.specs.declared.fault.Fault.TheVariants as fault
-use Rattle.rolechain.specs.State.{first}
+use Rattle.rolechain.specs.Advance.{first}
 use Rattle.rolechain.specs.Kept.{State, Kept, kept, kept_text, has_long}
 use Rattle.rolechain.specs.declared.fault.StateFault.{StateFault}
 use Rattle.rolechain.specs.declared.fault.StateFault.TheVariants.{TooLong, Malformed, NoMemory}

@@ -1,7 +1,7 @@
 //! How a cycle ends.
 
 ghost use Rattle.std.specs.Prelude.{◌≡◌};
-ghost use Rattle.rolechain.specs.Answers as spec;
+ghost use Rattle.rolechain.specs.Advance as spec;
 
 use meta::{Fault, Stop};
 

@@ -2,9 +2,9 @@
 
 ghost use Rattle.std.specs.Prelude.{◌≡◌, ◌+◌, IfOk, bytes_eq, codes, find, option_map};
 ghost use Rattle.std.specs.Prelude.{string_bytes};
-ghost use Rattle.meta.specs.Names.{root_name, versioned as due_name};
-ghost use Rattle.examine.specs.Expecting.{expectation};
-ghost use Rattle.rolechain.specs.Expected as spec;
+ghost use Rattle.meta.specs.Content.{root_name, versioned as due_name};
+ghost use Rattle.examine.specs.Checks.{expectation};
+ghost use Rattle.rolechain.specs.Advance as spec;
 
 use examine::{Expectation, Listed};
 use meta::names::{role_name, versioned};
@@ -34,23 +34,6 @@ pub(crate) fn due_timestamp(root: &Root) -> Expectation<'_>
         ring: root.ring(),
         role: root.timestamp(),
     }
-}
-
-/// The name under which the snapshot that is so listed lies.
-pub(crate) fn snapshot_name(
-    alloc: Global,
-    root: &Root,
-    listing: &Listing,
-) -> Result<String, AllocError>
-    ensures { IfOk result (λ s. string_bytes s
-        ≡ due_name root.now.consistent listing.now.version (codes "snapshot.json")) }
-{
-    versioned(
-        alloc,
-        root.consistent(),
-        listing.version.get(),
-        "snapshot.json",
-    )
 }
 
 /// What the snapshot that is so listed is expected to be (TUF 1.0 section 5.5).
@@ -93,12 +76,8 @@ pub fn place_of(
 
 /// What the top-level targets file that lies there is expected to be (TUF 1.0 section 5.6).
 pub(crate) fn due_targets<'a>(root: &'a Root, listed: Listed, name: &'a str) -> Expectation<'a>
-    ensures { expectation result ≡ record {
-      name = name.now;
-      listed = listed;
-      ring = root.now.ring;
-      role = root.now.targets;
-    } }
+    ensures { expectation result
+        ≡ spec.expected name.now listed root.now.ring root.now.targets }
 {
     Expectation {
         name,

@@ -1,13 +1,10 @@
 //! The chain of roots (TUF 1.0 section 5.3).
 
 ghost use Rattle.std.specs.Prelude.{◌≡◌, ◌+◌, ◌-◌, ◌^◌, ◌<◌};
-ghost use Rattle.meta.specs.Answers.{Answers};
-ghost use Rattle.examine.specs.Checks.{root_part};
-ghost use Rattle.examine.specs.Expecting.{file_in};
-ghost use Rattle.meta.specs.Names.{root_name as file_name};
+ghost use Rattle.meta.specs.Content.{Answers};
+ghost use Rattle.examine.specs.Checks.{file_in};
 ghost use Rattle.rolechain.specs.Advance as spec;
-ghost use Rattle.rolechain.specs.Expected.{next_root};
-ghost use Rattle.rolechain.specs.Answers.{Leaves};
+ghost use Rattle.rolechain.specs.Advance.{Leaves};
 
 use crate::end::{Halt, Step, or_halt};
 use crate::expected::due_root;
@@ -70,28 +67,10 @@ fn successor<J: Judge>(
     if !round.files.contains_key(name.as_str()) {
         return Ok(None);
     }
-    Ok(Some(listed_root(round, root, name.as_str(), judge)?))
-}
-
-/// The root of that name, which follows.
-fn listed_root<J: Judge>(
-    round: &Round,
-    root: &Root,
-    name: &str,
-    judge: &mut J,
-) -> Result<Part<Root>, Stop>
-    requires last { root.now.header.version < 2 ^ 63 - 1 }
-    requires name { name.now ≡ file_name (root.now.header.version + 1) }
-    ensures { Answers (root_part (next_root root.now) (root.now.header.version + 1)
-        (file_in round.now.files.now)) result (λ p. p) }
-{
-    examine_root(
-        round.alloc,
-        &due_root(root, name),
-        due_version(root),
-        round.files,
-        judge,
-    )
+    let expect = due_root(root, name.as_str());
+    let version = due_version(root);
+    let next = examine_root(round.alloc, &expect, version, round.files, judge)?;
+    Ok(Some(next))
 }
 
 /// The version that a root's successor has (TUF 1.0 section 5.3).

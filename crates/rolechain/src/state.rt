@@ -1,9 +1,8 @@
 //! The trusted state.
 
 ghost use Rattle.std.specs.Prelude.{◌≡◌, IfOk, IfSome, option_map};
-ghost use Rattle.rolechain.specs.State as spec;
-ghost use Rattle.rolechain.specs.Advance.{with_root, with_timestamp, with_snapshot, with_targets};
-ghost use Rattle.rolechain.specs.Parts.{AreRead, IsRead};
+ghost use Rattle.rolechain.specs.Advance as spec;
+ghost use Rattle.rolechain.specs.Kept.{AreRead, IsRead};
 
 use crate::rotation::is_rotated;
 use cjson::NoMemory;
@@ -32,7 +31,7 @@ impl Drop for Trusted {
 }
 
 impl Model for Trusted {
-    ghost use Rattle.rolechain.specs.State as spec;
+    ghost use Rattle.rolechain.specs.Advance as spec;
 
     ghost Value = { spec.State };
 
@@ -43,7 +42,7 @@ impl Model for Trusted {
       targets = t.targets;
     } };
 
-    ghost use Rattle.rolechain.specs.Parts.{AreRead};
+    ghost use Rattle.rolechain.specs.Kept.{AreRead};
 
     ghost invariant = { λ t. AreRead (record {
       root = t.root;
@@ -136,7 +135,7 @@ impl Trusted {
 
     /// Trusts the next root; where keys were rotated, the timestamp and the snapshot are dropped.
     pub(crate) fn trust_root(&mut self, next: Part<Root>)
-        ensures { self.new ≡ with_root self.old next }
+        ensures { self.new ≡ spec.with_root self.old next }
     {
         note_read(&next);
         if is_rotated(self.root.reading(), next.reading()) {
@@ -147,21 +146,21 @@ impl Trusted {
     }
 
     pub(crate) fn trust_timestamp(&mut self, next: Part<Timestamp>)
-        ensures { self.new ≡ with_timestamp self.old next }
+        ensures { self.new ≡ spec.with_timestamp self.old next }
     {
         note_read(&next);
         self.timestamp = Some(next);
     }
 
     pub(crate) fn trust_snapshot(&mut self, next: Part<Snapshot>)
-        ensures { self.new ≡ with_snapshot self.old next }
+        ensures { self.new ≡ spec.with_snapshot self.old next }
     {
         note_read(&next);
         self.snapshot = Some(next);
     }
 
     pub(crate) fn trust_targets(&mut self, next: Part<Targets>)
-        ensures { self.new ≡ with_targets self.old next }
+        ensures { self.new ≡ spec.with_targets self.old next }
     {
         note_read(&next);
         self.targets = Some(next);

@@ -1,20 +1,19 @@
 //! The steps behind the roots: timestamp, snapshot and top-level targets.
 
-ghost use Rattle.std.specs.Prelude.{◌≡◌, IfOk, Ok, None, option_map};
-ghost use Rattle.meta.specs.Answers.{Answers};
-ghost use Rattle.examine.specs.Checks as checks;
-ghost use Rattle.examine.specs.Expecting.{file_in};
+ghost use Rattle.std.specs.Prelude.{◌≡◌, Ok, option_map};
+ghost use Rattle.meta.specs.Content.{Answers};
+ghost use Rattle.examine.specs.Checks.{file_in};
 ghost use Rattle.rolechain.specs.Advance as spec;
-ghost use Rattle.rolechain.specs.Expected as due;
-ghost use Rattle.rolechain.specs.Answers.{Leaves};
+ghost use Rattle.rolechain.specs.Advance.{Leaves};
 
 use crate::end::{Halt, Step, or_halt};
-use crate::expected::{due_snapshot, due_targets, due_timestamp, place_of, snapshot_name};
+use crate::expected::{due_snapshot, due_targets, due_timestamp, place_of};
 use crate::state::Trusted;
 use examine::{
     examine_first_timestamp, examine_next_timestamp, examine_snapshot, examine_targets, is_expired,
 };
 use keys::Judge;
+use meta::names::versioned;
 use meta::{Fault, Moment, Part, Root, Snapshot, Stop, Targets, Timestamp};
 use std::alloc::Global;
 use std::collections::BTreeMap;
@@ -71,7 +70,8 @@ pub(crate) fn targets_step<J: Judge>(
     Ok(())
 }
 
-/// The timestamp that is trusted next, or none where the trusted one stays.
+/// The timestamp that is trusted next, or none where the trusted one stays: where its version came
+/// again, and then it must not be expired.
 fn newer_timestamp<J: Judge>(
     round: &Round,
     state: &Trusted,
@@ -80,54 +80,16 @@ fn newer_timestamp<J: Judge>(
     ensures { Answers (spec.newer_timestamp (file_in round.now.files.now) round.now.moment
         state.now.root.reading state.now.timestamp) result (λ p. p) }
 {
-    let root = state.root().reading();
-    match state.timestamp() {
-        Some(old) => renewed(round, root, old.reading(), judge),
-        None => Ok(Some(first_timestamp(round, root, judge)?)),
-    }
-}
-
-/// The timestamp beside the trusted one, which stays where its version came again, and must then
-/// not be expired.
-fn renewed<J: Judge>(
-    round: &Round,
-    root: &Root,
-    old: &Timestamp,
-    judge: &mut J,
-) -> Result<Option<Part<Timestamp>>, Stop>
-    ensures { Answers (spec.renewed (file_in round.now.files.now) round.now.moment
-        root.now old.now) result (λ p. p) }
-{
-    let newer = next_timestamp(round, root, old, judge)?;
-    if newer.is_none() && is_expired(old.header(), round.moment) {
+    let (alloc, files, now) = (round.alloc, round.files, round.moment);
+    let expect = due_timestamp(state.root().reading());
+    let Some(old) = state.timestamp() else {
+        return Ok(Some(examine_first_timestamp(alloc, &expect, files, now, judge)?));
+    };
+    let newer = examine_next_timestamp(alloc, &expect, old.reading(), files, now, judge)?;
+    if newer.is_none() && is_expired(old.reading().header(), now) {
         return Err(Stop::Refused(Fault::Expired));
     }
     Ok(newer)
-}
-
-fn first_timestamp<J: Judge>(
-    round: &Round,
-    root: &Root,
-    judge: &mut J,
-) -> Result<Part<Timestamp>, Stop>
-    ensures { Answers (checks.first_timestamp (due.due_timestamp root.now)
-        (file_in round.now.files.now) round.now.moment) result (λ p. p) }
-{
-    let expect = due_timestamp(root);
-    examine_first_timestamp(round.alloc, &expect, round.files, round.moment, judge)
-}
-
-fn next_timestamp<J: Judge>(
-    round: &Round,
-    root: &Root,
-    old: &Timestamp,
-    judge: &mut J,
-) -> Result<Option<Part<Timestamp>>, Stop>
-    ensures { Answers (checks.next_timestamp (due.due_timestamp root.now) old.now
-        (file_in round.now.files.now) round.now.moment) result (λ p. p) }
-{
-    let expect = due_timestamp(root);
-    examine_next_timestamp(round.alloc, &expect, old, round.files, round.moment, judge)
 }
 
 /// The snapshot that the trusted timestamp lists.
@@ -139,26 +101,11 @@ fn listed_snapshot<J: Judge>(
     ensures { Answers (spec.listed_snapshot (file_in round.now.files.now) round.now.moment
         state.now) result (λ p. p) }
 {
-    match state.timestamp() {
-        Some(part) => next_snapshot(round, state, part.reading(), judge),
-        None => Err(Stop::Refused(Fault::NotListed)),
-    }
-}
-
-fn next_snapshot<J: Judge>(
-    round: &Round,
-    state: &Trusted,
-    timestamp: &Timestamp,
-    judge: &mut J,
-) -> Result<Part<Snapshot>, Stop>
-    ensures { Answers (checks.snapshot_part
-        (due.next_snapshot state.now.root.reading timestamp.now.snapshot)
-        (spec.reading_in state.now.snapshot) (file_in round.now.files.now) round.now.moment)
-        result (λ p. p) }
-{
     let root = state.root().reading();
-    let listing = timestamp.snapshot();
-    let name = snapshot_name(round.alloc, root, listing)?;
+    let timestamp = state.timestamp().ok_or(Fault::NotListed)?;
+    let listing = timestamp.reading().snapshot();
+    let version = listing.version.get();
+    let name = versioned(round.alloc, root.consistent(), version, "snapshot.json")?;
     let expect = due_snapshot(root, listing, name.as_str());
     let old = old_snapshot(state);
     examine_snapshot(round.alloc, &expect, old, round.files, round.moment, judge)
@@ -181,22 +128,8 @@ fn listed_targets<J: Judge>(
         state.now) result (λ p. p) }
 {
     let root = state.root().reading();
-    match state.snapshot() {
-        Some(part) => top_targets(round, root, part.reading(), judge),
-        None => Err(Stop::Refused(Fault::NotListed)),
-    }
-}
-
-fn top_targets<J: Judge>(
-    round: &Round,
-    root: &Root,
-    snapshot: &Snapshot,
-    judge: &mut J,
-) -> Result<Part<Targets>, Stop>
-    ensures { Answers (checks.targets_part (due.top_targets root.now snapshot.now)
-        (file_in round.now.files.now) round.now.moment) result (λ p. p) }
-{
-    let (listed, name) = place_of(round.alloc, root, snapshot, "targets")?;
+    let snapshot = state.snapshot().ok_or(Fault::NotListed)?;
+    let (listed, name) = place_of(round.alloc, root, snapshot.reading(), "targets")?;
     let expect = due_targets(root, listed, name.as_str());
     examine_targets(round.alloc, &expect, round.files, round.moment, judge)
 }

@@ -2,9 +2,8 @@
 
 ghost use Rattle.std.specs.Prelude.{◌≡◌, ◌++◌, Ok, Some, IfOk, OnOk, option_map};
 ghost use Rattle.cjson.specs.Canon.{canon};
-ghost use Rattle.meta.specs.Part.{part_of};
+ghost use Rattle.meta.specs.Content.{part_of};
 ghost use Rattle.rolechain.specs.Kept as spec;
-ghost use Rattle.rolechain.specs.Parts.{AreRead};
 ghost use Rattle.rolechain.specs.Text.{ReadsState, or_state_fault, of_fault, root_state, state_of};
 ghost use Rattle.rolechain.specs.Text.{state_in, kept_in, part_in};
 
@@ -55,7 +54,7 @@ struct Kept {
 
 impl Model for Kept {
     ghost use Rattle.rolechain.specs.Kept as spec;
-    ghost use Rattle.rolechain.specs.Parts.{AreRead};
+    ghost use Rattle.rolechain.specs.Kept.{AreRead};
 
     ghost Value = { spec.Kept };
 

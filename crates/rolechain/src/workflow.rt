@@ -1,13 +1,11 @@
 //! The client workflow, step by step.
 
 ghost use Rattle.std.specs.Prelude.{◌≡◌, IfOk, true};
-ghost use Rattle.examine.specs.Expecting.{file_in};
+ghost use Rattle.examine.specs.Checks.{file_in};
 ghost use Rattle.rolechain.specs.Advance as spec;
-ghost use Rattle.rolechain.specs.Advance.{most_roots};
-ghost use Rattle.rolechain.specs.Roots.{IsLongestChain, IsDropped, is_early};
-ghost use Rattle.rolechain.specs.Parts.{AreRead};
-ghost use Rattle.rolechain.specs.State.{is_ready};
-ghost use Rattle.rolechain.specs.Answers.{advanced_of, Ends, Leaves};
+ghost use Rattle.rolechain.specs.Advance.{most_roots, IsLongestChain, IsDropped, is_early};
+ghost use Rattle.rolechain.specs.Advance.{is_ready, advanced_of, Ends, Leaves};
+ghost use Rattle.rolechain.specs.Kept.{AreRead};
 
 use crate::end::{End, Halt};
 use crate::roots::root_step;

@@ -1,6 +1,6 @@
 //! Boards that threads share, with no cycle.
 ghost use Rattle.std.specs.Prelude.{◌≡◌, ◌<◌, All, IfOk, IfSome, OnOk, length};
-ghost use Rattle.board.specs.Seats.{IsSeatOf, IsFree};
+ghost use Rattle.board.specs.Board.{IsSeatOf, IsFree};
 
 use crate::gates::{Rule, Schedule};
 use crate::given::Given;

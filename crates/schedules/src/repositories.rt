@@ -68,7 +68,7 @@ fn files<R: Files + AllocGlobal + Clone + Drop>(
     part: &str,
 ) -> Result<BTreeMap<String, Vec<u8>>> {
     let path = format!(in alloc; "{name}/{part}")?;
-    Ok(load(alloc, &mut Disk::new(rt, path.as_str(), Depth::Below))?)
+    Ok(load(alloc, &mut Disk::new(rt, path, Depth::Below))?)
 }
 
 fn first_state(alloc: Global, repo: &Repo) -> Result<Trusted> {

@@ -5,9 +5,8 @@ use Rattle.serde_json.specs.Data.{Data, string, array, object, Items, no_items, 
 use Rattle.hex.specs.Hex.{encode_lower}
 use Rattle.cjson.specs.Canon.{canon}
 use Rattle.cjson.specs.declared.doc.Entry.{Entry}
-use Rattle.lms.specs.Kind.{levels}
-use Rattle.lms.specs.Lms.{is_valid}
 use Rattle.lms.specs.Signer.{public_of}
+use Rattle.lms.specs.Lms.{is_valid, levels}
 use Rattle.seals.specs.declared.signer.Signer.{Signer}
 
 -- ---- the file

@@ -1,7 +1,7 @@
 //! Why a script or a seal is refused.
 
 ghost use Rattle.std.specs.Prelude.{◌≡◌};
-ghost use Rattle.seals.specs.Faults.{fault_of};
+ghost use Rattle.lms.specs.declared.signer.SignFault.TheVariants as sign;
 ghost use Rattle.seals.specs.declared.fault.MakeFault.TheVariants as fault;
 
 use lms::SignFault;
@@ -40,7 +40,8 @@ impl<T: Drop> From<AllocFailed<T>> for MakeFault {
 }
 
 impl From<SignFault> for MakeFault {
-    ghost from_gives = { λ s e. e ≡ fault_of s };
+    ghost from_gives = { λ s e. (s ≡ sign.Used → e ≡ fault.Used)
+        × (s ≡ sign.NoMemory → e ≡ fault.NoMemory) };
 
     fn from(fault: SignFault) -> MakeFault {
         match fault {

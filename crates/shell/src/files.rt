@@ -68,8 +68,8 @@ pub fn digests<R: Files + Clock + AllocGlobal + Clone + Drop, T>(
 ) -> Result<Told> {
     let mut text = String::new(shell.alloc);
     for name in ["metadata", "targets"] {
-        let mut folder = Disk::new(shell.rt, name, Depth::Below);
-        let files = load(shell.alloc, &mut folder)?;
+        let path = String::from_str(shell.alloc, name)?;
+        let files = load(shell.alloc, &mut Disk::new(shell.rt, path, Depth::Below))?;
         push_digests(shell.alloc, &mut text, name, &files)?;
     }
     Ok(Told::printed(shell.alloc, text))

@@ -44,11 +44,6 @@ impl<'a, R: Files + Clock + AllocGlobal> System for Machine<'a, R> {
 /// The whole seconds that the clock shows since 1970-01-01T00:00:00Z, or None where it can't be
 /// read or is before that.
 pub fn whole_seconds<R: Clock>(rt: &R) -> Option<u64> {
-    let Ok(time) = SystemTime::now(rt) else {
-        return None;
-    };
-    match time.duration_since(SystemTime::UNIX_EPOCH) {
-        Ok(since) => Some(since.as_secs()),
-        Err(_) => None,
-    }
+    let time = SystemTime::now(rt).ok()?;
+    Some(time.duration_since(SystemTime::UNIX_EPOCH).ok()?.as_secs())
 }

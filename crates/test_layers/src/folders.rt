@@ -46,7 +46,8 @@ fn has(files: &BTreeMap<String, Vec<u8>>, name: &str, text: &str) -> bool {
 #[test]
 fn a_linked_folder_is_loaded(rt: HostRuntime) -> Result<(), Fail> {
     tree(&rt, "a_linked_folder_is_loaded")?;
-    let mut here = Disk::new(&rt, "a_linked_folder_is_loaded/linked", Depth::Here);
+    let path = String::from_str(rt.alloc(), "a_linked_folder_is_loaded/linked")?;
+    let mut here = Disk::new(&rt, path, Depth::Here);
     let files = load(rt.alloc(), &mut here)?;
     assert_eq!(rt; files.len(), 1);
     assert!(rt; has(&files, "f", "1"));
@@ -56,7 +57,8 @@ fn a_linked_folder_is_loaded(rt: HostRuntime) -> Result<(), Fail> {
 #[test]
 fn folders_below_are_loaded(rt: HostRuntime) -> Result<(), Fail> {
     tree(&rt, "folders_below_are_loaded")?;
-    let mut below = Disk::new(&rt, "folders_below_are_loaded/top", Depth::Below);
+    let path = String::from_str(rt.alloc(), "folders_below_are_loaded/top")?;
+    let mut below = Disk::new(&rt, path, Depth::Below);
     let files = load(rt.alloc(), &mut below)?;
     assert_eq!(rt; files.len(), 2);
     assert!(rt; has(&files, "f", "1"));
@@ -66,7 +68,7 @@ fn folders_below_are_loaded(rt: HostRuntime) -> Result<(), Fail> {
 }
 
 /// Whether a load and a read of the folder fail, and both are counted.
-fn fails<R: Files + AllocGlobal + Clone + Drop>(rt: &R, path: &str) -> bool {
+fn fails<R: Files + AllocGlobal + Clone + Drop>(rt: &R, path: String) -> bool {
     let mut folder = Disk::new(rt, path, Depth::Below);
     let loaded = load(rt.alloc(), &mut folder).err() == Some(LoadFault::Folder);
     let once = folder.failed() == 1;
@@ -79,7 +81,7 @@ fn folders_on_disk_fail(rt: HostRuntime) -> Result<(), Fail> {
     fresh(&rt, "folders_on_disk_fail")?;
     fs::write(&rt, "folders_on_disk_fail/file", "1")?;
     for path in ["folders_on_disk_fail/file", "folders_on_disk_fail/none"] {
-        assert!(rt; fails(&rt, path), "{path}");
+        assert!(rt; fails(&rt, String::from_str(rt.alloc(), path)?), "{path}");
     }
     Ok(fs::remove_dir_all(&rt, "folders_on_disk_fail")?)
 }

@@ -4,13 +4,11 @@ use Rattle.std.proofs.lemmas.List.{take_more}
 use Rattle.std.specs.List.{AllZip}
 use Rattle.meta.specs.declared.repo.Repo.{Repo}
 use Rattle.moment.specs.Moment.{Moment}
-use Rattle.rolechain.specs.State.{State}
-use Rattle.cycle.specs.Cycles as keeper
+use Rattle.rolechain.specs.Advance.{State}
+use Rattle.cycle.specs.Workflow as keeper
 use Rattle.cycle.specs.Workflow.{Outcome}
 use Rattle.cycle.specs.declared.round.Round.{Round}
-use Rattle.update.specs.Replayed.{after, outcome_in, outcomes_of, state_after}
-use Rattle.update.specs.Starting.{AreRounds, IsRound}
-use Rattle.update.specs.Told.{Start, outcome_of}
+use Rattle.update.specs.Told.{after, outcome_in, outcomes_of, state_after, AreRounds, IsRound, Start, outcome_of}
 
 -- lists that fit fit with one more element each
 pub all_zip_push : {A B : Type 0} (R : A → B → Type 0) (xs : List A) (ys : List B) (x : A) (y : B)

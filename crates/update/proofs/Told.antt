@@ -2,18 +2,15 @@
 use Rattle.std.proofs.Common.{◌≡◌, ◌≢◌, ◌⊎◌, inl, inr, Result, Ok, Err, IfErr, IfOk, OnErr, OnOk, List, ℕ, Bool, true, false, Option, ap, subst, sym, ◌∙◌, true≢false}
 use Rattle.std.specs.Bool.{⊤}
 use Rattle.std.specs.Io.KnownBytes.{Appends}
-use Rattle.examine.specs.Expecting.{file_in}
+use Rattle.examine.specs.Checks.{file_in}
 use Rattle.meta.specs.declared.repo.Repo.{Repo}
 use Rattle.cycle.specs.Workflow.{Outcome}
-use Rattle.report.specs.Lines.{cycles_text, outcome_text}
-use Rattle.report.specs.Status.{last_status, outcome_status}
+use Rattle.report.specs.Lines.{cycles_text, outcome_text, last_status, outcome_status}
 use Rattle.failure.specs.declared.failure.Failure.{Failure}
 use Rattle.failure.specs.declared.failure.Failure.TheVariants as failure
 use Rattle.moment.specs.Moment.{Moment}
-use Rattle.rolechain.specs.State.{State}
-use Rattle.update.specs.Moments.{IsMomentOf}
-use Rattle.update.specs.Replayed.{AreTold, IsReplayed, outcomes_of, state_after}
-use Rattle.update.specs.Told.{Begins, IsRead, IsStored, IsTold, Loaded, Start, outcome_of, state_text}
+use Rattle.rolechain.specs.Advance.{State}
+use Rattle.update.specs.Told.{IsMomentOf, AreTold, IsReplayed, outcomes_of, state_after, Begins, IsRead, IsStored, IsTold, Loaded, Start, outcome_of, state_text}
 
 abbrev is_folder : Failure → Bool
 is_folder failure.Folder = true

@@ -1,7 +1,7 @@
 //! The moment of a verification.
 ghost use Rattle.std.specs.Prelude.{◌≡◌, IfErr, IfOk, None, Some, option_map};
 ghost use Rattle.moment.specs.Moment.{moment_of};
-ghost use Rattle.update.specs.Moments.{IsMomentOf, IsNoMoment};
+ghost use Rattle.update.specs.Told.{IsMomentOf, IsNoMoment};
 
 use cycle::Moment;
 use failure::Failure;

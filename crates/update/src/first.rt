@@ -4,8 +4,7 @@ ghost use Rattle.std.specs.Io.KnownBytes.{Appends};
 ghost use Rattle.report.specs.Lines.{end_text, root_text};
 ghost use Rattle.rolechain.specs.declared.end.End.TheVariants.{Stopped};
 ghost use Rattle.rolechain.specs.declared.end.Step.TheVariants.{Root};
-ghost use Rattle.update.specs.Faults as spec;
-ghost use Rattle.update.specs.Told.{IsRefused, IsTrusted, state_text};
+ghost use Rattle.update.specs.Told as spec;
 
 use crate::state::{keep_state, read_file};
 use cycle::{End, Fault, StateFault, Step, Trusted};
@@ -27,10 +26,10 @@ pub fn init<S: System, W: Write>(
 ) -> Result<u8, Failure>
     ensures status { IfOk result (λ status. (status ≡ 0) ⊎ (status ≡ 2)) }
     ensures trusted { IfOk result (λ status. status ≡ 0
-        → IsTrusted (S.gives system.old root.now) (S.keeps system.new state.now)
+        → spec.IsTrusted (S.gives system.old root.now) (S.keeps system.new state.now)
         (W.contents out.old) (W.contents out.new)) }
     ensures refused { IfOk result (λ status. status ≡ 2
-        → IsRefused (S.gives system.old root.now) (W.contents out.old) (W.contents out.new)) }
+        → spec.IsRefused (S.gives system.old root.now) (W.contents out.old) (W.contents out.new)) }
     ensures kept { IfOk result
         (λ status. status ≡ 2 → S.keeps system.new ≡ S.keeps system.old) }
 {
@@ -56,7 +55,7 @@ fn keep_root<S: System, W: Write>(
     trusted: &Trusted,
     out: &mut W,
 ) -> Result<(), Failure>
-    ensures kept { OnOk result (S.keeps system.new path.now (state_text trusted.now) ≡ true) }
+    ensures kept { OnOk result (S.keeps system.new path.now (spec.state_text trusted.now) ≡ true) }
     ensures line { OnOk result (Appends (W.contents out.old) (W.contents out.new)
         (root_text trusted.now.root.reading.header.version)) }
 {

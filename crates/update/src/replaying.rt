@@ -1,10 +1,9 @@
 //! One cycle after another, each on a repository that lies in two folders.
-ghost use Rattle.std.specs.Prelude.{◌≡◌, ◌≢◌, ◌≤◌, ◌⊎◌, ⊤, true, IfErr, IfOk, OnErr, OnOk};
+ghost use Rattle.std.specs.Prelude.{◌≡◌, ◌≤◌, ◌⊎◌, ⊤, IfErr, IfOk, OnErr, OnOk};
 ghost use Rattle.std.specs.Prelude.{option_map, map, string_bytes};
 ghost use Rattle.folder.specs.Folders.{IsLoaded};
-ghost use Rattle.update.specs.Told.{Begins, state_text};
-ghost use Rattle.update.specs.Replayed.{AreLoaded, AreTold, IsReplayed, outcomes_of, state_after};
-ghost use Rattle.update.specs.Starting.{AreRounds, start_from, start_of};
+ghost use Rattle.update.specs.Told.{Begins, AreLoaded, AreTold, IsReplayed};
+ghost use Rattle.update.specs.Told.{outcomes_of, state_after, AreRounds, start_from, start_of};
 
 use crate::start::{Folders, Start, Terms, begin, limits_of, loaded};
 use crate::state::keep_state;
@@ -95,51 +94,10 @@ pub fn replay_from<
         × (W.contents out.new ≡ W.contents out.old)) }
 {
     let repos = all_loaded(alloc, folders)?;
-    replay_in(rt, alloc, system, cycles, repos.as_slice(), out)
-}
-
-/// Does a cycle on each repository, stores the last state, and then prints the lines.
-fn replay_in<R: Threads + Wait + Sync, S: System, W: Write>(
-    rt: &R,
-    alloc: Global,
-    system: &mut S,
-    cycles: &Cycles<'_>,
-    repos: &[Repo],
-    out: &mut W,
-) -> Result<u8, Failure>
-    ensures known { IfOk result (λ status. status ≤ 2) }
-    ensures told { IfOk result (λ status. AreTold
-        (outcomes_of (start_of cycles.now.start) repos.now)
-        (map string_bytes cycles.now.start.wanted.now) status (W.contents out.old)
-        (W.contents out.new)) }
-    ensures kept { OnOk result (S.keeps system.new cycles.now.start.state.now
-        (state_text (state_after (start_of cycles.now.start) repos.now)) ≡ true) }
-    ensures order { OnErr result (((S.keeps system.new ≡ S.keeps system.old)
-        × (W.contents out.new ≡ W.contents out.old))
-        ⊎ (S.keeps system.new cycles.now.start.state.now
-        (state_text (state_after (start_of cycles.now.start) repos.now)) ≡ true)) }
-    ensures refused { IfErr result (λ f. f ≢ Failure.Folder) }
-{
     let mut keeper = keeper_of(alloc, cycles)?;
-    let outcomes = outcomes(rt, alloc, &cycles.start, repos, &mut keeper)?;
+    let outcomes = outcomes(rt, alloc, &cycles.start, repos.as_slice(), &mut keeper)?;
     keep_state(alloc, system, cycles.start.state, keeper.trusted())?;
-    tell_all(alloc, outcomes.as_slice(), cycles.start.wanted, out)
-}
-
-/// Prints the lines of the cycles, and answers the status of the last one.
-#[tactic(auto, using(crate::proofs::Told::told_all, crate::proofs::Told::no_folder))]
-fn tell_all<W: Write>(
-    alloc: Global,
-    outcomes: &[Outcome],
-    wanted: &[String],
-    out: &mut W,
-) -> Result<u8, Failure>
-    ensures known { IfOk result (λ status. status ≤ 2) }
-    ensures told { IfOk result (λ status. AreTold outcomes.now (map string_bytes wanted.now) status
-        (W.contents out.old) (W.contents out.new)) }
-    ensures refused { IfErr result (λ f. f ≢ Failure.Folder) }
-{
-    tell_cycles(alloc, outcomes, wanted, out)
+    tell_cycles(alloc, outcomes.as_slice(), cycles.start.wanted, out)
 }
 
 /// The files of all folders, in order.

@@ -1,9 +1,7 @@
 //! What a verification begins with.
 ghost use Rattle.std.specs.Prelude.{◌≡◌, ◌≤◌, ◌⊎◌, IfErr, IfOk, option_map, map, string_bytes};
 ghost use Rattle.folder.specs.Folders.{IsLoaded};
-ghost use Rattle.update.specs.Moments.{IsMomentOf};
-ghost use Rattle.update.specs.Told.{IsRead};
-ghost use Rattle.update.specs.Starting.{start_from, start_of};
+ghost use Rattle.update.specs.Told.{IsMomentOf, IsRead, start_from, start_of};
 
 use crate::clock::moment;
 use crate::state::read_state;

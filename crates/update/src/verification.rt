@@ -1,10 +1,9 @@
 //! The verification of a repository that lies in two folders.
-ghost use Rattle.std.specs.Prelude.{◌≡◌, ◌≢◌, ◌≤◌, ◌⊎◌, ⊤, true, IfErr, IfOk, OnErr, OnOk};
-ghost use Rattle.std.specs.Prelude.{option_map, map, string_bytes};
+ghost use Rattle.std.specs.Prelude.{◌≡◌, ◌≤◌, ◌⊎◌, ⊤, IfErr, IfOk, OnErr, option_map, map};
+ghost use Rattle.std.specs.Prelude.{string_bytes};
 ghost use Rattle.folder.specs.Folders.{IsLoaded};
-ghost use Rattle.examine.specs.Expecting.{file_in};
-ghost use Rattle.update.specs.Told.{Begins, IsStored, IsTold, outcome_of, state_text};
-ghost use Rattle.update.specs.Starting.{start_from, start_of};
+ghost use Rattle.examine.specs.Checks.{file_in};
+ghost use Rattle.update.specs.Told.{Begins, IsStored, IsTold, outcome_of, start_from, start_of};
 
 use crate::answer::tell_outcome;
 use crate::start::{Folders, Start, Terms, begin, limits_of, loaded};
@@ -74,32 +73,7 @@ pub fn verify_from<R: Threads + Wait + Sync, S: System, M: Folder, T: Folder, W:
         × (W.contents out.new ≡ W.contents out.old)) }
 {
     let repo = loaded(alloc, folders)?;
-    verify_in(rt, alloc, system, start, &repo, out)
-}
-
-/// Verifies the repository, stores the new state, and then prints the lines.
-fn verify_in<R: Threads + Wait + Sync, S: System, W: Write>(
-    rt: &R,
-    alloc: Global,
-    system: &mut S,
-    start: &Start<'_>,
-    repo: &Repo,
-    out: &mut W,
-) -> Result<u8, Failure>
-    ensures known { IfOk result (λ status. status ≤ 2) }
-    ensures told { IfOk result (λ status. IsTold
-        (outcome_of (start_of start.now) (file_in repo.now.metadata) (file_in repo.now.targets))
-        (map string_bytes start.now.wanted.now) status (W.contents out.old) (W.contents out.new)) }
-    ensures kept { OnOk result (S.keeps system.new start.now.state.now (state_text (outcome_of
-        (start_of start.now) (file_in repo.now.metadata)
-        (file_in repo.now.targets)).trusted) ≡ true) }
-    ensures order { OnErr result (((S.keeps system.new ≡ S.keeps system.old)
-        × (W.contents out.new ≡ W.contents out.old))
-        ⊎ (S.keeps system.new start.now.state.now (state_text (outcome_of (start_of start.now)
-        (file_in repo.now.metadata) (file_in repo.now.targets)).trusted) ≡ true)) }
-    ensures refused { IfErr result (λ f. f ≢ Failure.Folder) }
-{
-    let outcome = outcome(rt, alloc, start, repo)?;
+    let outcome = outcome(rt, alloc, start, &repo)?;
     keep_state(alloc, system, start.state, outcome.trusted())?;
     tell_outcome(alloc, &outcome, start.wanted, out)
 }

@@ -14,24 +14,6 @@ pub fn several<'a>(alloc: Global, name: &'a str, help: &'a str) -> Arg<'a> {
     Arg::new(alloc, name).action(ArgAction::Append).help(help)
 }
 
-pub fn metadata_option<'a>(alloc: Global) -> Arg<'a> {
-    option(
-        alloc,
-        "metadata",
-        "DIR",
-        "The folder of metadata files, which stand directly in it",
-    )
-}
-
-pub fn targets_option<'a>(alloc: Global) -> Arg<'a> {
-    option(
-        alloc,
-        "targets",
-        "DIR",
-        "The folder of target files, with those of the folders below it",
-    )
-}
-
 pub fn now_option<'a>(alloc: Global) -> Arg<'a> {
     Arg::new(alloc, "now").long("now").value_name("TEXT").help(
         "The moment, as YYYY-MM-DDTHH:MM:SSZ, in place of the clock's",

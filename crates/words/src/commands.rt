@@ -1,10 +1,9 @@
 //! The commands.
 
 use crate::arguments::{
-    file, keep_option, limit_option, metadata_option, now_option, option, several, targets_option,
-    workers_option,
+    file, keep_option, limit_option, now_option, option, several, workers_option,
 };
-use crate::texts::{HELP_END, INIT_END, MAKE_END, REPLAY_END, VERIFY_END};
+use crate::texts::{HELP_END, INIT_END, MAKE_END, METADATA, REPLAY_END, TARGETS, VERIFY_END};
 use clap::{Arg, ArgMatches, Command, Error};
 use std::alloc::{AllocError, Global};
 
@@ -14,30 +13,16 @@ pub fn parse<'a>(alloc: Global, words: &'a [String]) -> Result<ArgMatches<'a>, E
 }
 
 fn tufcheck<'a>(alloc: Global) -> Result<Command<'a>, AllocError> {
-    let program = Command::new(alloc, "tufcheck")
+    Command::new(alloc, "tufcheck")
         .about("Verifies an update repository of TUF 1.0 with LMS signatures")
         .after_help(HELP_END)
         .bin_name("tufcheck")?
         .no_binary_name(true)
-        .subcommand_required(true);
-    let commands = [
-        init_command(alloc),
-        verify_command(alloc),
-        replay_command(alloc),
-        make_command(alloc),
-    ];
-    with_commands(program, commands)
-}
-
-fn with_commands<'a>(
-    program: Command<'a>,
-    commands: [Result<Command<'a>, AllocError>; 4],
-) -> Result<Command<'a>, AllocError> {
-    let mut program = program;
-    for command in commands {
-        program = program.subcommand(command?)?;
-    }
-    Ok(program)
+        .subcommand_required(true)
+        .subcommand(init_command(alloc)?)?
+        .subcommand(verify_command(alloc)?)?
+        .subcommand(replay_command(alloc)?)?
+        .subcommand(make_command(alloc)?)
 }
 
 fn init_command<'a>(alloc: Global) -> Result<Command<'a>, AllocError> {
@@ -54,8 +39,8 @@ fn verify_command<'a>(alloc: Global) -> Result<Command<'a>, AllocError> {
         .after_help(VERIFY_END);
     let arguments = vec![in alloc;
         option(alloc, "state", "STATE", "The trusted state"),
-        metadata_option(alloc),
-        targets_option(alloc),
+        option(alloc, "metadata", "DIR", METADATA),
+        option(alloc, "targets", "DIR", TARGETS),
         now_option(alloc),
         limit_option(alloc),
         workers_option(alloc),

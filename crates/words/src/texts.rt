@@ -1,4 +1,8 @@
-//! What the help says after the options.
+//! What the help says.
+
+pub const METADATA: &str = "The folder of metadata files, which stand directly in it";
+
+pub const TARGETS: &str = "The folder of target files, with those of the folders below it";
 
 pub const HELP_END: &str = "\
 EXAMPLES:

@@ -5,7 +5,6 @@ ghost use Rattle.std.specs.Prelude.{IfErr};
 ghost use Rattle.serde_json.specs.Data.{Data, object};
 ghost use Rattle.serde_json.specs.View.{view, members_view};
 ghost use Rattle.cjson.specs.Canon.{has_whole_numbers, is_ordered};
-ghost use Rattle.cjson.specs.DocOf.{doc_of};
 ghost use Rattle.cjson.specs.Document as spec;
 
 use crate::doc::{Doc, Entry};
@@ -26,7 +25,7 @@ use std::alloc::Global;
 /// and members other than `signed` and `signatures` are passed over. A file may be of any length.
 #[tactic(auto, using(crate::proofs::Ordered::ordered_tree))]
 pub fn signed_bytes(alloc: Global, file: &[u8]) -> Result<Doc, DocFault>
-    ensures ok { IfOk result (λ doc. spec.document file.now ≡ Ok (doc_of doc)) }
+    ensures ok { IfOk result (λ doc. spec.document file.now ≡ Ok (spec.doc_of doc)) }
     ensures err { IfErr result (λ e. e ≢ DocFault.NoMemory
         → spec.document file.now ≡ Err e) }
     ensures float { result ≡ Err DocFault.Float

@@ -1,5 +1,5 @@
 use Rattle.std.proofs.Common.{map, string_bytes}
-use Rattle.examine.specs.Expecting.{file_in}
+use Rattle.examine.specs.Checks.{file_in}
 use Rattle.cycle.proofs.Gathered.{roles_of}
 use Rattle.cycle.proofs.running.run_alone.Goals as goal
 

@@ -1,5 +1,5 @@
 use Rattle.std.proofs.Common.{ap, ◌∙◌, refl}
-use Rattle.examine.specs.Expecting.{file_in}
+use Rattle.examine.specs.Checks.{file_in}
 use Rattle.deleg.proofs.Walking.{preorder}
 use Rattle.deleg.proofs.Starting.{starts_in}
 use Rattle.deleg.proofs.searching.search.Goals as goal

@@ -1,8 +1,7 @@
 use Rattle.std.proofs.Common.{List, [], ◌∷◌, ◌++◌, ap, ◌∙◌}
 use Rattle.meta.specs.Metadata.{Targets}
-use Rattle.meta.specs.Part.{Part}
-use Rattle.deleg.specs.Edge.{Edge, edges}
-use Rattle.deleg.specs.Search.{target_of}
+use Rattle.meta.specs.Content.{Part}
+use Rattle.deleg.specs.Search.{Edge, edges, target_of}
 use Rattle.deleg.proofs.Starting.{starts_from}
 use Rattle.deleg.proofs.searching.search_from.Goals as goal
 

@@ -1,6 +1,5 @@
 use Rattle.std.proofs.Common.{◌∙◌, List, [], ◌∷◌, ◌++◌, sym, ap, refl, arith, rules}
-use Rattle.deleg.specs.Edge.{Edge}
-use Rattle.deleg.specs.Values.{edge_of}
+use Rattle.deleg.specs.Search.{Edge, edge_of}
 use Rattle.deleg.proofs.Stack.{visit_stops, visit_refused, visit_finds, visit_goes_on}
 use Rattle.deleg.proofs.walk.visit.Goals as goal
 

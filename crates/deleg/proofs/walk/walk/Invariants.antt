@@ -1,5 +1,5 @@
 use Rattle.std.proofs.Common.{◌≡◌, ◌-◌, length}
-use Rattle.deleg.specs.Query.{outlook, pending}
+use Rattle.deleg.specs.Search.{outlook, pending}
 use Rattle.deleg.proofs.walk.walk.Given as goal
 
 abbrev pub invariant-loop-frame : goal.invariant-loop-frame

@@ -1,6 +1,6 @@
 use Rattle.std.proofs.Common.{◌∙◌, ◌&&◌, refl, ap}
-use Rattle.keys.specs.Signers.{has_entry, has_signed}
-use Rattle.cjson.specs.DocOf.{doc_of}
+use Rattle.keys.specs.Keys.{has_entry, has_signed}
+use Rattle.cjson.specs.Document.{doc_of}
 use Rattle.keys.proofs.Sets.{added_to, met_early, signed_more}
 use Rattle.keys.proofs.threshold.enough.Goals as goal
 use Rattle.keys.proofs.threshold.enough.Goals.{then-branch+in_ok-add, else-branch}

@@ -1,6 +1,6 @@
 use Rattle.std.proofs.Common.{◌≡◌, take}
-use Rattle.keys.specs.Signers.{signers}
-use Rattle.cjson.specs.DocOf.{doc_of}
+use Rattle.keys.specs.Keys.{signers}
+use Rattle.cjson.specs.Document.{doc_of}
 use Rattle.keys.proofs.threshold.enough.Given as goal
 
 abbrev pub invariant-loop-key : goal.invariant-loop-key

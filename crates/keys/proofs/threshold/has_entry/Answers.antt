@@ -1,8 +1,7 @@
 use Rattle.std.proofs.Common.{◌∙◌, ◌&&◌, sym, ap, bytes_eq}
 use Rattle.std.specs.List.{list_any}
-use Rattle.cjson.specs.DocOf.{doc_of}
-use Rattle.keys.specs.ById.{placed_of, sigs_under}
-use Rattle.keys.specs.Signers.{is_signed_by}
+use Rattle.cjson.specs.Document.{doc_of}
+use Rattle.keys.specs.Keys.{placed_of, sigs_under, is_signed_by}
 use Rattle.keys.proofs.Found.{found}
 use Rattle.keys.proofs.threshold.has_entry.Goals as goal
 

@@ -1,7 +1,7 @@
 use Rattle.std.proofs.Common.{◌≡◌, drop}
 use Rattle.std.specs.List.{list_any}
-use Rattle.cjson.specs.DocOf.{doc_of}
-use Rattle.keys.specs.Signers.{has_entry, is_signed_by}
+use Rattle.cjson.specs.Document.{doc_of}
+use Rattle.keys.specs.Keys.{has_entry, is_signed_by}
 use Rattle.keys.proofs.threshold.has_entry.Given as goal
 
 abbrev pub invariant-loop-placed : goal.invariant-loop-placed

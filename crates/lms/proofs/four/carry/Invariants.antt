@@ -1,5 +1,5 @@
 use Rattle.std.proofs.Common.{◌≡◌, ◌<◌, ◌≤◌, ◌+◌, ℕ, List, length, slice_index}
-use Rattle.lms.specs.Carrying.{AreOn}
+use Rattle.lms.specs.Lms.{AreOn}
 use Rattle.lms.proofs.four.carry.Given as goal
 
 abbrev pub invariant-lanes : goal.invariant-lanes

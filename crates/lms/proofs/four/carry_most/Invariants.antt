@@ -1,4 +1,4 @@
-use Rattle.lms.specs.Carrying.{AreOn}
+use Rattle.lms.specs.Lms.{AreOn}
 use Rattle.lms.proofs.four.carry_most.Given as goal
 
 abbrev pub invariant-turns : goal.invariant-turns

@@ -1,4 +1,4 @@
-use Rattle.std.proofs.Common.{arith, ◌≡◌, ◌≤◌, ◌∙◌, ◌+◌, ◌++◌, ap, sym, length, map, string_bytes}
+use Rattle.std.proofs.Common.{arith, ◌≤◌, ◌∙◌, ◌+◌, ◌++◌, ap, sym, length, map, string_bytes}
 use Rattle.report.specs.Lines.{cycle_text}
 use Rattle.report.proofs.Numbered.{all_of, one_more}
 use Rattle.report.proofs.cycles.text_of.Goals as goal

@@ -1,6 +1,6 @@
 use Rattle.std.proofs.Common.{◌≡◌, [], ◌∷◌, ◌++◌, take, string_bytes}
 use Rattle.std.specs.List.{flat_map}
-use Rattle.report.specs.Quote.{quoted_byte}
+use Rattle.report.specs.Lines.{quoted_byte}
 use Rattle.report.proofs.quote.quoted.Given as goal
 
 abbrev pub invariant-loop-byte : goal.invariant-loop-byte

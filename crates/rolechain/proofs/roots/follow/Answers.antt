@@ -1,7 +1,7 @@
 use Rattle.std.proofs.Common.{◌≡◌, Ok, ap, sym, subst, ◌∙◌, arith}
 use Rattle.std.proofs.lemmas.Result.{err_from_is_err_and}
-use Rattle.meta.specs.Answers.{Answers}
-use Rattle.examine.specs.Expecting.{file_in}
+use Rattle.meta.specs.Content.{Answers}
+use Rattle.examine.specs.Checks.{file_in}
 use Rattle.rolechain.specs.Advance.{successor, chained, followed}
 use Rattle.rolechain.specs.declared.end.Step.TheVariants as step
 use Rattle.rolechain.proofs.Chain.{begins, more, refused, ends, full}

@@ -1,4 +1,4 @@
-use Rattle.examine.specs.Expecting.{file_in}
+use Rattle.examine.specs.Checks.{file_in}
 use Rattle.rolechain.proofs.Chain.{ToGo}
 use Rattle.rolechain.proofs.roots.follow.Given as goal
 

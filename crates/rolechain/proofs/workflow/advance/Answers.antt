@@ -1,9 +1,7 @@
 use Rattle.std.proofs.Common.{◌≡◌, true, ap, sym, ◌∙◌, subst}
-use Rattle.examine.specs.Expecting.{file_in}
+use Rattle.examine.specs.Checks.{file_in}
 use Rattle.rolechain.specs.Advance as spec
-use Rattle.rolechain.specs.Roots.{IsLongestChain, IsDropped, is_early}
-use Rattle.rolechain.specs.State.{is_ready}
-use Rattle.rolechain.specs.Answers.{advanced_of}
+use Rattle.rolechain.specs.Advance.{IsLongestChain, IsDropped, is_early, is_ready, advanced_of}
 use Rattle.rolechain.specs.declared.end.End.TheVariants as end
 use Rattle.rolechain.proofs.InOrder.{ends}
 use Rattle.rolechain.proofs.Ready.{advanced-ready}

@@ -1,4 +1,4 @@
-use Rattle.board.specs.Seats.{IsFree}
+use Rattle.board.specs.Board.{IsFree}
 use Rattle.schedules.proofs.boards.claim_all.Given as goal
 
 abbrev pub invariant-loop-j : goal.invariant-loop-j

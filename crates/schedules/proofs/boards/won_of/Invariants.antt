@@ -1,4 +1,4 @@
-use Rattle.board.specs.Seats.{IsFree}
+use Rattle.board.specs.Board.{IsFree}
 use Rattle.schedules.proofs.boards.won_of.Given as goal
 
 abbrev pub invariant-loop-j : goal.invariant-loop-j

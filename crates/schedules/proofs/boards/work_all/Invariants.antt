@@ -1,6 +1,6 @@
 use Rattle.std.proofs.Common.{◌≡◌, All, length}
 use Rattle.std.specs.Vec.Iter.{into_iter_items}
-use Rattle.board.specs.Seats.{IsFree}
+use Rattle.board.specs.Board.{IsFree}
 use Rattle.schedules.proofs.boards.work_all.Given as goal
 
 abbrev pub invariant-loop-hand : goal.invariant-loop-hand

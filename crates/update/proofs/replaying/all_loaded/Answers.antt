@@ -1,6 +1,6 @@
 use Rattle.std.proofs.Common.{◌∷◌, [], ◌++◌, subst, sym}
 use Rattle.folder.specs.Folders.{IsLoaded}
-use Rattle.update.specs.Replayed.{AreLoaded}
+use Rattle.update.specs.Told.{AreLoaded}
 use Rattle.update.proofs.Rounds.{all_zip_push}
 use Rattle.update.proofs.replaying.all_loaded.Goals as goal
 

@@ -1,5 +1,5 @@
 use Rattle.folder.specs.Folders.{IsLoaded}
-use Rattle.update.specs.Replayed.{AreLoaded}
+use Rattle.update.specs.Told.{AreLoaded}
 use Rattle.update.proofs.replaying.all_loaded.Given as goal
 
 abbrev pub invariant-loop-pair : goal.invariant-loop-pair

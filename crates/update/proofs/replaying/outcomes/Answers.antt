@@ -1,5 +1,5 @@
 use Rattle.std.proofs.Common.{map, string_bytes, subst, sym}
-use Rattle.update.specs.Starting.{AreRounds, start_of}
+use Rattle.update.specs.Told.{AreRounds, start_of}
 use Rattle.update.proofs.Rounds.{outcomes_are, state_is}
 use Rattle.update.proofs.replaying.outcomes.Goals as goal
 

@@ -1,7 +1,6 @@
 use Rattle.std.proofs.Common.{map, string_bytes}
 use Rattle.folder.specs.Folders.{IsLoaded}
-use Rattle.update.specs.Replayed.{AreLoaded, AreTold, IsReplayed}
-use Rattle.update.specs.Starting.{start_from, start_of}
+use Rattle.update.specs.Told.{AreLoaded, AreTold, IsReplayed, start_from, start_of}
 use Rattle.update.proofs.Told.{begun, renamed_cycles}
 use Rattle.update.proofs.replaying.replay.Goals as goal
 

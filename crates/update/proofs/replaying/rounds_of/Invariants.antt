@@ -1,5 +1,5 @@
 use Rattle.std.proofs.Common.{map, string_bytes, take}
-use Rattle.update.specs.Starting.{AreRounds}
+use Rattle.update.specs.Told.{AreRounds}
 use Rattle.update.proofs.replaying.rounds_of.Given as goal
 
 abbrev pub invariant-loop-repo : goal.invariant-loop-repo

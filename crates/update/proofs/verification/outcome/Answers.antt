@@ -1,5 +1,5 @@
 use Rattle.std.proofs.Common.{map, string_bytes, ap, ◌∙◌}
-use Rattle.examine.specs.Expecting.{file_in}
+use Rattle.examine.specs.Checks.{file_in}
 use Rattle.cycle.specs.Workflow.{workflow}
 use Rattle.update.specs.Told.{outcome_of}
 use Rattle.update.proofs.verification.outcome.Goals as goal

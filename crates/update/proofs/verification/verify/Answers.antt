@@ -1,7 +1,6 @@
 use Rattle.std.proofs.Common.{map, string_bytes}
 use Rattle.folder.specs.Folders.{IsLoaded}
-use Rattle.update.specs.Starting.{start_from, start_of}
-use Rattle.update.specs.Told.{IsStored, IsTold}
+use Rattle.update.specs.Told.{start_from, start_of, IsStored, IsTold}
 use Rattle.update.proofs.Told.{begun, renamed}
 use Rattle.update.proofs.verification.verify.Goals as goal
 

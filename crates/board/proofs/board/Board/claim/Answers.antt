@@ -1,7 +1,5 @@
 use Rattle.std.proofs.Common.{◌<◌, length, sym, ap, ◌∙◌, subst, refl, arith}
-use Rattle.board.specs.Moment.{Knows}
-use Rattle.board.specs.Steps.{Sat, holding}
-use Rattle.board.specs.Seats.{SeatValue}
+use Rattle.board.specs.Board.{Knows, Sat, holding, SeatValue}
 use Rattle.board.proofs.Keeps.{claims}
 use Rattle.board.proofs.Calls.{within_board, same_table, same_truths, right_of, same_seat, keeps_seat, kept_same, kept_holding}
 use Rattle.board.proofs.SeatLemmas.{keeps_same, all_holding}

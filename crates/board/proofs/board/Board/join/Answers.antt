@@ -1,5 +1,5 @@
 use Rattle.std.proofs.Common.{arith, ap, ◌∙◌}
-use Rattle.board.specs.Steps.{Sat}
+use Rattle.board.specs.Board.{Sat}
 use Rattle.board.proofs.Keeps.{joins, counts}
 use Rattle.board.proofs.Calls.{same_table, same_truths, right_of}
 use Rattle.board.proofs.board.Board.join.Goals as goal

@@ -1,7 +1,5 @@
 use Rattle.std.proofs.Common.{sym, ap, ◌∙◌, subst, refl, arith}
-use Rattle.board.specs.Moment.{IsDecided, Knows}
-use Rattle.board.specs.Steps.{Sat}
-use Rattle.board.specs.Seats.{SeatValue}
+use Rattle.board.specs.Board.{IsDecided, Knows, Sat, SeatValue}
 use Rattle.board.proofs.Keeps.{looks}
 use Rattle.board.proofs.Calls.{within_board, same_table, same_truths, right_of, keeps_seat, kept_looked, word_taken, word_verdict, verdict_word}
 use Rattle.board.proofs.SeatLemmas.{all_looked}

@@ -1,7 +1,5 @@
 use Rattle.std.proofs.Common.{◌≡◌, ◌<◌, length, sym, ap, ◌∙◌, subst, refl, arith, true≢false}
-use Rattle.board.specs.Moment.{truth}
-use Rattle.board.specs.Seats.{BoardValue}
-use Rattle.board.specs.Steps.{Sat}
+use Rattle.board.specs.Board.{truth, BoardValue, Sat}
 use Rattle.board.proofs.SeatLemmas.{all_done}
 use Rattle.board.proofs.Keeps.{publishes}
 use Rattle.board.proofs.Calls.{same_table, same_truths, right_of, told_of, verdict_is, keeps_seat, kept_done}

@@ -1,5 +1,5 @@
 use Rattle.std.proofs.Common.{take}
-use Rattle.keys.specs.ById.{IsById}
+use Rattle.keys.specs.Keys.{IsById}
 use Rattle.keys.proofs.entries.Entries.of.Given as goal
 
 abbrev pub invariant-loop-place : goal.invariant-loop-place

@@ -1,6 +1,6 @@
 use Rattle.std.proofs.Common.{◌≡◌, ℕ, List, take, bytes_eq}
 use Rattle.std.specs.List.{list_any}
-use Rattle.keys.specs.ById.{has_id}
+use Rattle.keys.specs.Keys.{has_id}
 use Rattle.keys.proofs.role_keys.RoleKeys.id_set.Given as goal
 
 abbrev pub invariant-loop-id : goal.invariant-loop-id

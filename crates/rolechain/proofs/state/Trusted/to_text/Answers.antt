@@ -1,5 +1,5 @@
 use Rattle.std.proofs.Common.{subst, rules}
-use Rattle.rolechain.specs.Parts.{AreRead}
+use Rattle.rolechain.specs.Kept.{AreRead}
 use Rattle.rolechain.proofs.Regained.{IfOk-read, IfOk-tree}
 use Rattle.rolechain.proofs.state.Trusted.to_text.Goals as goal
 

@@ -1,0 +1,43 @@
+//! The words behind a command.
+
+use clap::ArgMatches;
+use failure::Failure;
+use std::alloc::{AllocError, Global};
+use update::Terms;
+
+/// What both `verify` and `replay` name.
+pub fn terms<'a>(alloc: Global, matches: &ArgMatches<'a>) -> Result<Terms<'a>, Failure> {
+    Ok(Terms {
+        state: word(matches, "state")?,
+        moment: matches.get_str("now"),
+        limit: number(matches, "limit")?,
+        workers: number(matches, "workers")?,
+        out: word(matches, "out")?,
+        wanted: all_of(alloc, matches, "PATH")?,
+    })
+}
+
+/// The word of that name, which has to be there.
+pub fn word<'a>(matches: &ArgMatches<'a>, name: &str) -> Result<&'a str, Failure> {
+    matches.get_str(name).ok_or(Failure::Words)
+}
+
+/// The number of that name, which has to be there.
+pub fn number(matches: &ArgMatches<'_>, name: &str) -> Result<usize, Failure> {
+    matches.get_one::<usize>(name).ok_or(Failure::Words)
+}
+
+/// All words of that name, in order.
+pub fn all_of(
+    alloc: Global,
+    matches: &ArgMatches<'_>,
+    name: &str,
+) -> Result<Vec<String>, AllocError> {
+    let mut all = Vec::new(alloc);
+    if let Some(words) = matches.get_strs(name) {
+        for word in words {
+            all.push(String::from_str(alloc, word)?)?;
+        }
+    }
+    Ok(all)
+}
