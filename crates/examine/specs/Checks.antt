@@ -73,7 +73,8 @@ read_candidate form bytes = do
   reading ← formed form doc
   Ok (record { part = record { bytes = bytes; reading = reading }; doc = doc })
 
--- the file that is expected, out of the repository's, whoever signed it
+-- the file that is expected, out of the repository's, whoever signed it: its length (5.5.1, 5.6.1)
+-- and its digests (5.5.2, 5.6.2) as they are listed
 abbrev pub candidate : {A : Type 0} → Form A → ℕ → Expectation → Files
     → Result (Candidate A) Fault
 candidate form limit e files = do
@@ -84,7 +85,7 @@ candidate form limit e files = do
 abbrev pub is_signed : List Key → RoleKeys → Document → Bool
 is_signed ring role doc = is_met doc.text doc.entries ring role
 
--- the file that is expected, signed as expected
+-- the file that is expected, signed as expected (5.3.4, 5.4.2, 5.5.3, 5.6.3)
 abbrev pub signed_candidate : {A : Type 0} → Form A → ℕ → Expectation → Files
     → Result (Candidate A) Fault
 signed_candidate form limit e files = do
@@ -124,31 +125,36 @@ lists_less old new = list_any (is_listed_below new.files) old.files
 
 -- ---- the checks of each kind that is signed as expected
 
--- signed by its own keys, too, and of the version that is due
+-- signed by its own keys, too (5.3.4), and of the version that is due (5.3.5)
 abbrev pub root_checks : Bool → ℕ → Header → Result ⊤ Fault
 root_checks is_own due h = do
   own ← refuse_if (not is_own) Unsigned
   refuse_if (is_version_wrong (Some due) h) VersionWrong
 
+-- not expired (5.3.10, 5.4.4)
 abbrev pub expiry_check : Header → Moment → Result ⊤ Fault
 expiry_check h now = refuse_if (is_expired h now) Expired
 
+-- of no lower version, nor with a snapshot of a lower one (5.4.3), and not expired (5.4.4)
 abbrev pub later_timestamp : Timestamp → Timestamp → Moment → Result Bool Fault
 later_timestamp old new now = do
   onward ← refuse_if (is_earlier old new) Rollback
   current ← refuse_if (is_expired new.header now) Expired
   Ok true
 
--- a timestamp replaces the trusted one, but where it has that one's version again
+-- a timestamp replaces the trusted one, but where it has that one's version again (5.4.3)
 abbrev pub is_newer : Timestamp → Timestamp → Moment → Result Bool Fault
 is_newer old new now = if is_again old new then Ok false else later_timestamp old new now
 
+-- of the version that is listed (5.5.4), with each trusted name in no lower version (5.5.5), and
+-- not expired (5.5.6)
 abbrev pub snapshot_checks : Option ℕ → Option Snapshot → Snapshot → Moment → Result ⊤ Fault
 snapshot_checks due old new now = do
   versioned ← refuse_if (is_version_wrong due new.header) VersionWrong
   onward ← refuse_if (option_map_or (λ s. lists_less s new) old false) Rollback
   refuse_if (is_expired new.header now) Expired
 
+-- of the version that is listed (5.6.4), and not expired (5.6.5)
 abbrev pub targets_checks : Option ℕ → Header → Moment → Result ⊤ Fault
 targets_checks due h now = do
   versioned ← refuse_if (is_version_wrong due h) VersionWrong
@@ -157,7 +163,7 @@ targets_checks due h now = do
 -- ---- the files of each kind
 
 -- A root is signed by the keys of the root before, and by its own. Only the last root's expiry is
--- asked, when the chain has ended.
+-- asked, when the chain has ended (5.3.6).
 abbrev pub root_part : Expectation → ℕ → Files → Result (Part Root) Fault
 root_part e due files = do
   c ← signed_candidate form.root root_limit e files
