@@ -1,20 +1,14 @@
 //! The metadata that a run is likely to read.
 
 use crate::document::Document;
-use crate::wanted::{edges_in, followed};
+use crate::wanted::{edges_in, places_for};
 use cjson::NoMemory;
 use examine::Listed;
-use meta::names::{root_name, versioned};
+use meta::names::{root_name, version_name};
 use meta::{ReadFault, Reading, Repo, Root, Snapshot, Stop, Targets, Timestamp, read_document};
-use rolechain::{Trusted, place_of};
+use rolechain::{LAST_VERSION, MOST_ROOTS, Trusted, place_of};
 use std::alloc::Global;
 use std::collections::{BTreeMap, BTreeSet};
-
-/// The most successor roots that a run accepts.
-const MOST_ROOTS: u32 = 256;
-
-/// The greatest version: a root of this version has no successor.
-const LAST_VERSION: u64 = i64::MAX as u64;
 
 /// A file that was read, and the number of its document.
 #[derive(Drop)]
@@ -148,7 +142,7 @@ impl<'a> Reader<'a> {
     ) -> Result<Option<Read<Snapshot>>, NoMemory> {
         let version = timestamp.snapshot().version.get();
         let alloc = self.scope.alloc;
-        let name = versioned(alloc, root.consistent(), version, "snapshot.json")?;
+        let name = version_name(alloc, root.consistent(), version, "snapshot.json")?;
         self.read_file(name.as_str())
     }
 
@@ -216,7 +210,7 @@ impl<'a> Reader<'a> {
         };
         Ok(Some(RoleFile {
             document: read.document,
-            followed: followed(alloc, &read.reading, self.scope.wanted)?,
+            followed: places_for(alloc, &read.reading, self.scope.wanted)?,
             targets: read.reading,
         }))
     }

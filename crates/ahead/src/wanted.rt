@@ -13,7 +13,7 @@ use std::collections::BTreeSet;
 /// The delegations of a file that are followed for some wanted path, by their places, and where the
 /// file has bins with the name of the bin: those for the path, in order, up to the first that is
 /// terminating; none for a path that the file itself lists.
-pub(crate) fn followed(
+pub(crate) fn places_for(
     alloc: Global,
     targets: &Targets,
     wanted: &[String],

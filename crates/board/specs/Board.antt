@@ -207,8 +207,15 @@ pub record IsKept (me : Sat) (held : Option ℕ) (published : ℕ) : Type 0 wher
 abbrev pub no_seat : SeatValue
 no_seat = record {
   view = newcomer [];
-  board =
-      record { words = 0; slots = 0; views_name = 0; atom = 0; block = 0; offset = 0; slot_names = [] };
+  board = record {
+    words = 0;
+    slots = 0;
+    views_name = 0;
+    atom = 0;
+    block = 0;
+    offset = 0;
+    slot_names = [];
+  };
 }
 
 -- # What a look answers.

@@ -1,4 +1,5 @@
 //! The board. Each call on it but [`Board::new`] is one step on one word; a join is two.
+
 ghost use Rattle.std.specs.Prelude.{◌≡◌, ◌<◌, ◌≤◌, true, false, Some, None, length, nat_eq, IsTrue};
 ghost use Rattle.std.specs.Prelude.{IsSome, IfSome, IfOk};
 ghost use Rattle.std.specs.List.{IsDistinct};
@@ -17,10 +18,10 @@ use cjson::NoMemory;
 use std::alloc::Global;
 use std::marker::Model;
 
-// What a seat is to the table.
+/// What a seat is to the table.
 type Inner = atomic_table::Seat<(), View>;
 
-// The word that says whether the work was stopped. Word `j + 1` is that of check `j`.
+/// The word that says whether the work was stopped. Word `j + 1` is that of check `j`.
 const STOP: usize = 0;
 
 /// A word for each check, and one that says whether the work was stopped. Threads share it through
@@ -155,7 +156,7 @@ impl Board {
 
     /// Whether some seat said to stop. It stays true once a seat has found it so.
     #[tactic(auto, using(crate::proofs::Keeps::notices))]
-    pub fn stopped(&self, seat: &mut Seat) -> bool
+    pub fn is_stopped(&self, seat: &mut Seat) -> bool
         requires seat { IsSeatOf self.now seat.old }
         ensures board { seat.new.board ≡ seat.old.board }
         ensures kept { Keeps seat.old seat.new }

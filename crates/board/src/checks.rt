@@ -1,4 +1,5 @@
 //! What a board decides.
+
 ghost use Rattle.std.specs.Prelude.{◌≡◌, ◌≤◌, ◌<◌, Bool, List, length, IfOk};
 ghost use Rattle.board.specs.Board.{truth};
 

@@ -1,8 +1,9 @@
 //! What a seat finds at a check.
+
 ghost use Rattle.std.specs.Prelude.{◌≡◌, ◌≤◌};
 ghost use Rattle.board.specs.Board.{word_of_look};
 
-// What the word of a check says.
+/// What the word of a check says.
 pub(crate) const OPEN: u64 = 0;
 
 pub(crate) const TAKEN: u64 = 1;
@@ -26,7 +27,7 @@ pub enum Look {
 }
 
 impl Look {
-    // What a word of a check says.
+    /// What a word of a check says.
     pub(crate) fn of_word(word: u64) -> Look
         requires { word ≤ 3 }
         ensures { word_of_look result ≡ word }

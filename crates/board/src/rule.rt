@@ -1,4 +1,5 @@
 //! The rule of a board's words, and what each step tells.
+
 use crate::truths::Truths;
 use crate::view::View;
 use atomic_table::{Join, Play, Split, TableRule};

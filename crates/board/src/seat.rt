@@ -1,4 +1,5 @@
 //! A thread's part in the work on a board.
+
 ghost use Rattle.std.specs.Prelude.{◌≡◌, None, length, nat_eq};
 ghost use Rattle.std.specs.List.{IsDistinct};
 

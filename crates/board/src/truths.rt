@@ -1,4 +1,5 @@
 //! The truths of a board's checks, for contracts alone.
+
 ghost use Rattle.std.specs.Prelude.{◌≡◌, Bool, List};
 ghost use Rattle.std.specs.Coded.{coded_list, coded_bool};
 ghost use base.Fml.{ftrue};
@@ -18,10 +19,9 @@ impl Model for Truths {
 
 impl Truths {
     /// The truths of these checks. Nothing is decided.
-    pub fn of<C: Checks>(checks: &C) -> Truths
-        ensures { result.list ≡ C.truths checks.now }
+    pub fn of<C: Checks>(_checks: &C) -> Truths
+        ensures { result.list ≡ C.truths _checks.now }
     {
-        let _ = checks;
         Truths {
             marker: PhantomData,
         }

@@ -1,4 +1,5 @@
 //! What a seat knows, for contracts alone.
+
 use std::collections::LinkedList;
 
 /// What a seat knows. No value of it is made: contracts speak of it, and they read the lists as

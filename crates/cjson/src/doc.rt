@@ -7,7 +7,7 @@ ghost use Rattle.cjson.specs.Canon.{canon};
 mod read;
 
 use crate::fault::ReadFault;
-use crate::form::{FromJson, needed};
+use crate::form::{FromJson, needed_member};
 use crate::list::Items;
 use crate::text::Text;
 pub use read::signed_bytes;
@@ -30,8 +30,8 @@ impl FromJson for Entry {
     ghost form = { spec.entry };
 
     fn from_json(alloc: Global, value: &Value) -> Result<Entry, ReadFault> {
-        let keyid = needed(alloc, value, "keyid")?;
-        let sig = needed(alloc, value, "sig")?;
+        let keyid = needed_member(alloc, value, "keyid")?;
+        let sig = needed_member(alloc, value, "sig")?;
         Ok(Entry { keyid, sig })
     }
 }

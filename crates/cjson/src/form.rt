@@ -22,7 +22,7 @@ pub trait FromJson: Sized {
 ///
 /// `Malformed` is answered where `value` is no object, has no member of that name, or has one of
 /// another form.
-pub fn needed<T: FromJson>(alloc: Global, value: &Value, name: &str) -> Result<T, ReadFault>
+pub fn needed_member<T: FromJson>(alloc: Global, value: &Value, name: &str) -> Result<T, ReadFault>
     ensures read { form_of.Reads (form_of.needed name.now T.form (view value.now)) result }
 {
     let member = value.get(name).ok_or(ReadFault::Malformed)?;
@@ -33,7 +33,7 @@ pub fn needed<T: FromJson>(alloc: Global, value: &Value, name: &str) -> Result<T
 ///
 /// `None` is answered where `value` has no member of that name, also where it is no object, and
 /// `Malformed` where the member has another form. A member that is `null` isn't absent.
-pub fn optional<T: FromJson>(
+pub fn optional_member<T: FromJson>(
     alloc: Global,
     value: &Value,
     name: &str,

@@ -1,10 +1,11 @@
 //! Repositories in folders of the file system.
+
 ghost use Rattle.std.specs.Prelude.{◌≤◌, IfOk};
 
 use crate::terms::{all_of, number, terms, word};
 use clap::ArgMatches;
 use failure::Failure;
-use folder::{Depth, Disk, joined};
+use folder::{Depth, Disk, path_below};
 use std::alloc::{AllocError, Global};
 use std::io::Write;
 use std::rt::{Clock, Files};
@@ -66,8 +67,8 @@ fn all_folders<'a, R: Files + AllocGlobal>(
 ) -> Result<Vec<Folders<Disk<'a, R>, Disk<'a, R>>>, AllocError> {
     let mut all = Vec::new(alloc);
     for repository in repositories {
-        let metadata = joined(alloc, repository.as_str(), "metadata")?;
-        let targets = joined(alloc, repository.as_str(), "targets")?;
+        let metadata = path_below(alloc, repository.as_str(), "metadata")?;
+        let targets = path_below(alloc, repository.as_str(), "targets")?;
         all.push(folders_of(rt, metadata, targets))?;
     }
     Ok(all)

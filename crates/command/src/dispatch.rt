@@ -1,4 +1,5 @@
 //! What given words ask for.
+
 ghost use Rattle.std.specs.Prelude.{◌≡◌, ◌≤◌, ◌⊎◌, ◌↔◌, true, IfErr, IfOk};
 ghost use Rattle.failure.specs.Failures.{is_callers};
 

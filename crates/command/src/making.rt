@@ -1,8 +1,9 @@
 //! Repositories that a script makes.
+
 ghost use Rattle.std.specs.Prelude.{◌≡◌, IfOk};
 
 use failure::{Failure, of_io};
-use folder::joined;
+use folder::path_below;
 use std::alloc::Global;
 use std::fs;
 use std::rt::{Clock, Files};
@@ -37,7 +38,7 @@ fn write_below<R: Files>(
     name: &str,
     bytes: &[u8],
 ) -> Result<(), Failure> {
-    let path = joined(alloc, folder, name)?;
+    let path = path_below(alloc, folder, name)?;
     make_folders_of(rt, path.as_str())?;
     fs::write(rt, path.as_str(), bytes).map_err(|error| of_io(&error, Failure::Output))
 }

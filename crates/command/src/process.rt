@@ -1,4 +1,5 @@
 //! The words of the process.
+
 ghost use Rattle.std.specs.Prelude.{◌≤◌};
 
 use crate::dispatch::{perform, status_of};

@@ -1,4 +1,5 @@
 //! Workers beside the thread that works in order.
+
 ghost use Rattle.std.specs.Prelude.{◌≡◌, ◌≤◌, All, IfOk, IfSome, length};
 ghost use Rattle.board.specs.Board.{IsFree, Keeps};
 
@@ -45,8 +46,8 @@ pub(crate) fn alone<T: Ordered>(task: &T, memory: &mut Recall) -> Result<Outcome
     let outcome = memory.in_order(task, &mut judge)?;
     Ok(outcome.counted(Stats {
         planned: 0,
-        taken_over: memory.taken_over(),
-        alone: judge.decided(),
+        taken_over: memory.taken_over_count(),
+        alone: judge.decided_count(),
     }))
 }
 
@@ -160,7 +161,7 @@ fn judged<T: Ordered, P: Questions, K: Sitting>(
     let (taken_over, alone) = judge.counts();
     let stats = Stats {
         planned: plan.count() as u64,
-        taken_over: taken_over.saturating_add(memory.taken_over()),
+        taken_over: taken_over.saturating_add(memory.taken_over_count()),
         alone,
     };
     let outcome = outcome.map(|outcome| outcome.counted(stats));

@@ -4,7 +4,7 @@ ghost use Rattle.std.specs.Prelude.{◌≡◌, IfOk, option_map};
 ghost use Rattle.examine.specs.Checks as spec;
 
 use meta::Target;
-use meta::names::hashed;
+use meta::names::digest_name;
 use std::alloc::{AllocError, Global};
 use std::collections::BTreeMap;
 
@@ -24,7 +24,7 @@ pub fn target_file<'a>(
         return Ok(file_of(files, target.path.as_str()));
     }
     if let Some(digest) = &target.hashes.sha256 {
-        let name = hashed(alloc, digest, target.path.as_str())?;
+        let name = digest_name(alloc, digest, target.path.as_str())?;
         if let Some(found) = file_of(files, name.as_str()) {
             return Ok(Some(found));
         }
@@ -32,7 +32,7 @@ pub fn target_file<'a>(
     let Some(digest) = &target.hashes.sha512 else {
         return Ok(None);
     };
-    let name = hashed(alloc, digest, target.path.as_str())?;
+    let name = digest_name(alloc, digest, target.path.as_str())?;
     Ok(file_of(files, name.as_str()))
 }
 

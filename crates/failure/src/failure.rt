@@ -1,4 +1,5 @@
 //! What ends a run early.
+
 ghost use Rattle.std.specs.Prelude.{◌≡◌, ◌≢◌, ◌↔◌, ◌⊎◌, ℕ, true, OnOk};
 ghost use Rattle.std.specs.Io.KnownBytes.{Appends};
 ghost use Rattle.failure.specs.Failures.{is_callers, failure_text, failure_word};

@@ -1,4 +1,5 @@
 //! Folders of the file system.
+
 ghost use Rattle.std.specs.Prelude.{◌≡◌, ◌↔◌, true, List, ℕ, Bool, IfOk, string_bytes};
 ghost use Rattle.std.specs.IoError.{error_kind};
 ghost use Rattle.folder.specs.Folders as spec;
@@ -71,7 +72,7 @@ impl<'a, R: Files + AllocGlobal + Clone + Drop> Folder for Disk<'a, R> {
     }
 
     fn read(&mut self, alloc: Global, name: &str) -> Result<Vec<u8>, LoadFault> {
-        let path = joined(alloc, self.path.as_str(), name)?;
+        let path = path_below(alloc, self.path.as_str(), name)?;
         match fs::read(self.rt, path.as_str()) {
             Ok(bytes) => Ok(bytes),
             Err(error) => {
@@ -81,7 +82,7 @@ impl<'a, R: Files + AllocGlobal + Clone + Drop> Folder for Disk<'a, R> {
         }
     }
 
-    fn failed(&self) -> u64 {
+    fn failure_count(&self) -> u64 {
         self.faults
     }
 }
@@ -97,7 +98,7 @@ fn fault_of(error: &io::Error) -> LoadFault
 }
 
 /// The name below the folder, with `/` between them unless the folder's path is empty.
-pub fn joined(alloc: Global, folder: &str, name: &str) -> Result<String, AllocError>
+pub fn path_below(alloc: Global, folder: &str, name: &str) -> Result<String, AllocError>
     ensures path { IfOk result (λ path. string_bytes path
         ≡ spec.path_below folder.now name.now) }
 {
@@ -123,11 +124,11 @@ impl Found {
         below: &str,
     ) -> io::Result<()> {
         let alloc: Global = rt.alloc();
-        let path = joined(alloc, top, below)?;
+        let path = path_below(alloc, top, below)?;
         for entry in fs::read_dir(rt, path.as_str())? {
             let entry = entry?;
             let kind = entry.file_type()?;
-            let name = joined(alloc, below, entry.file_name())?;
+            let name = path_below(alloc, below, entry.file_name())?;
             if kind.is_file() {
                 self.files.push(name)?;
             } else if kind.is_dir() {

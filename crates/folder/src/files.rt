@@ -1,4 +1,5 @@
 //! Folders of files, and what is read from them.
+
 ghost use Rattle.std.specs.Prelude.{◌≡◌, ◌≤◌, ◌<◌, ◌⊎◌, ◌^◌, ◌-◌, List, ℕ, Bool, IsTrue, true};
 ghost use Rattle.std.specs.Prelude.{IfOk, IfErr, OnOk, map, string_bytes};
 ghost use Rattle.folder.specs.Folders.{AddsFile, HasFailed, IsLoaded};
@@ -66,7 +67,7 @@ pub trait Folder {
         ensures same_bytes { holds self.new ≡ holds self.old };
 
     /// How many calls have failed, up to 2^64 - 1.
-    fn failed(&self) -> u64
+    fn failure_count(&self) -> u64
         ensures count { result ≡ failures self.now };
 }
 

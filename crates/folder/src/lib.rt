@@ -7,5 +7,5 @@
 mod disk;
 mod files;
 
-pub use disk::{Depth, Disk, joined};
+pub use disk::{Depth, Disk, path_below};
 pub use files::{Folder, LoadFault, load};

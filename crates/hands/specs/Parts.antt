@@ -53,8 +53,8 @@ has n p = nat_le p.from n && nat_lt n p.end
 pub record EachOnce (count : ℕ) (parts : List Part) : Type 0 where
   pub once : (n : ℕ) → count_by (has n) parts ≡ (if nat_lt n count then 1 else 0)
 
--- # The order of the numbers where the parts of all workers are taken in turns: their first numbers,
--- then their second ones, and so on.
+-- # The order of the numbers where the parts of all workers are taken in turns: their first
+-- numbers, then their second ones, and so on.
 
 -- the number is that of part k behind `before` others
 pub record IsNumber (count workers n k before : ℕ) : Type 0 where
@@ -70,8 +70,8 @@ pub record HasTurn (count workers n turn : ℕ) : Type 0 where
   pub is_number : IsNumber count workers n k before
   pub is_turn : turn ≡ before * workers + k
 
--- # The protocol of one deque: what it holds is the end of what was pushed, and each number that left
--- it was taken by one thread.
+-- # The protocol of one deque: what it holds is the end of what was pushed, and each number that
+-- left it was taken by one thread.
 
 -- what a thread knows of the deque
 abbrev pub took : List ℕ → List ℕ → Bool → Took

@@ -1,4 +1,5 @@
 //! The hands of all workers.
+
 ghost use Rattle.std.specs.Prelude.{◌≡◌, ◌≤◌, ◌<◌, ◌+◌, IfOk, All, vec_len};
 ghost use Rattle.hands.specs.Parts.{start_of, even_parts, AreEven, EachOnce};
 
@@ -16,16 +17,16 @@ pub fn deal(alloc: Global, count: usize, workers: usize) -> Result<Vec<Hand>, No
     ensures even { IfOk result (λ v. AreEven v.items) }
     ensures once { IfOk result (λ v. EachOnce count v.items) }
 {
-    let mut hands = filled(alloc, count, workers)?;
+    let mut hands = hands_apart(alloc, count, workers)?;
     for k in 0..workers {
         link(&mut hands, count, k)?;
     }
     Ok(hands)
 }
 
-// Hands that can't steal yet.
+/// Hands that can't steal yet.
 #[tactic(auto, using(crate::proofs::PartLemmas::parts_more))]
-fn filled(alloc: Global, count: usize, workers: usize) -> Result<Vec<Hand>, NoMemory>
+fn hands_apart(alloc: Global, count: usize, workers: usize) -> Result<Vec<Hand>, NoMemory>
     requires { 0 < workers }
     ensures { IfOk result (λ v. v.items ≡ even_parts count workers) }
 {
@@ -33,13 +34,13 @@ fn filled(alloc: Global, count: usize, workers: usize) -> Result<Vec<Hand>, NoMe
     let mut from = 0;
     for k in 0..workers {
         let end = end_of(count, workers, k, from);
-        hands.push(Hand::filled(alloc, count, workers, from, end)?)?;
+        hands.push(Hand::apart(alloc, count, workers, from, end)?)?;
         from = end;
     }
     Ok(hands)
 }
 
-// Where part `k` ends, which is not past the count.
+/// Where part `k` ends, which is not past the count.
 #[tactic(auto, using(crate::proofs::PartLemmas::next_start, crate::proofs::PartLemmas::within))]
 fn end_of(count: usize, workers: usize, k: usize, from: usize) -> usize
     requires below { k < workers }
@@ -52,7 +53,7 @@ fn end_of(count: usize, workers: usize, k: usize, from: usize) -> usize
     from + count / workers + longer
 }
 
-// Gives hand `k` a way to each of the others, from the next one upwards and round.
+/// Gives hand `k` a way to each of the others, from the next one upwards and round.
 fn link(hands: &mut Vec<Hand>, count: usize, k: usize) -> Result<(), NoMemory>
     requires hand { k < vec_len hands.old }
     requires counts { All (λ p. p.count ≡ count) hands.old.items }
@@ -65,7 +66,7 @@ fn link(hands: &mut Vec<Hand>, count: usize, k: usize) -> Result<(), NoMemory>
     Ok(())
 }
 
-// The hand that stands `step` behind hand `k`, round.
+/// The hand that stands `step` behind hand `k`, round.
 fn next_of(k: usize, step: usize, workers: usize) -> usize
     requires hand { k < workers }
     requires step { step < workers }
@@ -78,7 +79,7 @@ fn next_of(k: usize, step: usize, workers: usize) -> usize
     }
 }
 
-// Gives hand `k` a way to hand `other`.
+/// Gives hand `k` a way to hand `other`.
 #[tactic(auto, using(crate::proofs::PartLemmas::set_again))]
 fn add_way(hands: &mut Vec<Hand>, count: usize, k: usize, other: usize) -> Result<(), NoMemory>
     requires hand { k < vec_len hands.old }

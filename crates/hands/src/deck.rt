@@ -1,4 +1,5 @@
 //! A deque of numbers under its protocol.
+
 ghost use Rattle.std.specs.Prelude.{◌≡◌, ◌≤◌, ◌-◌, true, false, ◌∷◌, [], IfOk, IfSome, IfNone};
 ghost use Rattle.std.specs.List.{range_with_len};
 ghost use Rattle.crossbeam_deque.specs.Handles.{view, IsPassOf, worker_deque, stealer_deque};
@@ -18,7 +19,7 @@ pub type Thief = Stealer<usize, Global, Took, Rule>;
 
 /// A deque of the numbers from `from` up to `end`, which isn't one of them, first in first out.
 #[tactic(auto, using(crate::proofs::Deals::range_more))]
-pub fn filled(alloc: Global, from: usize, end: usize) -> Result<Deck, NoMemory>
+pub fn deck_of(alloc: Global, from: usize, end: usize) -> Result<Deck, NoMemory>
     requires order { from ≤ end }
     ensures flavor { IfOk result (λ d. worker_flavor d ≡ 0) }
     ensures view { IfOk result (λ d.

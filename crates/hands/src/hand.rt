@@ -1,8 +1,9 @@
 //! A worker's numbers.
+
 ghost use Rattle.std.specs.Prelude.{◌≡◌, ◌≤◌, ◌<◌, IfOk, IfSome};
 ghost use Rattle.hands.specs.Parts.{HasTurn};
 
-use crate::deck::{Deck, Thief, another, filled, pop, steal};
+use crate::deck::{Deck, Thief, another, deck_of, pop, steal};
 use crate::rule::Took;
 use crate::turn::turn_of;
 use cjson::NoMemory;
@@ -30,7 +31,7 @@ impl Model for Other {
 }
 
 impl Other {
-    // Tries once.
+    /// Tries once.
     fn steal(&mut self) -> Option<usize>
         ensures same { self.new ≡ self.old }
         ensures below { IfSome result (λ n. n < self.old) }
@@ -69,9 +70,9 @@ impl Model for Hand {
 }
 
 impl Hand {
-    // A hand of the numbers from `from` up to `end`, of those below `count` that are dealt to so
-    // many workers, with no way to others.
-    pub(crate) fn filled(
+    /// A hand of the numbers from `from` up to `end`, of those below `count` that are dealt to so
+    /// many workers, with no way to others.
+    pub(crate) fn apart(
         alloc: Global,
         count: usize,
         workers: usize,
@@ -89,13 +90,13 @@ impl Hand {
             workers,
             from,
             end,
-            own: filled(alloc, from, end)?,
+            own: deck_of(alloc, from, end)?,
             others: Vec::new(alloc),
             first: 0,
         })
     }
 
-    // A way to this hand's deque.
+    /// A way to this hand's deque.
     pub(crate) fn way(&mut self) -> Result<Other, NoMemory>
         ensures same { self.new ≡ self.old }
         ensures count { IfOk result (λ o. o ≡ self.old.count) }
@@ -108,7 +109,7 @@ impl Hand {
         })
     }
 
-    // Adds a way to another hand's deque, behind those that are there.
+    /// Adds a way to another hand's deque, behind those that are there.
     pub(crate) fn add(&mut self, other: Other) -> Result<(), NoMemory>
         requires count { other ≡ self.old.count }
         ensures same { self.new ≡ self.old }
@@ -139,7 +140,7 @@ impl Hand {
         None
     }
 
-    // Tries one deque: its own at place 0, and the others' behind it.
+    /// Tries one deque: its own at place 0, and the others' behind it.
     fn take(&mut self, place: usize) -> Option<usize>
         ensures same { self.new ≡ self.old }
         ensures below { IfSome result (λ n. n < self.old.count) }

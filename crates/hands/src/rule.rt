@@ -1,4 +1,5 @@
 //! The protocol of one deque.
+
 use crossbeam_deque::protocol::{Outcome, Protocol, Split};
 use std::collections::LinkedList;
 

@@ -34,7 +34,7 @@ pub fn key_id(alloc: Global, key: &Value) -> Result<String, CanonicalFault>
 }
 
 /// The key, where it counts under the id.
-pub(crate) fn usable(alloc: Global, id: &str, key: &Value) -> Result<Option<Key>, NoMemory>
+pub(crate) fn usable_key(alloc: Global, id: &str, key: &Value) -> Result<Option<Key>, NoMemory>
     ensures { IfOk result (λ o. o ≡ spec.usable id.now (view key.now)) }
 {
     let Some(public) = public_value(key) else {

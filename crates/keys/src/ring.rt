@@ -5,7 +5,7 @@ ghost use Rattle.serde_json.specs.View.{view};
 ghost use Rattle.cjson.specs.Form.{Reads};
 ghost use Rattle.keys.specs.Keys as spec;
 
-use crate::key::{Key, usable};
+use crate::key::{Key, usable_key};
 use cjson::form::{FromJson, if_formed};
 use cjson::list::Items;
 use cjson::members::{FromMember, read_members};
@@ -85,7 +85,7 @@ impl FromMember for ListedKey {
         if !value.is_object() {
             return Err(ReadFault::Malformed);
         }
-        let key = usable(alloc, name, value)?;
+        let key = usable_key(alloc, name, value)?;
         Ok(ListedKey { key })
     }
 }

@@ -5,7 +5,7 @@ ghost use Rattle.std.specs.List.{list_any};
 ghost use Rattle.serde_json.specs.View.{view};
 ghost use Rattle.keys.specs.Keys as spec;
 
-use cjson::form::{FromJson, if_formed, needed};
+use cjson::form::{FromJson, if_formed, needed_member};
 use cjson::list::Items;
 use cjson::number::Positive;
 use cjson::text::Text;
@@ -49,8 +49,8 @@ impl FromJson for RoleKeys {
     ghost form = { spec.role_keys };
 
     fn from_json(alloc: Global, value: &Value) -> Result<RoleKeys, ReadFault> {
-        let ids = needed(alloc, value, "keyids")?;
-        let threshold = needed(alloc, value, "threshold")?;
+        let ids = needed_member(alloc, value, "keyids")?;
+        let threshold = needed_member(alloc, value, "threshold")?;
         Ok(RoleKeys { ids, threshold })
     }
 }

@@ -13,7 +13,7 @@ fn word(text: &[u8], at: usize) -> u32
     u32::from_be_bytes([text[at], text[at + 1], text[at + 2], text[at + 3]])
 }
 
-// The row whose lanes are these.
+/// The row whose lanes are these.
 fn row<const N: usize>(a: &[u32; N], b: &[u32; N], c: &[u32; N], d: &[u32; N]) -> [u32x4; N]
     ensures row { IsRow N result }
     ensures first { lane 0 result ≡ a.now }

@@ -10,23 +10,23 @@ use crate::block::compress4;
 use crate::consts::H256_256;
 use std::simd::prelude::*;
 
-// The first byte of the padding, as a word.
+/// The first byte of the padding, as a word.
 const END: u32 = 0x8000_0000;
 
-// The bits of 55 bytes.
+/// The bits of 55 bytes.
 const LENGTH: u32 = 440;
 
 #[inline(always)]
-fn joined(high: u32x4, low: u32x4) -> u32x4
+fn join_words(high: u32x4, low: u32x4) -> u32x4
     ensures { (i : ℕ) → i < 4
         → IsAt i result (joined (slice_index high i) (slice_index low i)) }
 {
     (high << 8) + (low >> 24)
 }
 
-// The end of the prefix, the counter and the first byte of the digest.
+/// The end of the prefix, the counter and the first byte of the digest.
 #[inline(always)]
-fn counted(end: u32x4, j: u32x4, low: u32x4) -> u32x4
+fn counter_word(end: u32x4, j: u32x4, low: u32x4) -> u32x4
     ensures size { length result ≡ 4 }
     ensures lanes { (i : ℕ) → i < 4 → slice_index end i % 2 ^ 16 ≡ 0
         → slice_index j i < 256
@@ -52,15 +52,15 @@ fn block_words(prefix: &[u32x4; 6], j: u32x4, value: &[u32x4; 8]) -> [u32x4; 16]
         prefix[2],
         prefix[3],
         prefix[4],
-        counted(prefix[5], j, value[0]),
-        joined(value[0], value[1]),
-        joined(value[1], value[2]),
-        joined(value[2], value[3]),
-        joined(value[3], value[4]),
-        joined(value[4], value[5]),
-        joined(value[5], value[6]),
-        joined(value[6], value[7]),
-        joined(value[7], u32x4::splat(END)),
+        counter_word(prefix[5], j, value[0]),
+        join_words(value[0], value[1]),
+        join_words(value[1], value[2]),
+        join_words(value[2], value[3]),
+        join_words(value[3], value[4]),
+        join_words(value[4], value[5]),
+        join_words(value[5], value[6]),
+        join_words(value[6], value[7]),
+        join_words(value[7], u32x4::splat(END)),
         u32x4::splat(0),
         u32x4::splat(LENGTH),
     ]

@@ -23,8 +23,8 @@ pub(crate) fn maj(x: u32x4, y: u32x4, z: u32x4) -> u32x4
     y ^ ((x ^ y) & (y ^ z))
 }
 
-// The four functions below are three rotations or shifts under `^`. Their shifts stand inside one
-// another, which takes fewer copies of `x`, and the machine has no rotation of lanes.
+/// The four functions below are three rotations or shifts under `^`. Their shifts stand inside one
+/// another, which takes fewer copies of `x`, and the machine has no rotation of lanes.
 #[inline(always)]
 pub(crate) fn big_sigma0(x: u32x4) -> u32x4
     ensures { (i : ℕ) → i < 4 → IsAt i result (big_sigma0 (slice_index x i)) }
@@ -53,7 +53,7 @@ pub(crate) fn small_sigma1(x: u32x4) -> u32x4
     (((((x >> 2) ^ x) >> 7) ^ x) >> 10) ^ (((x << 2) ^ x) << 13)
 }
 
-// T 1 of a round (6.2.2, step 3).
+/// T 1 of a round (6.2.2, step 3).
 #[inline(always)]
 pub(crate) fn temp1(e: u32x4, f: u32x4, g: u32x4, h: u32x4, k: u32, word: u32x4) -> u32x4
     ensures { (i : ℕ) → i < 4 → IsAt i result (add32 (add32 (add32 (add32
@@ -63,7 +63,7 @@ pub(crate) fn temp1(e: u32x4, f: u32x4, g: u32x4, h: u32x4, k: u32, word: u32x4)
     h + big_sigma1(e) + ch(e, f, g) + u32x4::splat(k) + word
 }
 
-// T 2 of a round.
+/// T 2 of a round.
 #[inline(always)]
 pub(crate) fn temp2(a: u32x4, b: u32x4, c: u32x4) -> u32x4
     ensures { (i : ℕ) → i < 4 → IsAt i result (add32 (big_sigma0 (slice_index a i))

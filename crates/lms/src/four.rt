@@ -10,17 +10,17 @@ use crate::ots::{Node, chain, put, u16str, u32str};
 use lanes::{digest, digest_words, prefix_words, step4};
 use std::simd::prelude::*;
 
-// The most chains that a leaf has, which is of W4.
+/// The most chains that a leaf has, which is of W4.
 pub(crate) const MOST_CHAINS: usize = 67;
 
-// The most steps that four chains go on before others are chosen, which shares out the chains
-// evenly.
+/// The most steps that four chains go on before others are chosen, which shares out the chains
+/// evenly.
 const MOST_STEPS: u8 = 128;
 
-// How often four chains are chosen. Twenty times is usual.
+/// How often four chains are chosen. Twenty times is usual.
 const MOST_TURNS: u32 = 128;
 
-// What the message of a step of a chain begins with.
+/// What the message of a step of a chain begins with.
 fn chain_prefix(id: &[u8; 16], q: u32, i: u16) -> [u8; 22]
     ensures { result ≡ id.now ++ u32str q ++ u16str i }
 {
@@ -31,7 +31,7 @@ fn chain_prefix(id: &[u8; 16], q: u32, i: u16) -> [u8; 22]
     prefix
 }
 
-// Carries the chain in each lane `count` steps on from its digit.
+/// Carries the chain in each lane `count` steps on from its digit.
 fn steps(prefix: &[u32x4; 6], from: u32x4, count: u8, start: [u32x4; 8]) -> [u32x4; 8]
     requires prefix { IsRow 6 prefix.now }
     requires start { IsRow 8 start }
@@ -49,7 +49,7 @@ fn steps(prefix: &[u32x4; 6], from: u32x4, count: u8, start: [u32x4; 8]) -> [u32
     value
 }
 
-// Carries four chains `count` steps on.
+/// Carries four chains `count` steps on.
 fn carry(
     id: &[u8; 16],
     q: u32,
@@ -100,7 +100,7 @@ fn carry(
     }
 }
 
-// How many steps each chain has to go.
+/// How many steps each chain has to go.
 fn steps_left(digits: &[u8; MOST_CHAINS], ends: &[u8; MOST_CHAINS]) -> [u8; MOST_CHAINS]
     requires { (i : ℕ) → i < 67 → slice_index digits.now i ≤ slice_index ends.now i }
     ensures { (i : ℕ) → i < 67
@@ -113,7 +113,7 @@ fn steps_left(digits: &[u8; MOST_CHAINS], ends: &[u8; MOST_CHAINS]) -> [u8; MOST
     left
 }
 
-// The chain that has the most steps to go, or `otherwise` where none has any.
+/// The chain that has the most steps to go, or `otherwise` where none has any.
 fn furthest(left: &[u8; MOST_CHAINS], otherwise: u16) -> u16
     requires { otherwise < 67 }
     ensures { result < 67 }
@@ -130,7 +130,7 @@ fn furthest(left: &[u8; MOST_CHAINS], otherwise: u16) -> u16
     best
 }
 
-// The four chains that have the most steps to go. Where fewer have any, one stands more than once.
+/// The four chains that have the most steps to go. Where fewer have any, one stands more than once.
 fn furthest_four(left: &[u8; MOST_CHAINS]) -> [u16; 4]
     ensures { (k : ℕ) → k < 4 → slice_index result k < 67 }
 {
@@ -144,7 +144,7 @@ fn furthest_four(left: &[u8; MOST_CHAINS]) -> [u16; 4]
     four
 }
 
-// How many steps all of four chains can go on.
+/// How many steps all of four chains can go on.
 fn room(left: &[u8; MOST_CHAINS], four: [u16; 4]) -> u8
     requires { (k : ℕ) → k < 4 → slice_index four k < 67 }
     ensures { (k : ℕ) → k < 4 → result ≤ slice_index left.now (slice_index four k) }
@@ -156,7 +156,7 @@ fn room(left: &[u8; MOST_CHAINS], four: [u16; 4]) -> u8
     room
 }
 
-// Carries the chains on, most of them to their ends.
+/// Carries the chains on, most of them to their ends.
 fn carry_most(
     id: &[u8; 16],
     q: u32,
@@ -178,7 +178,7 @@ fn carry_most(
     }
 }
 
-// Carries each chain on to its end, one after the other.
+/// Carries each chain on to its end, one after the other.
 fn carry_each(
     id: &[u8; 16],
     q: u32,
@@ -197,8 +197,8 @@ fn carry_each(
     }
 }
 
-// Carries each chain of a leaf from its digit on to its end: four at a time, and then what is left
-// one after the other.
+/// Carries each chain of a leaf from its digit on to its end: four at a time, and then what is left
+/// one after the other.
 pub(crate) fn carry_to_ends(
     id: &[u8; 16],
     q: u32,

@@ -33,8 +33,8 @@ pub(crate) fn u32str(n: u32) -> [u8; 4]
     n.to_be_bytes()
 }
 
-// A hasher that was given the identifier, a number and the tag of what is hashed, with which all
-// but the chains' messages begin.
+/// A hasher that was given the identifier, a number and the tag of what is hashed, with which all
+/// but the chains' messages begin.
 pub(crate) fn hasher_of(id: &[u8; 16], number: u32, tag: u16) -> Sha256
     ensures { Holds256 result (id.now ++ u32str number ++ u16str tag) }
 {
@@ -45,7 +45,7 @@ pub(crate) fn hasher_of(id: &[u8; 16], number: u32, tag: u16) -> Sha256
     hasher
 }
 
-// The `i`-th digit of `s`.
+/// The `i`-th digit of `s`.
 fn coef(s: &[u8], i: usize, width: Width) -> u8
     requires { i * digit_bits width / 8 < length s.now }
     ensures { result ≡ coef s.now i (digit_bits width) }
@@ -57,7 +57,7 @@ fn coef(s: &[u8], i: usize, width: Width) -> u8
     }
 }
 
-// The next digest of a chain: `block` begins with the identifier, the leaf and the chain.
+/// The next digest of a chain: `block` begins with the identifier, the leaf and the chain.
 fn chain_step(block: &mut [u8; 55], j: u8, tmp: &Node) -> Node
     ensures prefix { take 22 block.new ≡ take 22 block.old }
     ensures step { result ≡ sha256 (take 22 block.old ++ j ∷ tmp.now) }
@@ -67,7 +67,7 @@ fn chain_step(block: &mut [u8; 55], j: u8, tmp: &Node) -> Node
     Sha256::digest(&*block)
 }
 
-// Writes `bytes` into the block from `at` on.
+/// Writes `bytes` into the block from `at` on.
 pub(crate) fn put(block: &mut [u8], at: usize, bytes: &[u8])
     requires { at + length bytes.now ≤ length block.old }
     ensures { take (at + length bytes.now) block.new ≡ take at block.old ++ bytes.now }
@@ -75,7 +75,7 @@ pub(crate) fn put(block: &mut [u8], at: usize, bytes: &[u8])
     block[at..at + bytes.len()].copy_from_slice(bytes);
 }
 
-// A block that begins with the identifier, the leaf's number and the chain's.
+/// A block that begins with the identifier, the leaf's number and the chain's.
 fn chain_block(id: &[u8; 16], q: u32, i: u16) -> [u8; 55]
     ensures { take 22 result ≡ id.now ++ u32str q ++ u16str i }
 {
@@ -86,7 +86,7 @@ fn chain_block(id: &[u8; 16], q: u32, i: u16) -> [u8; 55]
     block
 }
 
-// Carries chain `i` on from digit `from` to digit `to`.
+/// Carries chain `i` on from digit `from` to digit `to`.
 pub(crate) fn chain(id: &[u8; 16], q: u32, i: u16, from: u8, to: u8, start: &[u8]) -> Node
     requires start_length { length start.now ≡ 32 }
     requires upwards { from ≤ to }
@@ -101,7 +101,7 @@ pub(crate) fn chain(id: &[u8; 16], q: u32, i: u16, from: u8, to: u8, start: &[u8
     tmp
 }
 
-// The digest `s` and its checksum.
+/// The digest `s` and its checksum.
 fn with_checksum(width: Width, s: &Node) -> [u8; 34]
     ensures { result ≡ s.now ++ u16str (checksum width s.now) }
 {
@@ -117,7 +117,7 @@ fn with_checksum(width: Width, s: &Node) -> [u8; 34]
     out
 }
 
-// The digit of chain `i` in a digest that `signed` holds with its checksum.
+/// The digit of chain `i` in a digest that `signed` holds with its checksum.
 fn digit(width: Width, signed: &[u8; 34], i: usize) -> u8
     requires { i < chain_count width }
     ensures value { (s : List ℕ) → signed.now ≡ s ++ u16str (checksum width s)
@@ -127,7 +127,7 @@ fn digit(width: Width, signed: &[u8; 34], i: usize) -> u8
     coef(signed, i, width)
 }
 
-// The digits of the chains in the digest `s`, and then zeros.
+/// The digits of the chains in the digest `s`, and then zeros.
 pub(crate) fn digits_of(width: Width, s: &Node) -> [u8; MOST_CHAINS]
     ensures digits { (i : ℕ) → i < chain_count width
         → slice_index result i ≡ digit width s.now i }
@@ -141,7 +141,7 @@ pub(crate) fn digits_of(width: Width, s: &Node) -> [u8; MOST_CHAINS]
     digits
 }
 
-// The greatest digit for each chain, and then zeros.
+/// The greatest digit for each chain, and then zeros.
 fn tops(width: Width) -> [u8; MOST_CHAINS]
     ensures { (i : ℕ) → i < chain_count width
         → slice_index result i ≡ 2 ^ digit_bits width - 1 }
@@ -153,7 +153,7 @@ fn tops(width: Width) -> [u8; MOST_CHAINS]
     tops
 }
 
-// The `k`-th node in a row of them.
+/// The `k`-th node in a row of them.
 fn node(y: &[u8], k: usize) -> Node
     requires { 32 * k + 32 ≤ length y.now }
     ensures { result ≡ block k y.now }
@@ -163,7 +163,7 @@ fn node(y: &[u8], k: usize) -> Node
     node
 }
 
-// The values of the chains in a signature.
+/// The values of the chains in a signature.
 fn nodes(width: Width, y: &[u8]) -> [Node; MOST_CHAINS]
     requires { length y.now ≡ 32 * chain_count width }
     ensures { (i : ℕ) → i < chain_count width → slice_index_or result i [] ≡ block i y.now }
@@ -175,7 +175,7 @@ fn nodes(width: Width, y: &[u8]) -> [Node; MOST_CHAINS]
     nodes
 }
 
-// The one-time public key whose chains end in these values.
+/// The one-time public key whose chains end in these values.
 fn key_of(width: Width, id: &[u8; 16], q: u32, values: &[Node; MOST_CHAINS]) -> Node
     ensures { result ≡ ots_digest id.now q (row_of values.now (chain_count width)) }
 {
@@ -186,7 +186,7 @@ fn key_of(width: Width, id: &[u8; 16], q: u32, values: &[Node; MOST_CHAINS]) -> 
     key.finalize()
 }
 
-// The public key that a one-time signature leads to.
+/// The public key that a one-time signature leads to.
 pub(crate) fn ots_key(width: Width, id: &[u8; 16], q: u32, c: &[u8], y: &[u8], msg: &[u8]) -> Node
     requires { length y.now ≡ 32 * chain_count width }
     ensures { result ≡ ots_key width id.now q c.now y.now msg.now }
@@ -198,7 +198,7 @@ pub(crate) fn ots_key(width: Width, id: &[u8; 16], q: u32, c: &[u8], y: &[u8], m
     key_of(width, id, q, &values)
 }
 
-// The digest that is signed.
+/// The digest that is signed.
 pub(crate) fn message_digest(id: &[u8; 16], q: u32, c: &[u8], msg: &[u8]) -> Node
     ensures { result ≡ message_digest id.now q c.now msg.now }
 {
@@ -208,7 +208,7 @@ pub(crate) fn message_digest(id: &[u8; 16], q: u32, c: &[u8], msg: &[u8]) -> Nod
     hasher.finalize()
 }
 
-// Where a chain of a leaf starts.
+/// Where a chain of a leaf starts.
 pub(crate) fn chain_start(id: &[u8; 16], seed: &[u8; 32], q: u32, i: u16) -> Node
     ensures { result ≡ chain_start id.now seed.now q i }
 {
@@ -216,7 +216,7 @@ pub(crate) fn chain_start(id: &[u8; 16], seed: &[u8; 32], q: u32, i: u16) -> Nod
     chain_step(&mut block, 0xff, seed)
 }
 
-// Where the chains of a leaf start.
+/// Where the chains of a leaf start.
 fn starts(width: Width, id: &[u8; 16], seed: &[u8; 32], q: u32) -> [Node; MOST_CHAINS]
     ensures { (i : ℕ) → i < chain_count width
         → slice_index_or result i [] ≡ chain_start id.now seed.now q i }
@@ -228,7 +228,7 @@ fn starts(width: Width, id: &[u8; 16], seed: &[u8; 32], q: u32) -> [Node; MOST_C
     starts
 }
 
-// The values of a leaf's chains at these digits.
+/// The values of a leaf's chains at these digits.
 pub(crate) fn values_at(
     width: Width,
     id: &[u8; 16],
@@ -245,7 +245,7 @@ pub(crate) fn values_at(
     values
 }
 
-// The one-time public key of a leaf.
+/// The one-time public key of a leaf.
 pub(crate) fn leaf_key(width: Width, id: &[u8; 16], seed: &[u8; 32], q: u32) -> Node
     ensures { result ≡ leaf_key width id.now seed.now q }
 {

@@ -133,8 +133,8 @@ pub fn target_name(
 fn hashed_name(alloc: Global, line: &TargetLine<'_>) -> Result<String, AllocError> {
     if line.digests == Digests::Sha512 {
         let digest: [u8; 64] = Sha512::digest(&line.bytes);
-        return names::hashed(alloc, &digest, line.path);
+        return names::digest_name(alloc, &digest, line.path);
     }
     let digest: [u8; 32] = Sha256::digest(&line.bytes);
-    names::hashed(alloc, &digest, line.path)
+    names::digest_name(alloc, &digest, line.path)
 }

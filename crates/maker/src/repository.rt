@@ -241,7 +241,7 @@ impl Repository {
 
     fn write(&mut self, line: &WriteLine<'_>) -> Result<(), Refusal> {
         let object = self.object_of(line)?;
-        let bytes = self.sealed(object, &line.keys)?;
+        let bytes = self.seal_file(object, &line.keys)?;
         let name = self.listed_name(line, &bytes)?;
         let name = format!(in self.alloc; "metadata/{name}")?;
         let _ = self.files.insert(name, bytes)?;
@@ -276,7 +276,7 @@ impl Repository {
                 put(alloc, &mut self.listed, name.as_str(), listing)?;
             }
         }
-        Ok(names::versioned(alloc, self.consistent, line.version, name.as_str())?)
+        Ok(names::version_name(alloc, self.consistent, line.version, name.as_str())?)
     }
 
     /// What a root file says (TUF 1.0 section 4.3).
@@ -359,7 +359,7 @@ impl Repository {
     }
 
     /// The file that says this, which is an object, signed by the keys.
-    fn sealed(&mut self, signed: Value, keys: &[u8]) -> Result<Vec<u8>, Refusal> {
+    fn seal_file(&mut self, signed: Value, keys: &[u8]) -> Result<Vec<u8>, Refusal> {
         if !signed.is_object() {
             return Err(Refusal::Line);
         }

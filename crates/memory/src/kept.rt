@@ -27,7 +27,7 @@ impl<'a, J: Judge> Kept<'a, J> {
     }
 
     /// How many questions the cache answered; it stays at the greatest number.
-    pub fn taken_over(&self) -> u64 {
+    pub fn taken_over_count(&self) -> u64 {
         self.taken_over
     }
 }

@@ -1,5 +1,5 @@
--- What is asked of each file, whatever its kind: its name, its reading, its limit, its length and its
--- digests (TUF 1.0 sections 4 and 5).
+-- What is asked of each file, whatever its kind: its name, its reading, its limit, its length and
+-- its digests (TUF 1.0 sections 4 and 5).
 use Rattle.std.specs.Prelude.{ℕ, ◌==◌, if◌then◌else◌, List, [], ◌∷◌, ◌++◌, Bool, Option, option_map, option_to_list, decimal, codes, Result, Ok, Err, nat_lt, length, ◌&&◌, ◌||◌, not, false, Some, None, is_none, bytes_eq, ⊤, ◌≡◌}
 use Rattle.std.specs.List.{list_any}
 use Rattle.std.specs.Option.{option_map_or}
@@ -96,8 +96,8 @@ part_of form limit bytes = do
   reading ← reading_of form bytes
   Ok (record { bytes = bytes; reading = reading })
 
--- # The length and the digests of a file (TUF 1.0 sections 5.3 to 5.7): the first check that fails is
--- the answer.
+-- # The length and the digests of a file (TUF 1.0 sections 5.3 to 5.7): the first check that fails
+-- is the answer.
 
 -- a digest is listed, and it isn't that of the bytes
 abbrev pub differs : Option (List ℕ) → List ℕ → Bool

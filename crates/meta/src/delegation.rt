@@ -8,7 +8,7 @@ ghost use Rattle.meta.specs.Patterns as rule;
 ghost use Rattle.cjson.specs.Form.{Reads};
 
 use cjson::ReadFault;
-use cjson::form::{FromJson, needed, optional};
+use cjson::form::{FromJson, needed_member, optional_member};
 use cjson::list::Items;
 use cjson::text::Text;
 use keys::RoleKeys;
@@ -144,8 +144,8 @@ impl FromJson for Paths {
     ghost form = { spec.paths };
 
     fn from_json(alloc: Global, value: &Value) -> Result<Paths, ReadFault> {
-        let patterns = optional(alloc, value, "paths")?;
-        let prefixes = optional(alloc, value, "path_hash_prefixes")?;
+        let patterns = optional_member(alloc, value, "paths")?;
+        let prefixes = optional_member(alloc, value, "path_hash_prefixes")?;
         match (patterns, prefixes) {
             (Some(found), None) => Ok(Paths::Patterns(found)),
             (None, Some(found)) => Ok(Paths::Prefixes(found)),
@@ -159,7 +159,7 @@ impl FromJson for Delegation {
 
     fn from_json(alloc: Global, value: &Value) -> Result<Delegation, ReadFault> {
         Ok(Delegation {
-            name: needed(alloc, value, "name")?,
+            name: needed_member(alloc, value, "name")?,
             keys: RoleKeys::from_json(alloc, value)?,
             terminating: flag(alloc, value, "terminating")?,
             paths: Paths::from_json(alloc, value)?,
@@ -170,5 +170,5 @@ impl FromJson for Delegation {
 pub(crate) fn flag(alloc: Global, value: &Value, name: &str) -> Result<bool, ReadFault>
     ensures { Reads (spec.flag name.now (view value.now)) result }
 {
-    Ok(optional(alloc, value, name)?.unwrap_or(false))
+    Ok(optional_member(alloc, value, name)?.unwrap_or(false))
 }

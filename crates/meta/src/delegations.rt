@@ -4,7 +4,7 @@ ghost use Rattle.meta.specs.Metadata as spec;
 
 use crate::delegation::Delegation;
 use cjson::ReadFault;
-use cjson::form::{FromJson, needed, optional};
+use cjson::form::{FromJson, needed_member, optional_member};
 use cjson::list::Items;
 use cjson::number::Within;
 use cjson::text::Text;
@@ -48,8 +48,8 @@ impl FromJson for Bins {
     fn from_json(alloc: Global, value: &Value) -> Result<Bins, ReadFault> {
         Ok(Bins {
             keys: RoleKeys::from_json(alloc, value)?,
-            bits: needed(alloc, value, "bit_length")?,
-            prefix: needed(alloc, value, "name_prefix")?,
+            bits: needed_member(alloc, value, "bit_length")?,
+            prefix: needed_member(alloc, value, "name_prefix")?,
         })
     }
 }
@@ -58,8 +58,8 @@ impl FromJson for Roles {
     ghost form = { spec.roles };
 
     fn from_json(alloc: Global, value: &Value) -> Result<Roles, ReadFault> {
-        let listed = optional(alloc, value, "roles")?;
-        let bins = optional(alloc, value, "succinct_roles")?;
+        let listed = optional_member(alloc, value, "roles")?;
+        let bins = optional_member(alloc, value, "succinct_roles")?;
         match (listed, bins) {
             (Some(found), None) => Ok(Roles::Listed(found)),
             (None, Some(found)) => Ok(Roles::Binned(found)),
@@ -73,7 +73,7 @@ impl FromJson for Delegations {
 
     fn from_json(alloc: Global, value: &Value) -> Result<Delegations, ReadFault> {
         Ok(Delegations {
-            ring: needed(alloc, value, "keys")?,
+            ring: needed_member(alloc, value, "keys")?,
             roles: Roles::from_json(alloc, value)?,
         })
     }

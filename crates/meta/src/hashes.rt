@@ -7,7 +7,7 @@ ghost use Rattle.cjson.specs.Form as form_of;
 ghost use Rattle.meta.specs.Metadata as spec;
 
 use cjson::ReadFault;
-use cjson::form::{FromJson, optional};
+use cjson::form::{FromJson, optional_member};
 use serde_json::{Map, Value};
 use std::alloc::Global;
 
@@ -28,8 +28,8 @@ impl FromJson for Hashes {
         if !has_only_texts(found) {
             return Err(ReadFault::Malformed);
         }
-        let sha256 = optional(alloc, value, "sha256")?;
-        let sha512 = optional(alloc, value, "sha512")?;
+        let sha256 = optional_member(alloc, value, "sha256")?;
+        let sha512 = optional_member(alloc, value, "sha512")?;
         Ok(Hashes { sha256, sha512 })
     }
 }

@@ -6,7 +6,7 @@ ghost use Rattle.cjson.specs.Form as form_of;
 ghost use Rattle.meta.specs.Metadata as spec;
 
 use cjson::ReadFault;
-use cjson::form::needed;
+use cjson::form::needed_member;
 use cjson::number::Positive;
 use cjson::text::is_text;
 use moment::Moment;
@@ -28,7 +28,7 @@ pub(crate) fn read_header(alloc: Global, kind: &str, value: &Value) -> Result<He
     if !is_text(value, "_type", kind) || !is_of_version_one(value) {
         return Err(ReadFault::Malformed);
     }
-    let version = needed(alloc, value, "version")?;
+    let version = needed_member(alloc, value, "version")?;
     let expires = expires(value).ok_or(ReadFault::Malformed)?;
     Ok(Header { version, expires })
 }

@@ -8,7 +8,7 @@ use crate::content::Content;
 use crate::fault::Stop;
 use crate::hashes::Hashes;
 use cjson::ReadFault;
-use cjson::form::{FromJson, needed, optional};
+use cjson::form::{FromJson, needed_member, optional_member};
 use cjson::number::{Length, Positive};
 use keys::Judge;
 use serde_json::Value;
@@ -52,9 +52,9 @@ impl FromJson for Listing {
 
     fn from_json(alloc: Global, value: &Value) -> Result<Listing, ReadFault> {
         Ok(Listing {
-            version: needed(alloc, value, "version")?,
-            length: optional(alloc, value, "length")?,
-            hashes: optional(alloc, value, "hashes")?,
+            version: needed_member(alloc, value, "version")?,
+            length: optional_member(alloc, value, "length")?,
+            hashes: optional_member(alloc, value, "hashes")?,
         })
     }
 }

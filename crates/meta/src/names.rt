@@ -1,4 +1,5 @@
 //! The names under which files lie in a repository (TUF 1.0, consistent snapshots).
+
 ghost use Rattle.std.specs.Prelude.{◌≡◌, IfOk, string_bytes};
 ghost use Rattle.hex.specs.Hex.{encode_lower};
 ghost use Rattle.meta.specs.Content as spec;
@@ -20,7 +21,7 @@ pub fn role_name(alloc: Global, role: &str) -> Result<String, AllocError>
 }
 
 /// The file of that name and version: `VERSION.NAME` under consistent snapshots, else `NAME`.
-pub fn versioned(
+pub fn version_name(
     alloc: Global,
     consistent: bool,
     version: u64,
@@ -39,7 +40,7 @@ pub fn versioned(
 /// The file of a target with that digest, under consistent snapshots: `DIR/HASH.BASE`, where `BASE`
 /// is what follows the last `/` of the path and `HASH` the digest in lower-case hexadecimal.
 #[tactic(auto, using(crate::proofs::Hashed::in_folder, crate::proofs::Hashed::no_folder))]
-pub fn hashed(alloc: Global, digest: &[u8], path: &str) -> Result<String, AllocError>
+pub fn digest_name(alloc: Global, digest: &[u8], path: &str) -> Result<String, AllocError>
     ensures name { IfOk result (λ s. string_bytes s
         ≡ spec.hashed (encode_lower digest.now) path.now) }
 {

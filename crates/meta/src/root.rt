@@ -9,7 +9,7 @@ ghost use Rattle.cjson.specs.Form.{Reads};
 use crate::delegation::flag;
 use crate::header::{Header, read_header};
 use crate::part::Reading;
-use cjson::form::needed;
+use cjson::form::needed_member;
 use cjson::{Doc, ReadFault};
 use keys::{KeyRing, RoleKeys};
 use serde_json::Value;
@@ -104,7 +104,7 @@ impl Reading for Root {
         let value = doc.tree();
         Ok(Root {
             header: read_header(alloc, "root", value)?,
-            ring: needed(alloc, value, "keys")?,
+            ring: needed_member(alloc, value, "keys")?,
             root: role_of(alloc, value, "root")?,
             timestamp: role_of(alloc, value, "timestamp")?,
             snapshot: role_of(alloc, value, "snapshot")?,
@@ -122,5 +122,5 @@ fn role_of(alloc: Global, value: &Value, name: &str) -> Result<RoleKeys, ReadFau
     ensures { Reads (spec.role_of name.now (view value.now)) result }
 {
     let roles = value.get("roles").ok_or(ReadFault::Malformed)?;
-    needed(alloc, roles, name)
+    needed_member(alloc, roles, name)
 }

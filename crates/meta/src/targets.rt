@@ -10,7 +10,7 @@ use crate::fault::Stop;
 use crate::hashes::Hashes;
 use crate::header::{Header, read_header};
 use crate::part::Reading;
-use cjson::form::{needed, optional};
+use cjson::form::{needed_member, optional_member};
 use cjson::list::Items;
 use cjson::members::{FromMember, read_members};
 use cjson::number::Length;
@@ -72,8 +72,8 @@ impl FromMember for Target {
 
     fn from_member(alloc: Global, name: &str, value: &Value) -> Result<Target, ReadFault> {
         Ok(Target {
-            length: needed(alloc, value, "length")?,
-            hashes: needed(alloc, value, "hashes")?,
+            length: needed_member(alloc, value, "length")?,
+            hashes: needed_member(alloc, value, "hashes")?,
             path: Text::new(String::from_str(alloc, name)?),
         })
     }
@@ -132,7 +132,7 @@ impl Reading for Targets {
         let header = read_header(alloc, "targets", value)?;
         let listed = value.get("targets").ok_or(ReadFault::Malformed)?;
         let targets = read_members(alloc, listed)?;
-        let delegations = optional(alloc, value, "delegations")?;
+        let delegations = optional_member(alloc, value, "delegations")?;
         Ok(Targets {
             header,
             targets,

@@ -7,7 +7,7 @@ ghost use Rattle.meta.specs.Content.{timestamp_limit};
 use crate::header::{Header, read_header};
 use crate::listing::Listing;
 use crate::part::Reading;
-use cjson::form::needed;
+use cjson::form::needed_member;
 use cjson::{Doc, ReadFault};
 use std::alloc::Global;
 use std::marker::Model;
@@ -52,7 +52,7 @@ impl Reading for Timestamp {
         let value = doc.tree();
         let header = read_header(alloc, "timestamp", value)?;
         let meta = value.get("meta").ok_or(ReadFault::Malformed)?;
-        let snapshot = needed(alloc, meta, "snapshot.json")?;
+        let snapshot = needed_member(alloc, meta, "snapshot.json")?;
         Ok(Timestamp { header, snapshot })
     }
 

@@ -4,9 +4,9 @@ use crate::plain::{told, yes_or_no};
 use anyhow::Result;
 use cjson::form::FromJson;
 use deleg::{bin_name, matches, prefix_matches};
-use folder::joined;
+use folder::path_below;
 use meta::Bins;
-use meta::names::{hashed, role_name, root_name, versioned};
+use meta::names::{digest_name, role_name, root_name, version_name};
 use serde_json::json;
 use sessions::Step;
 use std::alloc::Global;
@@ -53,7 +53,7 @@ pub fn role(alloc: Global, step: &Step) -> Result<String> {
 
 /// The path of a name below a folder.
 pub fn below(alloc: Global, step: &Step) -> Result<String> {
-    line(alloc, joined(alloc, step.word(0)?, step.word(1)?)?)
+    line(alloc, path_below(alloc, step.word(0)?, step.word(1)?)?)
 }
 
 /// The name of a file of a version, under consistent snapshots or not.
@@ -62,14 +62,14 @@ pub fn versioned_name(alloc: Global, step: &Step) -> Result<String> {
     let version = step.word(1)?.parse::<u64>()?;
     line(
         alloc,
-        versioned(alloc, is_consistent, version, step.word(2)?)?,
+        version_name(alloc, is_consistent, version, step.word(2)?)?,
     )
 }
 
 /// The name of a target's file by the bytes of a digest.
 pub fn hashed_name(alloc: Global, step: &Step) -> Result<String> {
     let digest = hex::decode(alloc, step.word(0)?)?;
-    line(alloc, hashed(alloc, digest.as_slice(), step.word(1)?)?)
+    line(alloc, digest_name(alloc, digest.as_slice(), step.word(1)?)?)
 }
 
 /// Whether so many stars match as many characters, then with another character behind the stars,

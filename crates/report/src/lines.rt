@@ -1,4 +1,5 @@
 //! The lines that a run prints, and its exit status.
+
 ghost use Rattle.std.specs.Prelude.{◌≡◌, ◌≤◌, ◌⊎◌, ◌↔◌, [], ◌∷◌, ◌++◌, true, All, IfErr, IfOk};
 ghost use Rattle.std.specs.Prelude.{OnOk, codes, decimal, flat_map, map, string_bytes};
 ghost use Rattle.std.specs.Io.KnownBytes.{Appends};
@@ -6,7 +7,7 @@ ghost use Rattle.failure.specs.Failures as words;
 ghost use Rattle.report.specs.Lines as spec;
 ghost use Rattle.std.specs.List.{list_all};
 
-use crate::quote::quoted;
+use crate::quote::quote_name;
 use cycle::{Accepted, End, Fault, Outcome, Step, Verdict};
 use failure::{Failure, of_io};
 use std::alloc::{AllocError, Global};
@@ -116,7 +117,7 @@ fn push_role(alloc: Global, text: &mut String, accepted: &Accepted) -> Result<()
     ensures line { OnOk result (string_bytes text.new
         ≡ string_bytes text.old ++ spec.role_text accepted.now) }
 {
-    let role = quoted(alloc, accepted.role.as_str())?;
+    let role = quote_name(alloc, accepted.role.as_str())?;
     let version = accepted.version;
     writeln!(text, "role {role} {version}")
 }
@@ -171,8 +172,8 @@ fn push_good(
         ++ words.line (codes "ok" ∷ spec.quoted_text path.now ∷ decimal length
         ∷ spec.quoted_text role.now ∷ [])) }
 {
-    let path = quoted(alloc, path)?;
-    let role = quoted(alloc, role)?;
+    let path = quote_name(alloc, path)?;
+    let role = quote_name(alloc, role)?;
     writeln!(text, "ok {path} {length} {role}")
 }
 
@@ -181,7 +182,7 @@ fn push_no(alloc: Global, text: &mut String, path: &str, why: &str) -> Result<()
     ensures line { OnOk result (string_bytes text.new ≡ string_bytes text.old
         ++ words.line (codes "no" ∷ spec.quoted_text path.now ∷ why.now ∷ [])) }
 {
-    let path = quoted(alloc, path)?;
+    let path = quote_name(alloc, path)?;
     writeln!(text, "no {path} {why}")
 }
 
@@ -197,8 +198,8 @@ fn push_refused(
         ++ words.line (codes "no" ∷ spec.quoted_text path.now ∷ spec.fault_word fault
         ∷ spec.quoted_text role.now ∷ [])) }
 {
-    let path = quoted(alloc, path)?;
-    let role = quoted(alloc, role)?;
+    let path = quote_name(alloc, path)?;
+    let role = quote_name(alloc, role)?;
     let fault = fault_name(fault);
     writeln!(text, "no {path} {fault} {role}")
 }

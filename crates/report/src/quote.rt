@@ -1,4 +1,5 @@
 //! Names as they are printed.
+
 ghost use Rattle.std.specs.Prelude.{◌≡◌, [], ◌∷◌, ◌++◌, IfOk, OnOk, string_bytes};
 ghost use Rattle.hex.specs.Hex.{encode_lower};
 ghost use Rattle.report.specs.Lines.{quoted_byte, quoted_text};
@@ -7,7 +8,7 @@ use std::alloc::{AllocError, Global};
 
 /// The name in double quotes: each byte outside 0x20 to 0x7e, each `"` and each `\` stands as `\x`
 /// and two lower-case hexadecimal digits.
-pub(crate) fn quoted(alloc: Global, name: &str) -> Result<String, AllocError>
+pub(crate) fn quote_name(alloc: Global, name: &str) -> Result<String, AllocError>
     ensures text { IfOk result (λ text. string_bytes text ≡ quoted_text name.now) }
 {
     let mut text = String::from_str(alloc, "\"")?;

@@ -8,6 +8,7 @@ use Rattle.cjson.specs.Form.{needed, optional, ok, ◌>>=◌}
 use Rattle.meta.specs.Metadata as form
 use Rattle.meta.specs.Content.{Form, Part, part_of, root_limit, timestamp_limit, snapshot_limit, targets_limit}
 pub use Rattle.rolechain.specs.Advance.{State}
+pub use Rattle.rolechain.specs.declared.text.Kept.{Kept}
 
 -- # Every trusted file is the reading of its bytes (TUF 1.0 section 4).
 
@@ -23,13 +24,6 @@ pub record AreRead (s : State) : Type 0 where
   pub targets : IfSome s.targets (IsRead form.targets targets_limit)
 
 -- # What a state file keeps.
-
--- the bytes of the trusted files
-pub record Kept : Type 0 where
-  pub root : List ℕ
-  pub snapshot : Option (List ℕ)
-  pub targets : Option (List ℕ)
-  pub timestamp : Option (List ℕ)
 
 abbrev pub bytes_in : {A : Type 0} → Option (Part A) → Option (List ℕ)
 bytes_in p = option_map (λ p. p.bytes) p

@@ -7,7 +7,7 @@ ghost use Rattle.examine.specs.Checks.{expectation};
 ghost use Rattle.rolechain.specs.Advance as spec;
 
 use examine::{Expectation, Listed};
-use meta::names::{role_name, versioned};
+use meta::names::{role_name, version_name};
 use meta::{Listing, Named, Root, Snapshot};
 use std::alloc::{AllocError, Global};
 
@@ -67,7 +67,7 @@ pub fn place_of(
     match find_name(snapshot.files(), plain.as_str()) {
         Some(named) => {
             let version = named.listing.version.get();
-            let name = versioned(alloc, root.consistent(), version, plain.as_str())?;
+            let name = version_name(alloc, root.consistent(), version, plain.as_str())?;
             Ok((Listed::As(named.listing), name))
         }
         None => Ok((Listed::Absent, plain)),

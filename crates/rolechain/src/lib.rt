@@ -15,5 +15,6 @@ mod workflow;
 pub use end::{End, Step};
 pub use expected::place_of;
 pub use fault::StateFault;
+pub use roots::{LAST_VERSION, MOST_ROOTS};
 pub use state::Trusted;
 pub use workflow::advance;

@@ -15,11 +15,11 @@ use keys::Judge;
 use meta::names::root_name;
 use meta::{Fault, Part, Root, Stop};
 
-/// The most roots that a cycle accepts.
-const MOST_ROOTS: u32 = 256;
+/// The most roots that a cycle accepts (TUF 1.0 section 5.3.3).
+pub const MOST_ROOTS: u32 = 256;
 
 /// The greatest version: a root of this version has no successor.
-const LAST_VERSION: u64 = i64::MAX as u64;
+pub const LAST_VERSION: u64 = i64::MAX as u64;
 
 /// The roots that follow, the last of which must not be expired (TUF 1.0 section 5.3).
 pub(crate) fn root_step<J: Judge>(
@@ -63,12 +63,12 @@ fn successor<J: Judge>(
     if root.header().version.get() >= LAST_VERSION {
         return Ok(None);
     }
-    let name = root_name(round.alloc, due_version(root))?;
+    let version = due_version(root);
+    let name = root_name(round.alloc, version)?;
     if !round.files.contains_key(name.as_str()) {
         return Ok(None);
     }
     let expect = due_root(root, name.as_str());
-    let version = due_version(root);
     let next = examine_root(round.alloc, &expect, version, round.files, judge)?;
     Ok(Some(next))
 }

@@ -13,7 +13,7 @@ use examine::{
     examine_first_timestamp, examine_next_timestamp, examine_snapshot, examine_targets, is_expired,
 };
 use keys::Judge;
-use meta::names::versioned;
+use meta::names::version_name;
 use meta::{Fault, Moment, Part, Root, Snapshot, Stop, Targets, Timestamp};
 use std::alloc::Global;
 use std::collections::BTreeMap;
@@ -105,7 +105,7 @@ fn listed_snapshot<J: Judge>(
     let timestamp = state.timestamp().ok_or(Fault::NotListed)?;
     let listing = timestamp.reading().snapshot();
     let version = listing.version.get();
-    let name = versioned(round.alloc, root.consistent(), version, "snapshot.json")?;
+    let name = version_name(round.alloc, root.consistent(), version, "snapshot.json")?;
     let expect = due_snapshot(root, listing, name.as_str());
     let old = old_snapshot(state);
     examine_snapshot(round.alloc, &expect, old, round.files, round.moment, judge)

@@ -9,7 +9,7 @@ ghost use Rattle.rolechain.specs.Text.{state_in, kept_in, part_in};
 
 use crate::fault::StateFault;
 use crate::state::Trusted;
-use cjson::form::{FromJson, needed, optional};
+use cjson::form::{FromJson, needed_member, optional_member};
 use cjson::{NoMemory, ReadFault, read_tree};
 use meta::{Fault, Part, Reading, Root, Snapshot, Stop, Targets, Timestamp};
 use serde_json::Value;
@@ -18,7 +18,7 @@ use std::marker::Model;
 
 /// Bytes that a text spells in hexadecimal.
 #[derive(Drop)]
-struct Hex {
+pub(crate) struct Hex {
     bytes: Vec<u8>,
 }
 
@@ -45,25 +45,11 @@ impl FromJson for Hex {
 
 /// The files that a state's text keeps.
 #[derive(Drop)]
-struct Kept {
-    root: Hex,
-    snapshot: Option<Hex>,
-    targets: Option<Hex>,
-    timestamp: Option<Hex>,
-}
-
-impl Model for Kept {
-    ghost use Rattle.rolechain.specs.Kept as spec;
-    ghost use Rattle.rolechain.specs.Kept.{AreRead};
-
-    ghost Value = { spec.Kept };
-
-    ghost view = { λ k. record {
-      root = k.root;
-      snapshot = k.snapshot;
-      targets = k.targets;
-      timestamp = k.timestamp;
-    } };
+pub(crate) struct Kept {
+    pub root: Hex,
+    pub snapshot: Option<Hex>,
+    pub targets: Option<Hex>,
+    pub timestamp: Option<Hex>,
 }
 
 impl FromJson for Kept {
@@ -71,10 +57,10 @@ impl FromJson for Kept {
 
     fn from_json(alloc: Global, value: &Value) -> Result<Kept, ReadFault> {
         Ok(Kept {
-            root: needed(alloc, value, "root")?,
-            snapshot: optional(alloc, value, "snapshot")?,
-            targets: optional(alloc, value, "targets")?,
-            timestamp: optional(alloc, value, "timestamp")?,
+            root: needed_member(alloc, value, "root")?,
+            snapshot: optional_member(alloc, value, "snapshot")?,
+            targets: optional_member(alloc, value, "targets")?,
+            timestamp: optional_member(alloc, value, "timestamp")?,
         })
     }
 }
@@ -127,7 +113,7 @@ fn kept_in(alloc: Global, text: &[u8]) -> Result<Kept, StateFault>
 {
     let tree = read_tree(alloc, text)?;
     let kept = Kept::from_json(alloc, &tree)?;
-    let spelled = respelled(alloc, &kept)?;
+    let spelled = own_text(alloc, &kept)?;
     if text != spelled.as_slice() {
         return Err(StateFault::Malformed);
     }
@@ -154,7 +140,7 @@ fn of_fault(fault: Fault) -> StateFault
     }
 }
 
-fn respelled(alloc: Global, kept: &Kept) -> Result<Vec<u8>, NoMemory>
+fn own_text(alloc: Global, kept: &Kept) -> Result<Vec<u8>, NoMemory>
     ensures { IfOk result (λ text. text.items ≡ spec.kept_text kept.now) }
 {
     let root = kept.root.bytes.as_slice();

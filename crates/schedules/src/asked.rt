@@ -1,4 +1,5 @@
 //! What is asked of a run with workers.
+
 ghost use Rattle.std.specs.Prelude.{◌≤◌};
 
 use crate::gates::Rule;

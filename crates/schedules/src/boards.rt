@@ -1,4 +1,5 @@
 //! Boards that threads share, with no cycle.
+
 ghost use Rattle.std.specs.Prelude.{◌≡◌, ◌<◌, All, IfOk, IfSome, OnOk, length};
 ghost use Rattle.board.specs.Board.{IsSeatOf, IsFree};
 
@@ -74,7 +75,7 @@ fn push_found(text: &mut String, board: &Board, seat: &mut Seat) -> Result<()>
 {
     ensure!(!board.claim(seat, 0), "a taken or decided check is won");
     let look = board.look(seat, 0);
-    let is_stopped = board.stopped(seat);
+    let is_stopped = board.is_stopped(seat);
     writeln!(text, "{look:?}, stopped: {is_stopped}")?;
     Ok(())
 }

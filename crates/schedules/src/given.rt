@@ -1,4 +1,5 @@
 //! Checks whose truths are given.
+
 ghost use Rattle.std.specs.Prelude.{◌≤◌, vec_len};
 
 use anyhow::{Result, bail, ensure};

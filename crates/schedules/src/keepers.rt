@@ -1,4 +1,5 @@
 //! Cycles of a keeper, each from the state that the one before led to.
+
 ghost use Rattle.std.specs.Prelude.{◌≤◌, IfSome};
 
 use crate::asked::Asked;

@@ -1,4 +1,5 @@
 //! Plans of questions, with no worker.
+
 ghost use Rattle.std.specs.Prelude.{◌≤◌};
 
 use crate::repositories::{Made, read};

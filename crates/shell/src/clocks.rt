@@ -1,4 +1,5 @@
 //! Clocks that show one time, and folders that fail.
+
 ghost use Rattle.std.specs.Prelude.{◌≡◌, ◌≤◌, ◌<◌, ◌⊎◌, ◌^◌, ◌-◌, true, IsErr, OnErr};
 ghost use Rattle.folder.specs.Folders.{HasFailed};
 
@@ -142,7 +143,7 @@ impl Folder for FailingFolder {
         Ok(Vec::from_slice(alloc, b"{}")?)
     }
 
-    fn failed(&self) -> u64 {
+    fn failure_count(&self) -> u64 {
         self.faults
     }
 }

@@ -1,4 +1,5 @@
 //! Files on the disk that are replaced as a whole.
+
 ghost use Rattle.std.specs.Prelude.{◌≡◌, true};
 
 use crate::place::{Place, replace};

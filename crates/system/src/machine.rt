@@ -1,4 +1,5 @@
 //! The system that a process runs on.
+
 ghost use Rattle.std.specs.Prelude.{◌≡◌, true};
 
 use crate::calls::System;

@@ -1,4 +1,5 @@
 //! A file that is replaced as a whole.
+
 ghost use Rattle.std.specs.Prelude.{◌≡◌, List, ℕ, Bool, true, OnErr, OnOk};
 
 use std::io;

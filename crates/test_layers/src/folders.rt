@@ -1,7 +1,7 @@
 //! Folders on the disk and in memory.
 
 use crate::stored::Memory;
-use folder::{Depth, Disk, Folder, LoadFault, joined, load};
+use folder::{Depth, Disk, Folder, LoadFault, path_below, load};
 use std::collections::BTreeMap;
 use std::os::unix::fs::symlink;
 use std::rt::Files;
@@ -17,7 +17,7 @@ fn fresh<R: Files + AllocGlobal>(rt: &R, folder: &str) -> io::Result<()> {
 /// Makes a folder with a file in it and one two folders below, links beside them, and a link to it.
 fn tree<R: Files + AllocGlobal>(rt: &R, folder: &str) -> Result<(), Fail> {
     fresh(rt, folder)?;
-    fs::create_dir_all(rt, joined(rt.alloc(), folder, "top/d/e")?.as_str())?;
+    fs::create_dir_all(rt, path_below(rt.alloc(), folder, "top/d/e")?.as_str())?;
     write(rt, folder, "top/f", "1")?;
     write(rt, folder, "top/d/e/f", "22")?;
     link(rt, folder, "top/link", "f")?;
@@ -26,12 +26,12 @@ fn tree<R: Files + AllocGlobal>(rt: &R, folder: &str) -> Result<(), Fail> {
 }
 
 fn write<R: Files + AllocGlobal>(rt: &R, folder: &str, name: &str, text: &str) -> Result<(), Fail> {
-    let path = joined(rt.alloc(), folder, name)?;
+    let path = path_below(rt.alloc(), folder, name)?;
     Ok(fs::write(rt, path.as_str(), text)?)
 }
 
 fn link<R: Files + AllocGlobal>(rt: &R, folder: &str, name: &str, to: &str) -> Result<(), Fail> {
-    let path = joined(rt.alloc(), folder, name)?;
+    let path = path_below(rt.alloc(), folder, name)?;
     Ok(symlink(rt, to, path.as_str())?)
 }
 
@@ -63,7 +63,7 @@ fn folders_below_are_loaded(rt: HostRuntime) -> Result<(), Fail> {
     assert_eq!(rt; files.len(), 2);
     assert!(rt; has(&files, "f", "1"));
     assert!(rt; has(&files, "d/e/f", "22"));
-    assert_eq!(rt; below.failed(), 0);
+    assert_eq!(rt; below.failure_count(), 0);
     Ok(fs::remove_dir_all(&rt, "folders_below_are_loaded")?)
 }
 
@@ -71,9 +71,9 @@ fn folders_below_are_loaded(rt: HostRuntime) -> Result<(), Fail> {
 fn fails<R: Files + AllocGlobal + Clone + Drop>(rt: &R, path: String) -> bool {
     let mut folder = Disk::new(rt, path, Depth::Below);
     let loaded = load(rt.alloc(), &mut folder).err() == Some(LoadFault::Folder);
-    let once = folder.failed() == 1;
+    let once = folder.failure_count() == 1;
     let read = folder.read(rt.alloc(), "f").err() == Some(LoadFault::Folder);
-    loaded && once && read && folder.failed() == 2
+    loaded && once && read && folder.failure_count() == 2
 }
 
 #[test]
@@ -96,7 +96,7 @@ fn a_folder_in_memory_fails_at_each_call(rt: HostRuntime) -> Result<(), Fail> {
             matches!(load(alloc, &mut folder), Err(LoadFault::Folder)),
             "{calls}"
         );
-        assert_eq!(rt; folder.failed(), 1);
+        assert_eq!(rt; folder.failure_count(), 1);
     }
     Ok(())
 }
@@ -109,6 +109,6 @@ fn a_folder_in_memory_is_loaded(rt: HostRuntime) -> Result<(), Fail> {
     assert_eq!(rt; loaded.len(), 2);
     assert!(rt; has(&loaded, "a", "1"));
     assert!(rt; has(&loaded, "b/c", "22"));
-    assert_eq!(rt; folder.failed(), 0);
+    assert_eq!(rt; folder.failure_count(), 0);
     Ok(())
 }

@@ -127,7 +127,7 @@ fn remembering(
     };
     let mut judge = Kept::new(cache, &mut counting);
     let text = text_after(alloc, trusted, repo, &mut judge)?;
-    let remembered = judge.taken_over();
+    let remembered = judge.taken_over_count();
     drop(judge);
     Ok(Cycle {
         text,

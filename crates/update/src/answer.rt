@@ -1,4 +1,5 @@
 //! What is told of an outcome.
+
 ghost use Rattle.std.specs.Prelude.{◌≡◌, ◌≢◌, ◌≤◌, IfErr, IfOk, map, string_bytes};
 ghost use Rattle.update.specs.Told.{IsTold};
 

@@ -1,4 +1,5 @@
 //! The moment of a verification.
+
 ghost use Rattle.std.specs.Prelude.{◌≡◌, IfErr, IfOk, None, Some, option_map};
 ghost use Rattle.moment.specs.Moment.{moment_of};
 ghost use Rattle.update.specs.Told.{IsMomentOf, IsNoMoment};

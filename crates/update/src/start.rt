@@ -1,4 +1,5 @@
 //! What a verification begins with.
+
 ghost use Rattle.std.specs.Prelude.{◌≡◌, ◌≤◌, ◌⊎◌, IfErr, IfOk, option_map, map, string_bytes};
 ghost use Rattle.folder.specs.Folders.{IsLoaded};
 ghost use Rattle.update.specs.Told.{IsMomentOf, IsRead, start_from, start_of};

@@ -1,4 +1,5 @@
 //! The state file.
+
 ghost use Rattle.std.specs.Prelude.{◌≡◌, ◌⊎◌, true, IfErr, IfOk, OnErr, OnOk};
 ghost use Rattle.update.specs.Told.{IsRead, state_text};
 

@@ -3,7 +3,7 @@
 use crate::plain::Json;
 use anyhow::{Result, bail};
 use cjson::ReadFault;
-use cjson::form::{FromJson, needed, optional};
+use cjson::form::{FromJson, needed_member, optional_member};
 use cjson::list::Items;
 use cjson::number::{Length, Positive, Within};
 use cjson::text::Text;
@@ -58,7 +58,7 @@ fn spelled<const N: usize>(alloc: Global, bytes: Result<[u8; N], ReadFault>) -> 
 /// A member that has to be there, and is a truth.
 pub fn needed_truth(alloc: Global, step: &Step) -> Result<String> {
     let json = Json::read(alloc, step.text_behind(1))?;
-    truth(alloc, needed(alloc, &json.tree, step.word(0)?))
+    truth(alloc, needed_member(alloc, &json.tree, step.word(0)?))
 }
 
 fn truth(alloc: Global, truth: Result<bool, ReadFault>) -> Result<String> {
@@ -71,7 +71,7 @@ fn truth(alloc: Global, truth: Result<bool, ReadFault>) -> Result<String> {
 /// A member that may be there, and then is a truth.
 pub fn optional_truth(alloc: Global, step: &Step) -> Result<String> {
     let json = Json::read(alloc, step.text_behind(1))?;
-    truth_or_none(alloc, optional(alloc, &json.tree, step.word(0)?))
+    truth_or_none(alloc, optional_member(alloc, &json.tree, step.word(0)?))
 }
 
 fn truth_or_none(alloc: Global, found: Result<Option<bool>, ReadFault>) -> Result<String> {
@@ -85,7 +85,7 @@ fn truth_or_none(alloc: Global, found: Result<Option<bool>, ReadFault>) -> Resul
 /// A member that has to be there, and is a text.
 pub fn needed_text(alloc: Global, step: &Step) -> Result<String> {
     let json = Json::read(alloc, step.text_behind(1))?;
-    quoted(alloc, needed(alloc, &json.tree, step.word(0)?))
+    quoted(alloc, needed_member(alloc, &json.tree, step.word(0)?))
 }
 
 fn quoted(alloc: Global, text: Result<Text, ReadFault>) -> Result<String> {

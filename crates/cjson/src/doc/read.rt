@@ -9,7 +9,7 @@ ghost use Rattle.cjson.specs.Document as spec;
 
 use crate::doc::{Doc, Entry};
 use crate::fault::{DocFault, ReadFault};
-use crate::form::needed;
+use crate::form::needed_member;
 use crate::list::Items;
 use crate::tree::read_tree;
 use crate::write::canonical;
@@ -103,7 +103,7 @@ fn read_entries(alloc: Global, tree: &Value) -> Result<Items<Entry>, DocFault>
     ensures err { IfErr result (λ e. e ≢ DocFault.NoMemory
         → (e ≡ DocFault.BadSignatures) × (spec.entries_of (view tree.now) ≡ None)) }
 {
-    match needed(alloc, tree, "signatures") {
+    match needed_member(alloc, tree, "signatures") {
         Ok(entries) => Ok(entries),
         Err(ReadFault::Malformed) => Err(DocFault::BadSignatures),
         Err(ReadFault::NoMemory) => Err(DocFault::NoMemory),

@@ -1,7 +1,7 @@
 use Rattle.std.proofs.Common.{◌≡◌, map}
 use Rattle.std.specs.List.{range_with_len}
 use Rattle.hands.specs.Parts.{start_of, part_of}
-use Rattle.hands.proofs.dealing.filled.Given as goal
+use Rattle.hands.proofs.dealing.hands_apart.Given as goal
 
 abbrev pub invariant-loop-k : goal.invariant-loop-k
 invariant-loop-k l = record {

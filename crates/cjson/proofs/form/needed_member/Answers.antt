@@ -1,5 +1,5 @@
 use Rattle.std.proofs.Common.{rules}
-use Rattle.cjson.proofs.form.needed.Goals as goal
+use Rattle.cjson.proofs.form.needed_member.Goals as goal
 
 pub returns : goal.returns
 returns = search rules
