@@ -1,19 +1,24 @@
 -- The chain of roots, a root at a time.
 use Rattle.std.proofs.Common.{◌≡◌, ℕ, zero, suc, Option, Some, None, Result, Ok, Err, ◌<◌, ◌+◌, refl, sym, ap, ◌∙◌, subst, arith}
+use Rattle.std.specs.Option.{option_map_or}
 use Rattle.cjson.specs.Document.{◌>>=◌}
 use Rattle.moment.specs.Moment.{Moment}
 use Rattle.meta.specs.Metadata.{Root}
 use Rattle.meta.specs.Content.{Part}
 use Rattle.meta.specs.declared.fault.Fault.{Fault}
 use Rattle.examine.specs.Checks.{Files}
-use Rattle.rolechain.specs.Advance.{State, Advanced, or_stop, with_root, successor, chained, followed, Leaves}
+use Rattle.rolechain.specs.Advance.{State, Advanced, or_stop, with_root, successor, followed, Leaves}
 use Rattle.rolechain.specs.declared.end.Step.TheVariants as step
 use Rattle.rolechain.specs.declared.end.Halt.{Halt}
 
 module _ (files : Files) (now : Moment) where
+  -- the state with the next root and those behind it, at most so many
+  abbrev pub onward : ℕ → State → Option (Part Root) → Result State Advanced
+  onward n s next = option_map_or (λ next. followed files now n (with_root s next)) next (Ok s)
+
   -- what follows the answer of the next root, with so many roots to go behind it
   abbrev pub behind : ℕ → State → Result (Option (Part Root)) Fault → Result State Advanced
-  behind n s next = or_stop s step.Root next >>= chained files now s (followed files now n)
+  behind n s next = or_stop s step.Root next >>= onward n s
 
   followed-zero : (s : State) → followed files now zero s ≡ Ok s
   unfolding followed

@@ -6,10 +6,11 @@ use Rattle.meta.specs.Metadata.{Root, Timestamp}
 use Rattle.meta.specs.Content.{Part}
 use Rattle.meta.specs.declared.fault.Fault.{Fault}
 use Rattle.examine.specs.Checks.{Files, expiry_check, first_timestamp}
-use Rattle.rolechain.specs.Advance.{State, is_ready, due_timestamp, Advanced, or_stop, with_root, with_newer, successor, chained, followed, unexpired, root_step, renewed, newer_timestamp, timestamp_step, listed_snapshot, snapshot_step, listed_targets, targets_step, steps, ended, advanced}
+use Rattle.rolechain.specs.Advance.{State, is_ready, due_timestamp, Advanced, or_stop, with_root, with_newer, successor, followed, unexpired, root_step, renewed, newer_timestamp, timestamp_step, listed_snapshot, snapshot_step, listed_targets, targets_step, steps, ended, advanced}
 use Rattle.rolechain.specs.declared.end.Step.{Step}
 use Rattle.rolechain.specs.declared.end.Step.TheVariants as step
 use Rattle.rolechain.specs.declared.end.End.TheVariants.{Ready}
+use Rattle.rolechain.proofs.Chain.{onward}
 
 -- where a step goes on, the state passes the test; a stop isn't ready
 abbrev Gives : (State → Bool) → Result State Advanced → Type 0
@@ -54,14 +55,14 @@ later-there s (Ok None) there = there
 later-there s (Err fault) there = λ e. cc
 
 module _ (files : Files) (now : Moment) where
-  chained-gives : (s : State) (more : State → Result State Advanced) (o : Option (Part Root)) → ((t : State) → Gives any (more t)) → Gives any (chained files now s more o)
-  chained-gives s more None given = refl
-  chained-gives s more (Some next) given = given (with_root s next)
+  onward-gives : (n : ℕ) (s : State) (o : Option (Part Root)) → ((t : State) → Gives any (followed files now n t)) → Gives any (onward files now n s o)
+  onward-gives n s None given = refl
+  onward-gives n s (Some next) given = given (with_root s next)
 
   followed-gives : (most : ℕ) (s : State) → Gives any (followed files now most s)
   unfolding followed
   followed-gives zero s = refl
-  followed-gives (suc most) s = gives-checked any s step.Root (successor files now s.root.reading) _ (λ o. chained-gives s (followed files now most) o (followed-gives most))
+  followed-gives (suc most) s = gives-checked any s step.Root (successor files now s.root.reading) _ (λ o. onward-gives most s o (followed-gives most))
 
   root_step-gives : (s : State) → Gives any (root_step files now s)
   root_step-gives s = gives-next any any (followed files now 256 s) (unexpired files now) (followed-gives 256 s)

@@ -150,18 +150,13 @@ module _ (files : Files) (now : Moment) where
       if nat_le greatest r.header.version then Ok None
       else following r (files (root_name (r.header.version + 1)))
 
-  -- the next root is trusted, and then the one that follows it, if any (5.3.7 to 5.3.9)
-  abbrev pub chained : State → (State → Result State Advanced) → Option (Part Root)
-      → Result State Advanced
-  chained s more None = Ok s
-  chained s more (Some next) = more (with_root s next)
-
-  -- the roots that follow, at most `most`
+  -- the roots that follow, at most `most`: each is trusted, and then the one behind it, if there is
+  -- one (5.3.7 to 5.3.9)
   unfoldable pub followed : ℕ → State → Result State Advanced
   followed zero s = Ok s
   followed (suc most) s = do
     next ← or_stop s step.Root (successor s.root.reading)
-    chained s (followed most) next
+    option_map_or (λ next. followed most (with_root s next)) next (Ok s)
 
   -- the last root must not be expired (5.3.10)
   abbrev pub unexpired : State → Result State Advanced
@@ -224,6 +219,7 @@ module _ (files : Files) (now : Moment) where
 
   -- ---- the whole
 
+  -- the roots (5.3), the timestamp (5.4), the snapshot (5.5) and the top-level targets file (5.6)
   unfoldable pub steps : State → Result State Advanced
   steps s = do
     s ← root_step s

@@ -1,8 +1,7 @@
 //! The trusted state.
 
-ghost use Rattle.std.specs.Prelude.{◌≡◌, IfOk, IfSome, option_map};
+ghost use Rattle.std.specs.Prelude.{◌≡◌, IfOk, option_map};
 ghost use Rattle.rolechain.specs.Advance as spec;
-ghost use Rattle.rolechain.specs.Kept.{AreRead, IsRead};
 
 use crate::rotation::is_rotated;
 use cjson::NoMemory;
@@ -59,18 +58,13 @@ impl Trusted {
         snapshot: Option<Part<Snapshot>>,
         targets: Option<Part<Targets>>,
     ) -> Trusted
-        ensures state { result ≡ record {
+        ensures { result ≡ record {
           root = root;
           timestamp = timestamp;
           snapshot = snapshot;
           targets = targets;
         } }
-        ensures parts { AreRead result }
     {
-        note_read(&root);
-        note_each_read(&timestamp);
-        note_each_read(&snapshot);
-        note_each_read(&targets);
         Trusted {
             root,
             timestamp,
@@ -137,7 +131,6 @@ impl Trusted {
     pub(crate) fn trust_root(&mut self, next: Part<Root>)
         ensures { self.new ≡ spec.with_root self.old next }
     {
-        note_read(&next);
         if is_rotated(self.root.reading(), next.reading()) {
             self.timestamp = None;
             self.snapshot = None;
@@ -148,21 +141,18 @@ impl Trusted {
     pub(crate) fn trust_timestamp(&mut self, next: Part<Timestamp>)
         ensures { self.new ≡ spec.with_timestamp self.old next }
     {
-        note_read(&next);
         self.timestamp = Some(next);
     }
 
     pub(crate) fn trust_snapshot(&mut self, next: Part<Snapshot>)
         ensures { self.new ≡ spec.with_snapshot self.old next }
     {
-        note_read(&next);
         self.snapshot = Some(next);
     }
 
     pub(crate) fn trust_targets(&mut self, next: Part<Targets>)
         ensures { self.new ≡ spec.with_targets self.old next }
     {
-        note_read(&next);
         self.targets = Some(next);
     }
 }
@@ -173,21 +163,5 @@ fn copy_of<A: Reading + Drop>(part: &Option<Part<A>>) -> Result<Option<Part<A>>,
     match part {
         Some(part) => Ok(Some(part.copy()?)),
         None => Ok(None),
-    }
-}
-
-/// Notes for the proof that a file is what its bytes are read as; nothing is done.
-fn note_read<A: Reading + Drop>(part: &Part<A>)
-    ensures { IsRead A.form A.limit part.now }
-{
-    let _bytes = part.bytes();
-    let _reading = part.reading();
-}
-
-fn note_each_read<A: Reading + Drop>(part: &Option<Part<A>>)
-    ensures { IfSome part.now (IsRead A.form A.limit) }
-{
-    if let Some(part) = part {
-        note_read(part);
     }
 }

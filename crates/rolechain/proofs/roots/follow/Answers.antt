@@ -2,9 +2,9 @@ use Rattle.std.proofs.Common.{◌≡◌, Ok, ap, sym, subst, ◌∙◌, arith}
 use Rattle.std.proofs.lemmas.Result.{err_from_is_err_and}
 use Rattle.meta.specs.Content.{Answers}
 use Rattle.examine.specs.Checks.{file_in}
-use Rattle.rolechain.specs.Advance.{successor, chained, followed}
+use Rattle.rolechain.specs.Advance.{successor}
 use Rattle.rolechain.specs.declared.end.Step.TheVariants as step
-use Rattle.rolechain.proofs.Chain.{begins, more, refused, ends, full}
+use Rattle.rolechain.proofs.Chain.{onward, begins, more, refused, ends, full}
 use Rattle.rolechain.proofs.InOrder.{gives, stops_at}
 use Rattle.rolechain.proofs.roots.follow.Goals as goal
 
@@ -20,7 +20,7 @@ returns-in_err-next g c =
     let answer : Answers (successor files now s.root.reading) c.successor.result (λ p. p) = subst (λ r. Answers (successor files now r) c.successor.result (λ p. p)) root c.successor.ensures in
     let p = err_from_is_err_and c.from_residual.result c.from_residual.ensures.1 in
     rw (p.1, p.2) (refused files now 256 _ _ s _ (omega (arith, c.loop-done-test.true))
-    (λ m. stops_at step.Root s (successor files now s.root.reading) c.successor.result _ (chained files now s (followed files now m)) answer (sym c.or_halt.ensures ∙ c.in_err-next.was)) c.loop-done.invariant)
+    (λ m. stops_at step.Root s (successor files now s.root.reading) c.successor.result _ (onward files now m s) answer (sym c.or_halt.ensures ∙ c.in_err-next.was)) c.loop-done.invariant)
 
 pub returns-in-None : goal.returns-in-None
 returns-in-None g c =
