@@ -6,7 +6,7 @@
 For each character that a file's name and a word may hold (all below 128 but NUL and the slash, and some above), a role
 `rX` lists a target `pX`, and a last word asks for a target that no role lists. All metadata is signed by the Python
 beside this script. A run of `tufcheck verify`, by no worker and by eight, must find each target and quote the names as
-docs/FORMATS.md says. Then a file whose name isn't UTF-8 stands in one of the two folders: the run must refuse the
+docs/USERS.md says. Then a file whose name isn't UTF-8 stands in one of the two folders: the run must refuse the
 folder, with status 4, print nothing and store nothing. `rt run` in crates/tufcheck proves and builds the program.
 """
 import hashlib
