@@ -8,7 +8,7 @@
 # the Nth call of a run fails with "no space left"): the run must tell its failure and leave the old state or the new one,
 # and nothing beside it. Then the program is killed KILLS times at a random moment of a run. At last, for the superuser,
 # the state stands in a file system of 64 KiB that is full. A small library, made with `cc`, stands before the C library's
-# calls. `rt run` in crates/tufcheck proves and builds the program, once; the rest takes a minute.
+# calls. `rt run` in crates/tufcheck proves and builds the program, once.
 set -u
 kills=${1:-500}
 top=$(cd "$(dirname "$0")/.." && pwd) || exit 2

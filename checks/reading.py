@@ -1,6 +1,6 @@
-"""Verifies a repository as docs/FORMATS.md says (TUF 1.0 sections 4 and 5, RFC 8554), for second.py beside it. It was
-written from that page and shares no code with the crates. A file's tree is what Python's `json` reads, but for what the
-page says otherwise; a float in it is a `Float`."""
+"""Verifies a repository as docs/FORMATS.md says (TUF 1.0 sections 4 and 5, RFC 8554), and tells it in the lines of
+docs/USERS.md, for second.py beside it. It was written from these pages and shares no code with the crates. A file's tree
+is what Python's `json` reads, but for what they say otherwise; a float in it is a `Float`."""
 import hashlib
 import json
 import math

@@ -7,8 +7,6 @@
 # program `trials`, which is proved and built first: with up to 8 workers, plans of 3 or up to 4,096 questions, and
 # gates that do nothing, hold each worker to the end, or make it wait for a drawn time. The script ends with status 1
 # where a run told something else, and with 2 where the program couldn't be built or run.
-#
-# The 10,000 runs took two and a half minutes on four busy cores, where the program was built already.
 set -u
 runs=${1:-5000} seed=${2:-1}
 top=$(cd "$(dirname "$0")/.." && pwd) || exit 2

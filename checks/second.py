@@ -7,7 +7,7 @@ A history is a first root and then three states of one repository: roots that ro
 by patterns, prefixes and bins that meet and lead round, thresholds, keys of both widths, one public value under two ids.
 In most states up to two files are hurt: in what they say, in their signatures, in their bytes, in how they are listed.
 Each is verified from the trusted state of the one before, by `tufcheck verify` with 0 or 4 workers and by reading.py
-beside this script, which was written from docs/FORMATS.md and shares no code with the crates. The lines, the status and
+beside this script, which was written from the pages of docs and shares no code with the crates. The lines, the status and
 the bytes of the new state must be the same. The last lines say how often each end and each verdict came. A history that
 differs is left in a folder, whose name is printed, and the status is then 1.
 

@@ -5,7 +5,7 @@
 #   checks/tallest.sh
 #
 # `rt run` in crates/trials proves and builds the program. The first key takes 284 million steps of chains and the
-# second 33 million, so it takes some 40 to 110 seconds, by how busy the machine is.
+# second 33 million.
 set -u
 top=$(cd "$(dirname "$0")/.." && pwd) || exit 2
 work=$(mktemp -d) || exit 2
