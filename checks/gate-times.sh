@@ -4,7 +4,7 @@
 # or an edit sees its price.
 #
 #   checks/gate-times.sh [LOG [WORD..]]      what the gate prints goes to LOG, gate.log unless given, and the words to
-#                                            rt ci, as --anew, which takes nothing that an earlier run proved
+#                                            rt ci, as --anew in a kit whose gate else takes over what it proved before
 #
 # It looks at the prover's processes every five seconds, so nothing else should be proved on the machine meanwhile, and a
 # task of less than that may be missing. It takes as long as the gate, and ends with its status.

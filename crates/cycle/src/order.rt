@@ -7,7 +7,7 @@ ghost use Rattle.cycle.specs.Workflow as spec;
 
 use crate::limits::Limits;
 use crate::outcome::Outcome;
-use crate::roles::gathered;
+use crate::roles::gather_roles;
 use crate::target::{Store, verdicts_of};
 use cjson::NoMemory;
 use deleg::{Searched, search};
@@ -69,7 +69,7 @@ fn close<J: Judge>(
         consistent: trusted.root().reading().consistent(),
     };
     let verdicts = verdicts_of(&store, searches, judge)?;
-    let accepted = gathered(cycle.alloc, searches)?;
+    let accepted = gather_roles(cycle.alloc, searches)?;
     Ok(Outcome::new(trusted, end, verdicts, accepted))
 }
 
@@ -87,13 +87,13 @@ fn searches<J: Judge>(
 {
     let mut all = Vec::with_capacity(cycle.alloc, cycle.wanted.len())?;
     for path in cycle.wanted {
-        all.push(searched(cycle, trusted, end, path.as_str(), judge)?)?;
+        all.push(search_path(cycle, trusted, end, path.as_str(), judge)?)?;
     }
     Ok(all)
 }
 
 /// The search for a path, where the cycle is ready.
-fn searched<J: Judge>(
+fn search_path<J: Judge>(
     cycle: &Cycle,
     trusted: &Trusted,
     end: End,
