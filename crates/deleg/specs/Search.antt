@@ -173,6 +173,10 @@ pub record Visited : Type 0 where
   pub found : Option Found
   pub accepted : List Accepted
 
+-- what comes of the visit to a delegation's role, where those roles were accepted before
+abbrev pub Visits : Type 0
+Visits = Edge → List Accepted → Visited
+
 abbrev pub done : Option Found → List Accepted → Visited
 done found seen = record { found = found; accepted = seen }
 
@@ -197,9 +201,9 @@ go_on terminating rest None seen = if terminating then done (Some NotFound) seen
 abbrev pub and_then : Edge → (List Accepted → Visited) → Visited → Visited
 and_then e rest v = go_on e.terminating rest v.found v.accepted
 
-abbrev pub walk_by : (Edge → List Accepted → Visited) → List Edge → List Accepted → Visited
-walk_by visit [] seen = done None seen
-walk_by visit (e ∷ es) seen = and_then e (walk_by visit es) (visit e seen)
+abbrev pub walk_by : Visits → List Edge → List Accepted → Visited
+walk_by visits [] seen = done None seen
+walk_by visits (e ∷ es) seen = and_then e (walk_by visits es) (visits e seen)
 
 -- ---- one file
 
@@ -230,12 +234,29 @@ examined files now top snap e =
 abbrev pub settled : Visited → Searched
 settled v = record { found = unwrap_or v.found NotFound; accepted = v.accepted }
 
+-- from the top-level targets file
+abbrev pub from_top : Visits → List ℕ → Targets → Searched
+from_top visits path m = settled (in_file path (walk_by visits) (codes "targets") m [])
+
+-- in a trusted state that is ready
+abbrev pub search_by : Visits → State → List ℕ → Option Searched
+search_by visits s path = option_map (λ m. from_top visits path m.reading) s.targets
+
 -- `most` is how many roles may be visited, the top-level role among them
 module _ (files : Files) (now : Moment) (top : Root) (snap : Snapshot)
     (path : List ℕ) (most : ℕ) where
+  -- The visits are those of a search in preorder: a role that was visited is skipped, one too many
+  -- ends the search, and so does a refused one; else the role is accepted, and the path is looked
+  -- up in its file and then below it.
+  abbrev pub IsPreorder : Visits → Type 0
+  IsPreorder visits = (e : Edge) (seen : List Accepted) → visits e seen
+      ≡ (if is_visited seen e.name then done None seen
+      else if nat_le most (length seen + 1) then done (Some LimitReached) seen
+      else entered path (walk_by visits) e seen (examined files now top snap e))
+
   -- `depth` bounds how deep visits nest. Each adds a role, so a search within its limit never
   -- reaches the bound.
-  abbrev pub visit : ℕ → Edge → List Accepted → Visited
+  abbrev pub visit : ℕ → Visits
   visit zero e seen =
       if is_visited seen e.name then done None seen else done (Some LimitReached) seen
   visit (suc depth) e seen =
@@ -243,21 +264,15 @@ module _ (files : Files) (now : Moment) (top : Root) (snap : Snapshot)
       else if nat_le most (length seen + 1) then done (Some LimitReached) seen
       else entered path (walk_by (visit depth)) e seen (examined files now top snap e)
 
+  -- so these visits are in preorder
+  abbrev pub IsSolved : Type 0
+  IsSolved = IsPreorder (visit (suc most))
+
   abbrev pub walk : List Edge → List Accepted → Visited
   walk = walk_by (visit (suc most))
 
-  -- The search in preorder, with no depth: a role that was visited is skipped, one too many ends
-  -- the search, and so does a refused one; else the role is accepted, and the path is looked up in
-  -- its file and then below it.
-  abbrev pub IsPreorder : Type 0
-  IsPreorder = (e : Edge) (seen : List Accepted) → visit (suc most) e seen
-      ≡ (if is_visited seen e.name then done None seen
-      else if nat_le most (length seen + 1) then done (Some LimitReached) seen
-      else entered path walk e seen (examined files now top snap e))
-
-  -- from the top-level targets file
   abbrev pub search_from : Targets → Searched
-  search_from m = settled (in_file path walk (codes "targets") m [])
+  search_from m = from_top (visit (suc most)) path m
 
 -- the search in a trusted state that is ready
 abbrev pub search_in : Files → Moment → State → List ℕ → ℕ → Option Searched

@@ -1,6 +1,7 @@
 //! The search for a path.
 
 ghost use Rattle.std.specs.Prelude.{◌≡◌, IfOk, IsTrue, Some};
+ghost use Rattle.meta.specs.Content.{Part};
 ghost use Rattle.meta.specs.Metadata.{Snapshot};
 ghost use Rattle.examine.specs.Checks.{file_in};
 ghost use Rattle.rolechain.specs.Advance.{is_ready};
@@ -38,7 +39,12 @@ pub fn search<J: Judge>(
     judge: &mut J,
 ) -> Result<Searched, NoMemory>
     requires { IsTrue (is_ready trusted.now) }
-    ensures preorder { (snapshot : Snapshot) → spec.IsPreorder (file_in repo.now.metadata) now
+    ensures preorder { (visits : spec.Visits) (snapshot : Part Snapshot)
+        → trusted.now.snapshot ≡ Some snapshot
+        → spec.IsPreorder (file_in repo.now.metadata) now trusted.now.root.reading
+        snapshot.reading path.now limit visits
+        → IfOk result (λ s. spec.search_by visits trusted.now path.now ≡ Some s) }
+    ensures solved { (snapshot : Snapshot) → spec.IsSolved (file_in repo.now.metadata) now
         trusted.now.root.reading snapshot path.now limit }
     ensures searched { IfOk result (λ s.
         spec.search_in (file_in repo.now.metadata) now trusted.now path.now limit ≡ Some s) }
