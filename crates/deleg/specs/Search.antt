@@ -285,7 +285,8 @@ search_in files now s path most =
 -- what the search gives, where these delegations are pending and these roles were accepted
 unfoldable pub outlook : Query → List Edge → List Accepted → Searched
 outlook q es seen =
-    settled (walk (file_in q.files.now) q.moment q.root.now q.snapshot.now q.path.now q.limit es seen)
+    settled
+    (walk (file_in q.files.now) q.moment q.root.now q.snapshot.now q.path.now q.limit es seen)
 
 -- the pending delegations of each file, the last file's first
 abbrev pub pending : List ℕ → List (List Edge) → List Edge

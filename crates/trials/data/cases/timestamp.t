@@ -232,3 +232,26 @@ The moments at which it may expire: later than the run, and spelled so that they
   root 1
   end timestamp Malformed
   [2]
+
+A snapshot of another type, of which the timestamp lists no digest.
+  $ copy good metadata/timestamp.json
+  $ copy metadata/snapshot.json listed
+  $ change metadata/snapshot.json 3
+  > "_type":"snapshot"
+  > "_type":"targets"
+  $ verify old new abc.txt
+  root 1
+  end snapshot Malformed
+  no "abc.txt" NotSearched
+  [2]
+
+A snapshot that lists an unknown algorithm alone.
+  $ copy listed metadata/snapshot.json
+  $ change metadata/snapshot.json 3
+  > "version":1}
+  > "hashes":{"md5":"900150983cd24fb0d6963f7d28e17f72"},"version":1}
+  $ verify old new abc.txt
+  root 1
+  end targets NoKnownHash
+  no "abc.txt" NotSearched
+  [2]
