@@ -14,9 +14,11 @@ use Rattle.rolechain.specs.Kept.{kept_of, kept_text}
 pub use Rattle.rolechain.specs.Advance.{State}
 use Rattle.rolechain.specs.declared.fault.StateFault.TheVariants.{TooLong}
 pub use Rattle.rolechain.specs.declared.fault.StateFault.{StateFault}
-pub use Rattle.cycle.specs.Workflow.{Files, Stopped, Outcome, workflow}
+pub use Rattle.cycle.specs.Workflow.{Files, Outcome, workflow}
 use Rattle.cycle.specs.declared.round.Round.{Round}
-use Rattle.report.specs.Lines.{outcome_status, last_status, Root, end_text, outcome_text, root_text, cycles_text}
+use Rattle.failure.specs.declared.failure.Failure.{Failure}
+use Rattle.failure.specs.declared.failure.Failure.TheVariants as failure
+use Rattle.report.specs.Lines.{outcome_status, last_status, outcome_text, cycles_text}
 use Rattle.update.specs.declared.start.Terms.{Terms}
 use Rattle.update.specs.declared.start.Start as program
 
@@ -102,22 +104,22 @@ pub record Begins (gives : List ℕ → Bool) (shows : ℕ → Bool) (text : Opt
   pub of_moment : IsMomentOf shows text moment
   pub then : follows trusted moment
 
--- A root file that was read and is trusted: its state is stored, and its version told.
-pub record IsTrusted (gives keeps : List ℕ → Bool) (old new : Option (List ℕ)) : Type 0 where
+-- A root file that was read and is trusted: its state is stored, and more holds of it.
+pub record IsTrusted (gives keeps : List ℕ → Bool) (follows : State → Type 0) : Type 0 where
   pub bytes : List ℕ
   pub trusted : State
   pub read : gives bytes ≡ true
   pub of_root : root_state bytes ≡ Ok trusted
   pub kept : keeps (state_text trusted) ≡ true
-  pub line : Appends old new (root_text trusted.root.reading.header.version)
+  pub then : follows trusted
 
--- A root file that was read and is refused: its fault is told.
-pub record IsRefused (gives : List ℕ → Bool) (old new : Option (List ℕ)) : Type 0 where
+-- A root file that was read and is refused, with a fault of which more holds.
+pub record IsRefused (gives : List ℕ → Bool) (follows : StateFault → Type 0) : Type 0 where
   pub bytes : List ℕ
   pub fault : StateFault
   pub read : gives bytes ≡ true
   pub of_root : root_state bytes ≡ Err fault
-  pub line : Appends old new (end_text (Stopped Root (fault_of fault)))
+  pub then : follows fault
 
 -- # What the values of the program stand for.
 
