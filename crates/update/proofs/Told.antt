@@ -1,5 +1,5 @@
 -- What a verification did, out of what its steps did.
-use Rattle.std.proofs.Common.{◌≡◌, ◌≢◌, ◌⊎◌, inl, inr, Result, Ok, Err, IfErr, IfOk, OnErr, OnOk, List, ℕ, Bool, true, false, Option, ap, subst, sym, ◌∙◌, true≢false}
+use Rattle.std.proofs.Common.{◌≡◌, ◌≢◌, ◌⊎◌, inl, inr, Result, Ok, Err, IfErr, IfOk, IsErrAnd, OnErr, OnOk, List, ℕ, Bool, true, Option, refl, subst}
 use Rattle.std.specs.Bool.{⊤}
 use Rattle.std.specs.Io.KnownBytes.{Appends}
 use Rattle.examine.specs.Checks.{file_in}
@@ -8,19 +8,30 @@ use Rattle.cycle.specs.Workflow.{Outcome}
 use Rattle.report.specs.Lines.{cycles_text, outcome_text, last_status, outcome_status}
 use Rattle.failure.specs.declared.failure.Failure.{Failure}
 use Rattle.failure.specs.declared.failure.Failure.TheVariants as failure
+use Rattle.folder.specs.declared.files.LoadFault.{LoadFault}
+use Rattle.folder.specs.declared.files.LoadFault.TheVariants as load
+use Rattle.rolechain.specs.declared.fault.StateFault.{StateFault}
+use Rattle.rolechain.specs.declared.fault.StateFault.TheVariants as state
 use Rattle.moment.specs.Moment.{Moment}
 use Rattle.rolechain.specs.Advance.{State}
 use Rattle.update.specs.Told.{IsMomentOf, AreTold, IsReplayed, outcomes_of, state_after, Begins, IsRead, IsStored, IsTold, Loaded, Start, outcome_of, state_text}
 
-abbrev is_folder : Failure → Bool
-is_folder failure.Folder = true
-is_folder _ = false
+-- the failure that a folder's fault is
+pub of_load : {T : Type 0} (r : Result T Failure) (e : LoadFault)
+    → IsErrAnd r (λ f. (e ≡ load.Folder → f ≡ failure.Folder) × (e ≡ load.NoMemory → f ≡ failure.Memory))
+    → IfErr r (λ f. (f ≡ failure.Memory) ⊎ (f ≡ failure.Folder))
+of_load (Ok x) e h = tt
+of_load (Err f) load.Folder h = inr (h.0 refl)
+of_load (Err f) load.NoMemory h = inl (h.1 refl)
 
--- want of memory and a refused output are no failed folder
-pub no_folder : {A : Type 0} (r : Result A Failure) → IfErr r (λ f. (f ≡ failure.Memory) ⊎ (f ≡ failure.Output)) → IfErr r (λ f. f ≢ failure.Folder)
-no_folder (Ok x) h = tt
-no_folder (Err e) (inl is) = λ folder. true≢false (sym (ap is_folder folder) ∙ ap is_folder is)
-no_folder (Err e) (inr is) = λ folder. true≢false (sym (ap is_folder folder) ∙ ap is_folder is)
+-- the failure that a state's fault is
+pub of_state : {T : Type 0} (r : Result T Failure) (e : StateFault)
+    → IsErrAnd r (λ f. (e ≡ state.NoMemory → f ≡ failure.Memory) × (e ≢ state.NoMemory → f ≡ failure.State))
+    → IfErr r (λ f. (f ≡ failure.Memory) ⊎ (f ≡ failure.State))
+of_state (Ok x) e h = tt
+of_state (Err f) state.TooLong h = inr (h.1 (λ is. cc))
+of_state (Err f) state.Malformed h = inr (h.1 (λ is. cc))
+of_state (Err f) state.NoMemory h = inl (h.0 refl)
 
 -- the lines and the status of an answer
 pub told : {E : Type 0} (o : Outcome) (wanted : List (List ℕ)) (old new : Option (List ℕ)) (r : Result ℕ E)
@@ -44,6 +55,14 @@ pub begun : {E : Type 0} (gives : List ℕ → Bool) (shows : ℕ → Bool) (tex
 begun gives shows text follows trusted moment (Ok status) read shown then = record { trusted = trusted; moment = moment; read = read; of_moment = shown; then = then }
 begun gives shows text follows trusted moment (Err e) read shown then = tt
 
+pub begun_failure : {A E : Type 0} (gives : List ℕ → Bool) (shows : ℕ → Bool) (text : Option (List ℕ)) (Q : Type 0) (follows : State → Moment → Type 0)
+    (trusted : State) (moment : Moment) (r : Result A E)
+    → IsRead gives trusted → IsMomentOf shows text moment → OnErr r (Q ⊎ follows trusted moment)
+    → OnErr r (Q ⊎ Begins gives shows text follows)
+begun_failure gives shows text Q follows trusted moment (Ok x) read shown h = tt
+begun_failure gives shows text Q follows trusted moment (Err e) read shown (inl same) = inl same
+begun_failure gives shows text Q follows trusted moment (Err e) read shown (inr then) = inr (record { trusted = trusted; moment = moment; read = read; of_moment = shown; then = then })
+
 -- the start and the place by other names
 pub renamed : {E : Type 0} (of_metadata of_targets : Loaded → Type 0) (keeps : List ℕ → List ℕ → Bool) (s t : Start) (place other : List ℕ) (old new : Option (List ℕ)) (r : Result ℕ E)
     → s ≡ t → place ≡ other
@@ -52,6 +71,14 @@ pub renamed : {E : Type 0} (of_metadata of_targets : Loaded → Type 0) (keeps :
 renamed of_metadata of_targets keeps s t place other old new r same at h =
     subst (λ q. IfOk r (λ status. IsStored of_metadata of_targets t (keeps q) (λ o. IsTold o t.wanted status old new))) at
     (subst (λ u. IfOk r (λ status. IsStored of_metadata of_targets u (keeps place) (λ o. IsTold o u.wanted status old new))) same h)
+
+pub renamed_failure : {A E : Type 0} (of_metadata of_targets : Loaded → Type 0) (keeps : List ℕ → List ℕ → Bool) (s t : Start) (place other : List ℕ) (Q : Type 0) (r : Result A E)
+    → s ≡ t → place ≡ other
+    → OnErr r (Q ⊎ IsStored of_metadata of_targets s (keeps place) (λ _. ⊤))
+    → OnErr r (Q ⊎ IsStored of_metadata of_targets t (keeps other) (λ _. ⊤))
+renamed_failure of_metadata of_targets keeps s t place other Q r same at h =
+    subst (λ q. OnErr r (Q ⊎ IsStored of_metadata of_targets t (keeps q) (λ _. ⊤))) at
+    (subst (λ u. OnErr r (Q ⊎ IsStored of_metadata of_targets u (keeps place) (λ _. ⊤))) same h)
 
 -- what holds anyway holds after an answer, and after a failure
 pub after_answer : {A E : Type 0} {P : Type 0} (r : Result A E) → P → OnOk r P
@@ -111,3 +138,11 @@ pub renamed_cycles : {E : Type 0} (loaded : List Repo → Type 0) (keeps : List 
 renamed_cycles loaded keeps s t place other old new r same at h =
     subst (λ q. IfOk r (λ status. IsReplayed loaded t (keeps q) (λ os. AreTold os t.wanted status old new))) at
     (subst (λ u. IfOk r (λ status. IsReplayed loaded u (keeps place) (λ os. AreTold os u.wanted status old new))) same h)
+
+pub renamed_cycles_failure : {A E : Type 0} (loaded : List Repo → Type 0) (keeps : List ℕ → List ℕ → Bool) (s t : Start) (place other : List ℕ) (Q : Type 0) (r : Result A E)
+    → s ≡ t → place ≡ other
+    → OnErr r (Q ⊎ IsReplayed loaded s (keeps place) (λ _. ⊤))
+    → OnErr r (Q ⊎ IsReplayed loaded t (keeps other) (λ _. ⊤))
+renamed_cycles_failure loaded keeps s t place other Q r same at h =
+    subst (λ q. OnErr r (Q ⊎ IsReplayed loaded t (keeps q) (λ _. ⊤))) at
+    (subst (λ u. OnErr r (Q ⊎ IsReplayed loaded u (keeps place) (λ _. ⊤))) same h)

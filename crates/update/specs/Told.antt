@@ -34,10 +34,10 @@ abbrev pub IsMomentOf : (ℕ → Bool) → Option (List ℕ) → Moment → Type
 IsMomentOf shows (Some text) m = moment_of text ≡ Some m
 IsMomentOf shows None m = (seconds : ℕ) × ((shows seconds ≡ true) × IsAfter seconds m)
 
--- a text that spells no moment
-abbrev pub IsNoMoment : Option (List ℕ) → Type 0
-IsNoMoment (Some text) = moment_of text ≡ None
-IsNoMoment None = ⊥
+-- why there is no moment: the text spells none, or there is no text and the clock shows none
+abbrev pub IsNoMoment : Option (List ℕ) → Failure → Type 0
+IsNoMoment (Some text) f = (f ≡ failure.Now) × (moment_of text ≡ None)
+IsNoMoment None f = f ≡ failure.Clock
 
 -- # The fault that is told of a refused root.
 

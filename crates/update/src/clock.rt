@@ -14,8 +14,7 @@ use system::System;
 pub fn moment<S: System>(system: &S, text: Option<&str>) -> Result<Moment, Failure>
     ensures moment { IfOk result (
         IsMomentOf (S.shows system.now) (option_map (λ t. t.now) text.entry)) }
-    ensures refused { IfErr result (λ f. f ≡ Failure.Now
-        → IsNoMoment (option_map (λ t. t.now) text.entry)) }
+    ensures refused { IfErr result (IsNoMoment (option_map (λ t. t.now) text.entry)) }
 {
     match text {
         Some(text) => spelled(text),
@@ -26,7 +25,8 @@ pub fn moment<S: System>(system: &S, text: Option<&str>) -> Result<Moment, Failu
 /// The moment that the text spells.
 fn spelled(text: &str) -> Result<Moment, Failure>
     ensures moment { IfOk result (λ m. moment_of text.now ≡ Some m) }
-    ensures refused { IfErr result (λ _. moment_of text.now ≡ None) }
+    ensures refused { IfErr result
+        (λ f. (f ≡ Failure.Now) × (moment_of text.now ≡ None)) }
 {
     Moment::read(text).ok_or(Failure::Now)
 }

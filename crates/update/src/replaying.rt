@@ -1,6 +1,5 @@
 //! One cycle after another, each on a repository that lies in two folders.
-
-ghost use Rattle.std.specs.Prelude.{◌≡◌, ◌≤◌, ◌⊎◌, ⊤, IfErr, IfOk, OnErr, OnOk};
+ghost use Rattle.std.specs.Prelude.{◌≡◌, ◌≢◌, ◌≤◌, ◌⊎◌, ⊤, IfErr, IfOk, OnErr, OnOk};
 ghost use Rattle.std.specs.Prelude.{option_map, map, string_bytes};
 ghost use Rattle.folder.specs.Folders.{IsLoaded};
 ghost use Rattle.update.specs.Told.{Begins, AreLoaded, AreTold, IsReplayed};
@@ -30,7 +29,9 @@ pub struct Cycles<'a> {
 }
 
 /// Replays what the words name: the moment is read first, then the state file, and then the
-/// folders, as [`replay_from`] does.
+/// folders, as [`replay_from`] does. Where the moment, the state file or a folder fails, nothing is
+/// stored and nothing printed. After want of memory or a refused output either that holds too, or
+/// the last state is stored whole.
 pub fn replay<R: Threads + Wait + Sync, S: System, M: Folder + Drop, T: Folder + Drop, W: Write>(
     rt: &R,
     alloc: Global,
@@ -48,6 +49,17 @@ pub fn replay<R: Threads + Wait + Sync, S: System, M: Folder + Drop, T: Folder +
         (start_from terms.now trusted moment) (S.keeps system.new terms.now.out.now)
         (λ os. AreTold os (map string_bytes terms.now.wanted.items) status (W.contents out.old)
         (W.contents out.new)))) }
+    ensures order { OnErr result (((S.keeps system.new ≡ S.keeps system.old)
+        × (W.contents out.new ≡ W.contents out.old))
+        ⊎ Begins (S.gives system.old terms.now.state.now)
+        (S.shows system.old) (option_map (λ t. t.now) terms.now.moment) (λ trusted moment.
+        IsReplayed (AreLoaded (λ f. IsLoaded (M.lists f.metadata) (M.holds f.metadata))
+        (λ f. IsLoaded (T.lists f.targets) (T.holds f.targets)) folders.items)
+        (start_from terms.now trusted moment) (S.keeps system.new terms.now.out.now)
+        (λ _. ⊤))) }
+    ensures quiet { IfErr result (λ f. f ≢ Failure.Memory → f ≢ Failure.Output
+        → (S.keeps system.new ≡ S.keeps system.old)
+        × (W.contents out.new ≡ W.contents out.old)) }
 {
     let start = begin(alloc, system, terms)?;
     replay_from(rt, alloc, system, &Cycles { start, keep }, folders, out)
@@ -59,10 +71,10 @@ pub fn replay<R: Threads + Wait + Sync, S: System, M: Folder + Drop, T: Folder +
 /// workflow on the files that the folders gave; what is remembered from cycle to cycle bears on
 /// none of it.
 ///
-/// All folders are read before the first cycle. Where one fails, nothing is stored and nothing
-/// printed; and no line is printed before the state is stored. After any failure either nothing is
-/// printed and what was stored before is as it was, or the last state is stored whole. It waits for
-/// the threads that check ahead.
+/// All folders are read before the first cycle, and no line is printed before the state is stored.
+/// After any failure either nothing is printed and what was stored before is as it was, or the last
+/// state is stored whole; and the first of these after each failure but want of memory and a
+/// refused output, such as that of a folder. It waits for the threads that check ahead.
 pub fn replay_from<
     R: Threads + Wait + Sync,
     S: System,
@@ -90,7 +102,7 @@ pub fn replay_from<
         (AreLoaded (λ f. IsLoaded (M.lists f.metadata) (M.holds f.metadata))
         (λ f. IsLoaded (T.lists f.targets) (T.holds f.targets)) folders.items)
         (start_of cycles.now.start) (S.keeps system.new cycles.now.start.state.now) (λ _. ⊤)) }
-    ensures folders { IfErr result (λ f. f ≡ Failure.Folder
+    ensures quiet { IfErr result (λ f. f ≢ Failure.Memory → f ≢ Failure.Output
         → (S.keeps system.new ≡ S.keeps system.old)
         × (W.contents out.new ≡ W.contents out.old)) }
 {
@@ -109,6 +121,7 @@ fn all_loaded<M: Folder + Drop, T: Folder + Drop>(
     ensures loaded { IfOk result (λ repos. AreLoaded
         (λ f. IsLoaded (M.lists f.metadata) (M.holds f.metadata))
         (λ f. IsLoaded (T.lists f.targets) (T.holds f.targets)) folders.items repos.items) }
+    ensures refused { IfErr result (λ f. (f ≡ Failure.Memory) ⊎ (f ≡ Failure.Folder)) }
 {
     let mut repos = Vec::new(alloc);
     for mut pair in folders {

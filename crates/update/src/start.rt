@@ -2,7 +2,7 @@
 
 ghost use Rattle.std.specs.Prelude.{◌≡◌, ◌≤◌, ◌⊎◌, IfErr, IfOk, option_map, map, string_bytes};
 ghost use Rattle.folder.specs.Folders.{IsLoaded};
-ghost use Rattle.update.specs.Told.{IsMomentOf, IsRead, start_from, start_of};
+ghost use Rattle.update.specs.Told.{IsMomentOf, IsNoMoment, IsRead, start_from, start_of};
 
 use crate::clock::moment;
 use crate::state::read_state;
@@ -62,6 +62,8 @@ pub(crate) fn begin<'a, S: System>(
         (option_map (λ t. t.now) terms.now.moment) s.moment) }
     ensures start { IfOk result (λ s. start_of s ≡ start_from terms.now s.trusted s.moment) }
     ensures place { IfOk result (λ s. s.state.now ≡ terms.now.out.now) }
+    ensures refused { IfErr result (λ f. IsNoMoment (option_map (λ t. t.now) terms.now.moment) f
+        ⊎ (f ≡ Failure.Memory) ⊎ (f ≡ Failure.State)) }
 {
     let moment = moment(system, terms.moment)?;
     Ok(Start {
@@ -75,6 +77,7 @@ pub(crate) fn begin<'a, S: System>(
 }
 
 /// The files of both folders.
+#[tactic(auto, using(crate::proofs::Told::of_load))]
 pub(crate) fn loaded<M: Folder, T: Folder>(
     alloc: Global,
     folders: &mut Folders<M, T>,
@@ -83,6 +86,7 @@ pub(crate) fn loaded<M: Folder, T: Folder>(
         (M.holds folders.old.metadata) repo.metadata) }
     ensures targets { IfOk result (λ repo. IsLoaded (T.lists folders.old.targets)
         (T.holds folders.old.targets) repo.targets) }
+    ensures refused { IfErr result (λ f. (f ≡ Failure.Memory) ⊎ (f ≡ Failure.Folder)) }
 {
     let metadata = load(alloc, &mut folders.metadata)?;
     let targets = load(alloc, &mut folders.targets)?;

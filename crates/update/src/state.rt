@@ -16,13 +16,16 @@ pub fn read_file<S: System>(system: &S, path: &str, other: Failure) -> Result<Ve
     system.read(path).map_err(|error| of_io(&error, other))
 }
 
-/// The trusted state that the file holds.
+/// The trusted state that the file holds. A file that can't be read, or holds none, is the failure
+/// `State`.
+#[tactic(auto, using(crate::proofs::Told::of_state))]
 pub(crate) fn read_state<S: System>(
     alloc: Global,
     system: &S,
     path: &str,
 ) -> Result<Trusted, Failure>
     ensures read { IfOk result (IsRead (S.gives system.now path.now)) }
+    ensures refused { IfErr result (λ f. (f ≡ Failure.Memory) ⊎ (f ≡ Failure.State)) }
 {
     let text = read_file(system, path, Failure::State)?;
     Ok(Trusted::from_text(alloc, text.as_slice())?)

@@ -1,6 +1,5 @@
 //! The verification of a repository that lies in two folders.
-
-ghost use Rattle.std.specs.Prelude.{◌≡◌, ◌≤◌, ◌⊎◌, ⊤, IfErr, IfOk, OnErr, option_map, map};
+ghost use Rattle.std.specs.Prelude.{◌≡◌, ◌≢◌, ◌≤◌, ◌⊎◌, ⊤, IfErr, IfOk, OnErr, option_map, map};
 ghost use Rattle.std.specs.Prelude.{string_bytes};
 ghost use Rattle.folder.specs.Folders.{IsLoaded};
 ghost use Rattle.examine.specs.Checks.{file_in};
@@ -19,7 +18,9 @@ use std::thread::Threads;
 use system::System;
 
 /// Verifies what the words name: the moment is read first, then the state file, and then the
-/// folders, as [`verify_from`] does.
+/// folders, as [`verify_from`] does. Where the moment, the state file or a folder fails, nothing is
+/// stored and nothing printed. After want of memory or a refused output either that holds too, or
+/// the new state is stored whole.
 pub fn verify<R: Threads + Wait + Sync, S: System, M: Folder, T: Folder, W: Write>(
     rt: &R,
     alloc: Global,
@@ -37,6 +38,18 @@ pub fn verify<R: Threads + Wait + Sync, S: System, M: Folder, T: Folder, W: Writ
         (start_from terms.now trusted moment) (S.keeps system.new terms.now.out.now)
         (λ o. IsTold o (map string_bytes terms.now.wanted.items) status (W.contents out.old)
         (W.contents out.new)))) }
+    ensures order { OnErr result (((S.keeps system.new ≡ S.keeps system.old)
+        × (W.contents out.new ≡ W.contents out.old))
+        ⊎ Begins (S.gives system.old terms.now.state.now)
+        (S.shows system.old) (option_map (λ t. t.now) terms.now.moment)
+        (λ trusted moment. IsStored
+        (IsLoaded (M.lists folders.old.metadata) (M.holds folders.old.metadata))
+        (IsLoaded (T.lists folders.old.targets) (T.holds folders.old.targets))
+        (start_from terms.now trusted moment) (S.keeps system.new terms.now.out.now)
+        (λ _. ⊤))) }
+    ensures quiet { IfErr result (λ f. f ≢ Failure.Memory → f ≢ Failure.Output
+        → (S.keeps system.new ≡ S.keeps system.old)
+        × (W.contents out.new ≡ W.contents out.old)) }
 {
     let start = begin(alloc, system, terms)?;
     verify_from(rt, alloc, system, &start, folders, out)
@@ -45,10 +58,11 @@ pub fn verify<R: Threads + Wait + Sync, S: System, M: Folder, T: Folder, W: Writ
 /// Verifies what the folders hold, stores the new state, prints the lines and answers the status: 2
 /// where the update stopped, else 1 where some target isn't good, else 0. It is the status of the
 /// workflow on the files that the folders gave; a writer whose bytes are known was given its lines
-/// and nothing else, and the stored state is its new one. Where a folder fails, nothing is stored
-/// and nothing printed; and no line is printed before the state is stored. After any failure either
-/// nothing is printed and what was stored before is as it was, or the new state is stored whole. It
-/// waits for the threads that check ahead, and then stores the state.
+/// and nothing else, and the stored state is its new one. No line is printed before the state is
+/// stored. After any failure either nothing is printed and what was stored before is as it was, or
+/// the new state is stored whole; and the first of these after each failure but want of memory and
+/// a refused output, such as that of a folder. It waits for the threads that check ahead, and then
+/// stores the state.
 pub fn verify_from<R: Threads + Wait + Sync, S: System, M: Folder, T: Folder, W: Write>(
     rt: &R,
     alloc: Global,
@@ -69,7 +83,7 @@ pub fn verify_from<R: Threads + Wait + Sync, S: System, M: Folder, T: Folder, W:
         (IsLoaded (M.lists folders.old.metadata) (M.holds folders.old.metadata))
         (IsLoaded (T.lists folders.old.targets) (T.holds folders.old.targets))
         (start_of start.now) (S.keeps system.new start.now.state.now) (λ _. ⊤)) }
-    ensures folders { IfErr result (λ f. f ≡ Failure.Folder
+    ensures quiet { IfErr result (λ f. f ≢ Failure.Memory → f ≢ Failure.Output
         → (S.keeps system.new ≡ S.keeps system.old)
         × (W.contents out.new ≡ W.contents out.old)) }
 {

@@ -1,7 +1,8 @@
 use Rattle.std.proofs.Common.{map, string_bytes}
+use Rattle.std.specs.Bool.{⊤}
 use Rattle.folder.specs.Folders.{IsLoaded}
 use Rattle.update.specs.Told.{AreLoaded, AreTold, IsReplayed, start_from, start_of}
-use Rattle.update.proofs.Told.{begun, renamed_cycles}
+use Rattle.update.proofs.Told.{begun, begun_failure, renamed_cycles, renamed_cycles_failure}
 use Rattle.update.proofs.replaying.replay.Goals as goal
 
 pub returns-clause-replayed : goal.returns-clause-replayed
@@ -16,3 +17,15 @@ returns-clause-replayed g c =
     (renamed_cycles _ (g.S.System.keeps c.replay_from.new.system) (start_of c.in_ok-start.start)
     (start_from c.args.terms.now c.in_ok-start.start.trusted c.in_ok-start.start.moment) c.in_ok-start.start.state.now c.args.terms.now.out.now _ _
     c.replay_from.result c.in_ok-start.ensures.start c.in_ok-start.ensures.place c.replay_from.ensures.replayed)
+
+pub returns-clause-order : goal.returns-clause-order
+returns-clause-order g c =
+    begun_failure _ _ _ _
+    (λ trusted moment. IsReplayed
+    (AreLoaded (λ f. IsLoaded (g.M.Folder.lists f.metadata) (g.M.Folder.holds f.metadata))
+    (λ f. IsLoaded (g.T.Folder.lists f.targets) (g.T.Folder.holds f.targets)) c.args.folders.items)
+    (start_from c.args.terms.now trusted moment) (g.S.System.keeps c.replay_from.new.system c.args.terms.now.out.now) (λ _. ⊤))
+    _ _ c.replay_from.result c.in_ok-start.ensures.read c.in_ok-start.ensures.moment
+    (renamed_cycles_failure _ (g.S.System.keeps c.replay_from.new.system) (start_of c.in_ok-start.start)
+    (start_from c.args.terms.now c.in_ok-start.start.trusted c.in_ok-start.start.moment) c.in_ok-start.start.state.now c.args.terms.now.out.now _
+    c.replay_from.result c.in_ok-start.ensures.start c.in_ok-start.ensures.place c.replay_from.ensures.order)
