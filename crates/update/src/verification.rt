@@ -1,4 +1,5 @@
 //! The verification of a repository that lies in two folders.
+
 ghost use Rattle.std.specs.Prelude.{◌≡◌, ◌≢◌, ◌≤◌, ◌⊎◌, ⊤, IfErr, IfOk, OnErr, option_map, map};
 ghost use Rattle.std.specs.Prelude.{string_bytes};
 ghost use Rattle.folder.specs.Folders.{IsLoaded};
