@@ -173,7 +173,7 @@ pub record Visited : Type 0 where
   pub found : Option Found
   pub accepted : List Accepted
 
--- what comes of the visit to a delegation's role, where those roles were accepted before
+-- what comes of the visit to a delegation's role, where these roles were accepted before
 abbrev pub Visits : Type 0
 Visits = Edge → List Accepted → Visited
 
@@ -234,20 +234,20 @@ examined files now top snap e =
 abbrev pub settled : Visited → Searched
 settled v = record { found = unwrap_or v.found NotFound; accepted = v.accepted }
 
--- from the top-level targets file
+-- the search by such visits, from the top-level targets file
 abbrev pub from_top : Visits → List ℕ → Targets → Searched
 from_top visits path m = settled (in_file path (walk_by visits) (codes "targets") m [])
 
--- in a trusted state that is ready
+-- the same in a trusted state that is ready
 abbrev pub search_by : Visits → State → List ℕ → Option Searched
 search_by visits s path = option_map (λ m. from_top visits path m.reading) s.targets
 
 -- `most` is how many roles may be visited, the top-level role among them
 module _ (files : Files) (now : Moment) (top : Root) (snap : Snapshot)
     (path : List ℕ) (most : ℕ) where
-  -- The visits are those of a search in preorder: a role that was visited is skipped, one too many
-  -- ends the search, and so does a refused one; else the role is accepted, and the path is looked
-  -- up in its file and then below it.
+  -- The equations of the visits of a search in preorder, with no depth: a role that was visited is
+  -- skipped, one too many ends the search, and so does a refused one; else the role is accepted,
+  -- and the path is looked up in its file and then below it.
   abbrev pub IsPreorder : Visits → Type 0
   IsPreorder visits = (e : Edge) (seen : List Accepted) → visits e seen
       ≡ (if is_visited seen e.name then done None seen
@@ -264,13 +264,14 @@ module _ (files : Files) (now : Moment) (top : Root) (snap : Snapshot)
       else if nat_le most (length seen + 1) then done (Some LimitReached) seen
       else entered path (walk_by (visit depth)) e seen (examined files now top snap e)
 
-  -- so these visits are in preorder
+  -- so these visits satisfy the equations
   abbrev pub IsSolved : Type 0
   IsSolved = IsPreorder (visit (suc most))
 
   abbrev pub walk : List Edge → List Accepted → Visited
   walk = walk_by (visit (suc most))
 
+  -- the search by these visits
   abbrev pub search_from : Targets → Searched
   search_from m = from_top (visit (suc most)) path m
 
@@ -285,8 +286,8 @@ search_in files now s path most =
 -- what the search gives, where these delegations are pending and these roles were accepted
 unfoldable pub outlook : Query → List Edge → List Accepted → Searched
 outlook q es seen =
-    settled
-    (walk (file_in q.files.now) q.moment q.root.now q.snapshot.now q.path.now q.limit es seen)
+    settled (walk (file_in q.files.now) q.moment q.root.now q.snapshot.now q.path.now q.limit
+    es seen)
 
 -- the pending delegations of each file, the last file's first
 abbrev pub pending : List ℕ → List (List Edge) → List Edge
