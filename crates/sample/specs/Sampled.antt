@@ -1,11 +1,13 @@
 -- What is told of the small repository.
-use Rattle.std.specs.Prelude.{ℕ, List, Option}
+use Rattle.std.specs.Prelude.{◌≡◌, ℕ, List, Option}
 use Rattle.update.specs.Told.{Files, IsTold, Start, outcome_of}
 
--- An outcome of the workflow, of which a writer was given the lines, with its status.
+-- An outcome of the workflow for the wanted paths, of which a writer was given the lines, with its
+-- status.
 pub record IsSampled (wanted : List (List ℕ)) (status : ℕ) (old new : Option (List ℕ))
     : Type 0 where
   pub start : Start
   pub metadata : Files
   pub targets : Files
+  pub of_paths : start.wanted ≡ wanted
   pub told : IsTold (outcome_of start metadata targets) wanted status old new

@@ -1,6 +1,5 @@
 //! The verification.
-
-ghost use Rattle.std.specs.Prelude.{◌≤◌, ℕ, List, IfOk, map, string_bytes};
+ghost use Rattle.std.specs.Prelude.{◌≤◌, ◌∷◌, [], IfOk, codes, map, string_bytes};
 ghost use Rattle.sample.specs.Sampled.{IsSampled};
 
 use crate::repository::{first_state, repository};
@@ -15,9 +14,10 @@ const MOMENT: &str = "2026-01-01T00:00:00Z";
 
 /// Makes the repository, verifies its target as the workflow does (TUF 1.0 section 5), prints the
 /// lines and answers the status, at most 2. It refuses for want of memory and where `out` does.
+#[tactic(auto, using(crate::proofs::Sampled::renamed))]
 pub fn run<W: Write>(alloc: Global, out: &mut W) -> Result<u8, Failure>
-    ensures sampled { IfOk result (λ status. (wanted : List (List ℕ))
-        × IsSampled wanted status (W.contents out.old) (W.contents out.new)) }
+    ensures sampled { IfOk result (λ status. IsSampled (codes "abc.txt" ∷ []) status
+        (W.contents out.old) (W.contents out.new)) }
     ensures known { IfOk result (λ status. status ≤ 2) }
 {
     let wanted = [String::from_str(alloc, "abc.txt")?];
