@@ -1,6 +1,5 @@
 //! What a run asks of the system beside its folders and its streams: single files, and the clock.
-
-ghost use Rattle.std.specs.Prelude.{◌≡◌, List, ℕ, Bool, true, IfOk, IfSome, OnErr, OnOk};
+ghost use Rattle.std.specs.Prelude.{◌≡◌, ◌≢◌, List, ℕ, Bool, true, IfOk, IfSome, OnErr, OnOk};
 
 use std::io;
 
@@ -20,10 +19,12 @@ pub trait System {
     fn read(&self, path: &str) -> io::Result<Vec<u8>>
         ensures given { IfOk result (λ bytes. gives self.now path.now bytes.items ≡ true) };
 
-    /// Stores the bytes as the file of that path, in place of what it held. After a refusal it is
-    /// what it was.
+    /// Stores the bytes as the file of that path, in place of what it held. What was stored for
+    /// other paths stays, and after a refusal all of it does.
     fn store(&mut self, path: &str, bytes: &[u8]) -> io::Result<()>
         ensures kept { OnOk result (keeps self.new path.now bytes.now ≡ true) }
+        ensures others { OnOk result ((other held : List ℕ) → other ≢ path.now
+            → keeps self.new other held ≡ keeps self.old other held) }
         ensures refused { OnErr result (keeps self.new ≡ keeps self.old) };
 
     /// The whole seconds since 1970-01-01T00:00:00Z, or None where the clock can't be read or is
