@@ -2,7 +2,7 @@
 use Rattle.std.specs.List.{AllZip}
 use Rattle.std.specs.BTreeMap.{BTreeMap}
 use Rattle.std.specs.Io.KnownBytes.{Appends}
-use Rattle.std.specs.Prelude.{◌≡◌, ℕ, ◌/◌, ◌%◌, pos, List, Bool, true, Option, Some, None, String, Vec, Ok, Err, map, string_bytes, [], ◌∷◌}
+use Rattle.std.specs.Prelude.{◌≡◌, ◌≢◌, ℕ, ◌/◌, ◌%◌, pos, List, Bool, true, Option, Some, None, String, Vec, Ok, Err, map, string_bytes, [], ◌∷◌}
 use Rattle.std.specs.declared.alloc.Global.{Global}
 pub use Rattle.moment.specs.Moment.{moment_of, Moment}
 use Rattle.meta.specs.declared.repo.Repo.{Repo}
@@ -120,6 +120,13 @@ pub record IsRefused (gives : List ℕ → Bool) (follows : StateFault → Type 
   pub read : gives bytes ≡ true
   pub of_root : root_state bytes ≡ Err fault
   pub then : follows fault
+
+-- # What is stored elsewhere.
+
+-- what is stored at each other place is as it was
+abbrev pub OthersKept : List ℕ → (List ℕ → List ℕ → Bool) → (List ℕ → List ℕ → Bool) → Type 0
+OthersKept place old new =
+    (other held : List ℕ) → other ≢ place → new other held ≡ old other held
 
 -- # What the values of the program stand for.
 

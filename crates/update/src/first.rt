@@ -17,7 +17,7 @@ use system::System;
 
 /// Trusts a root file because it was handed in: stores a state with it alone, prints its version
 /// and answers 0. Where the root is refused, its fault is printed, nothing is stored, and the
-/// answer is 2.
+/// answer is 2. What is stored for other paths stays.
 ///
 /// After any failure either what was stored before is as it was, and nothing is printed but for
 /// what was written of a refused root's fault, or the trusted root's state is stored whole. After
@@ -44,6 +44,7 @@ pub fn init<S: System, W: Write>(
         × ((W.contents out.new ≡ W.contents out.old)
         ⊎ spec.IsRefused (S.gives system.old root.now) (λ _. ⊤)))
         ⊎ spec.IsTrusted (S.gives system.old root.now) (S.keeps system.new state.now) (λ _. ⊤)) }
+    ensures others { spec.OthersKept state.now (S.keeps system.old) (S.keeps system.new) }
     ensures quiet { IfErr result (λ f. f ≢ Failure.Memory → f ≢ Failure.Output
         → (S.keeps system.new ≡ S.keeps system.old)
         × (W.contents out.new ≡ W.contents out.old)) }
@@ -76,6 +77,7 @@ fn keep_root<S: System, W: Write>(
     ensures order { OnErr result (((S.keeps system.new ≡ S.keeps system.old)
         × (W.contents out.new ≡ W.contents out.old))
         ⊎ (S.keeps system.new path.now (spec.state_text trusted.now) ≡ true)) }
+    ensures others { spec.OthersKept path.now (S.keeps system.old) (S.keeps system.new) }
     ensures refused { IfErr result (λ f. (f ≡ Failure.Memory) ⊎ (f ≡ Failure.Output)) }
 {
     keep_state(alloc, system, path, trusted)?;

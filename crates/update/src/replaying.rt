@@ -3,7 +3,7 @@
 ghost use Rattle.std.specs.Prelude.{◌≡◌, ◌≢◌, ◌≤◌, ◌⊎◌, ⊤, IfErr, IfOk, OnErr, OnOk};
 ghost use Rattle.std.specs.Prelude.{option_map, map, string_bytes};
 ghost use Rattle.folder.specs.Folders.{IsLoaded};
-ghost use Rattle.update.specs.Told.{Begins, AreLoaded, AreTold, IsReplayed};
+ghost use Rattle.update.specs.Told.{Begins, AreLoaded, AreTold, IsReplayed, OthersKept};
 ghost use Rattle.update.specs.Told.{outcomes_of, state_after, AreRounds, start_from, start_of};
 
 use crate::start::{Folders, Start, Terms, begin, limits_of, loaded};
@@ -32,7 +32,7 @@ pub struct Cycles<'a> {
 /// Replays what the words name: the moment is read first, then the state file, and then the
 /// folders, as [`replay_from`] does. Where the moment, the state file or a folder fails, nothing is
 /// stored and nothing printed. After want of memory or a refused output either that holds too, or
-/// the last state is stored whole.
+/// the last state is stored whole. What is stored for other paths stays.
 pub fn replay<R: Threads + Wait + Sync, S: System, M: Folder + Drop, T: Folder + Drop, W: Write>(
     rt: &R,
     alloc: Global,
@@ -58,6 +58,7 @@ pub fn replay<R: Threads + Wait + Sync, S: System, M: Folder + Drop, T: Folder +
         (λ f. IsLoaded (T.lists f.targets) (T.holds f.targets)) folders.items)
         (start_from terms.now trusted moment) (S.keeps system.new terms.now.out.now)
         (λ _. ⊤))) }
+    ensures others { OthersKept terms.now.out.now (S.keeps system.old) (S.keeps system.new) }
     ensures quiet { IfErr result (λ f. f ≢ Failure.Memory → f ≢ Failure.Output
         → (S.keeps system.new ≡ S.keeps system.old)
         × (W.contents out.new ≡ W.contents out.old)) }
@@ -75,7 +76,8 @@ pub fn replay<R: Threads + Wait + Sync, S: System, M: Folder + Drop, T: Folder +
 /// All folders are read before the first cycle, and no line is printed before the state is stored.
 /// After any failure either nothing is printed and what was stored before is as it was, or the last
 /// state is stored whole; and the first of these after each failure but want of memory and a
-/// refused output, such as that of a folder. It waits for the threads that check ahead.
+/// refused output, such as that of a folder. What is stored for other paths stays. It waits for the
+/// threads that check ahead.
 pub fn replay_from<
     R: Threads + Wait + Sync,
     S: System,
@@ -103,6 +105,7 @@ pub fn replay_from<
         (AreLoaded (λ f. IsLoaded (M.lists f.metadata) (M.holds f.metadata))
         (λ f. IsLoaded (T.lists f.targets) (T.holds f.targets)) folders.items)
         (start_of cycles.now.start) (S.keeps system.new cycles.now.start.state.now) (λ _. ⊤)) }
+    ensures others { OthersKept cycles.now.start.state.now (S.keeps system.old) (S.keeps system.new) }
     ensures quiet { IfErr result (λ f. f ≢ Failure.Memory → f ≢ Failure.Output
         → (S.keeps system.new ≡ S.keeps system.old)
         × (W.contents out.new ≡ W.contents out.old)) }

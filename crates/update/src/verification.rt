@@ -4,7 +4,8 @@ ghost use Rattle.std.specs.Prelude.{◌≡◌, ◌≢◌, ◌≤◌, ◌⊎◌, 
 ghost use Rattle.std.specs.Prelude.{string_bytes};
 ghost use Rattle.folder.specs.Folders.{IsLoaded};
 ghost use Rattle.examine.specs.Checks.{file_in};
-ghost use Rattle.update.specs.Told.{Begins, IsStored, IsTold, outcome_of, start_from, start_of};
+ghost use Rattle.update.specs.Told.{Begins, IsStored, IsTold, OthersKept};
+ghost use Rattle.update.specs.Told.{outcome_of, start_from, start_of};
 
 use crate::answer::tell_outcome;
 use crate::start::{Folders, Start, Terms, begin, limits_of, loaded};
@@ -21,7 +22,7 @@ use system::System;
 /// Verifies what the words name: the moment is read first, then the state file, and then the
 /// folders, as [`verify_from`] does. Where the moment, the state file or a folder fails, nothing is
 /// stored and nothing printed. After want of memory or a refused output either that holds too, or
-/// the new state is stored whole.
+/// the new state is stored whole. What is stored for other paths stays.
 pub fn verify<R: Threads + Wait + Sync, S: System, M: Folder, T: Folder, W: Write>(
     rt: &R,
     alloc: Global,
@@ -48,6 +49,7 @@ pub fn verify<R: Threads + Wait + Sync, S: System, M: Folder, T: Folder, W: Writ
         (IsLoaded (T.lists folders.old.targets) (T.holds folders.old.targets))
         (start_from terms.now trusted moment) (S.keeps system.new terms.now.out.now)
         (λ _. ⊤))) }
+    ensures others { OthersKept terms.now.out.now (S.keeps system.old) (S.keeps system.new) }
     ensures quiet { IfErr result (λ f. f ≢ Failure.Memory → f ≢ Failure.Output
         → (S.keeps system.new ≡ S.keeps system.old)
         × (W.contents out.new ≡ W.contents out.old)) }
@@ -62,8 +64,8 @@ pub fn verify<R: Threads + Wait + Sync, S: System, M: Folder, T: Folder, W: Writ
 /// and nothing else, and the stored state is its new one. No line is printed before the state is
 /// stored. After any failure either nothing is printed and what was stored before is as it was, or
 /// the new state is stored whole; and the first of these after each failure but want of memory and
-/// a refused output, such as that of a folder. It waits for the threads that check ahead, and then
-/// stores the state.
+/// a refused output, such as that of a folder. What is stored for other paths stays. It waits for
+/// the threads that check ahead, and then stores the state.
 pub fn verify_from<R: Threads + Wait + Sync, S: System, M: Folder, T: Folder, W: Write>(
     rt: &R,
     alloc: Global,
@@ -84,6 +86,7 @@ pub fn verify_from<R: Threads + Wait + Sync, S: System, M: Folder, T: Folder, W:
         (IsLoaded (M.lists folders.old.metadata) (M.holds folders.old.metadata))
         (IsLoaded (T.lists folders.old.targets) (T.holds folders.old.targets))
         (start_of start.now) (S.keeps system.new start.now.state.now) (λ _. ⊤)) }
+    ensures others { OthersKept start.now.state.now (S.keeps system.old) (S.keeps system.new) }
     ensures quiet { IfErr result (λ f. f ≢ Failure.Memory → f ≢ Failure.Output
         → (S.keeps system.new ≡ S.keeps system.old)
         × (W.contents out.new ≡ W.contents out.old)) }

@@ -1,7 +1,7 @@
-use Rattle.std.proofs.Common.{map, string_bytes}
+use Rattle.std.proofs.Common.{map, string_bytes, subst}
 use Rattle.std.specs.Bool.{⊤}
 use Rattle.folder.specs.Folders.{IsLoaded}
-use Rattle.update.specs.Told.{start_from, start_of, IsStored, IsTold}
+use Rattle.update.specs.Told.{start_from, start_of, IsStored, IsTold, OthersKept}
 use Rattle.update.proofs.Told.{begun, begun_failure, renamed, renamed_failure}
 use Rattle.update.proofs.verification.verify.Goals as goal
 
@@ -29,3 +29,8 @@ returns-clause-order g c =
     (renamed_failure _ _ (g.S.System.keeps c.verify_from.new.system) (start_of c.in_ok-start.start)
     (start_from c.args.terms.now c.in_ok-start.start.trusted c.in_ok-start.start.moment) c.in_ok-start.start.state.now c.args.terms.now.out.now _
     c.verify_from.result c.in_ok-start.ensures.start c.in_ok-start.ensures.place c.verify_from.ensures.order)
+
+pub returns-clause-others : goal.returns-clause-others
+returns-clause-others g c =
+    subst (λ place. OthersKept place (g.S.System.keeps c.args.system.now) (g.S.System.keeps c.verify_from.new.system))
+    c.in_ok-start.ensures.place c.verify_from.ensures.others
