@@ -1,4 +1,5 @@
 //! The verification.
+
 ghost use Rattle.std.specs.Prelude.{◌≤◌, ◌∷◌, [], IfOk, codes, map, string_bytes};
 ghost use Rattle.sample.specs.Sampled.{IsSampled};
 

@@ -1,4 +1,5 @@
 //! What a run asks of the system beside its folders and its streams: single files, and the clock.
+
 ghost use Rattle.std.specs.Prelude.{◌≡◌, ◌≢◌, List, ℕ, Bool, true, IfOk, IfSome, OnErr, OnOk};
 
 use std::io;
