@@ -6,7 +6,7 @@ ghost use Rattle.folder.specs.Folders.{IsLoaded};
 ghost use Rattle.update.specs.Told.{Begins, AreLoaded, AreTold, IsReplayed, OthersKept};
 ghost use Rattle.update.specs.Told.{outcomes_of, state_after, AreRounds, start_from, start_of};
 
-use crate::start::{Folders, Start, Terms, begin, limits_of, loaded};
+use crate::start::{Folders, Start, Terms, begin, limits_of, load_both};
 use crate::state::keep_state;
 use cycle::{Keeper, Moment, Open, Outcome, Repo, Round};
 use failure::Failure;
@@ -110,7 +110,7 @@ pub fn replay_from<
         → (S.keeps system.new ≡ S.keeps system.old)
         × (W.contents out.new ≡ W.contents out.old)) }
 {
-    let repos = all_loaded(alloc, folders)?;
+    let repos = load_all(alloc, folders)?;
     let mut keeper = keeper_of(alloc, cycles)?;
     let outcomes = outcomes(rt, alloc, &cycles.start, repos.as_slice(), &mut keeper)?;
     keep_state(alloc, system, cycles.start.state, keeper.trusted())?;
@@ -118,7 +118,7 @@ pub fn replay_from<
 }
 
 /// The files of all folders, in order.
-fn all_loaded<M: Folder + Drop, T: Folder + Drop>(
+fn load_all<M: Folder + Drop, T: Folder + Drop>(
     alloc: Global,
     folders: Vec<Folders<M, T>>,
 ) -> Result<Vec<Repo>, Failure>
@@ -129,7 +129,7 @@ fn all_loaded<M: Folder + Drop, T: Folder + Drop>(
 {
     let mut repos = Vec::new(alloc);
     for mut pair in folders {
-        repos.push(loaded(alloc, &mut pair)?)?;
+        repos.push(load_both(alloc, &mut pair)?)?;
     }
     Ok(repos)
 }

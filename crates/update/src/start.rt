@@ -78,7 +78,7 @@ pub(crate) fn begin<'a, S: System>(
 
 /// The files of both folders.
 #[tactic(auto, using(crate::proofs::Told::of_load))]
-pub(crate) fn loaded<M: Folder, T: Folder>(
+pub(crate) fn load_both<M: Folder, T: Folder>(
     alloc: Global,
     folders: &mut Folders<M, T>,
 ) -> Result<Repo, Failure>

@@ -8,7 +8,7 @@ ghost use Rattle.update.specs.Told.{Begins, IsStored, IsTold, OthersKept};
 ghost use Rattle.update.specs.Told.{outcome_of, start_from, start_of};
 
 use crate::answer::tell_outcome;
-use crate::start::{Folders, Start, Terms, begin, limits_of, loaded};
+use crate::start::{Folders, Start, Terms, begin, limits_of, load_both};
 use crate::state::keep_state;
 use cycle::{Open, Outcome, Repo, run};
 use failure::Failure;
@@ -91,7 +91,7 @@ pub fn verify_from<R: Threads + Wait + Sync, S: System, M: Folder, T: Folder, W:
         → (S.keeps system.new ≡ S.keeps system.old)
         × (W.contents out.new ≡ W.contents out.old)) }
 {
-    let repo = loaded(alloc, folders)?;
+    let repo = load_both(alloc, folders)?;
     let outcome = outcome(rt, alloc, start, &repo)?;
     keep_state(alloc, system, start.state, outcome.trusted())?;
     tell_outcome(alloc, &outcome, start.wanted, out)

@@ -1,6 +1,6 @@
 use Rattle.folder.specs.Folders.{IsLoaded}
 use Rattle.update.specs.Told.{AreLoaded}
-use Rattle.update.proofs.replaying.all_loaded.Given as goal
+use Rattle.update.proofs.replaying.load_all.Given as goal
 
 abbrev pub invariant-loop-pair : goal.invariant-loop-pair
 invariant-loop-pair g l =

@@ -1,5 +1,5 @@
 use Rattle.std.proofs.Common.{rules}
-use Rattle.update.proofs.start.loaded.Goals as goal
+use Rattle.update.proofs.start.load_both.Goals as goal
 
 pub returns-clause-metadata : goal.returns-clause-metadata
 returns-clause-metadata = search rules
