@@ -1,7 +1,7 @@
 //! Folders on the disk and in memory.
 
 use crate::stored::Memory;
-use folder::{Depth, Disk, Folder, LoadFault, path_below, load};
+use folder::{Depth, Disk, Folder, LoadFault, load, path_below};
 use std::collections::BTreeMap;
 use std::os::unix::fs::symlink;
 use std::rt::Files;

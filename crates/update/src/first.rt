@@ -38,8 +38,7 @@ pub fn init<S: System, W: Write>(
         → spec.IsRefused (S.gives system.old root.now)
         (λ fault. Appends (W.contents out.old) (W.contents out.new)
         (end_text (Stopped Root (spec.fault_of fault))))) }
-    ensures kept { IfOk result
-        (λ status. status ≡ 2 → S.keeps system.new ≡ S.keeps system.old) }
+    ensures kept { IfOk result (λ status. status ≡ 2 → S.keeps system.new ≡ S.keeps system.old) }
     ensures order { OnErr result (((S.keeps system.new ≡ S.keeps system.old)
         × ((W.contents out.new ≡ W.contents out.old)
         ⊎ spec.IsRefused (S.gives system.old root.now) (λ _. ⊤)))
