@@ -105,7 +105,8 @@ pub fn replay_from<
         (AreLoaded (λ f. IsLoaded (M.lists f.metadata) (M.holds f.metadata))
         (λ f. IsLoaded (T.lists f.targets) (T.holds f.targets)) folders.items)
         (start_of cycles.now.start) (S.keeps system.new cycles.now.start.state.now) (λ _. ⊤)) }
-    ensures others { OthersKept cycles.now.start.state.now (S.keeps system.old) (S.keeps system.new) }
+    ensures others { OthersKept cycles.now.start.state.now (S.keeps system.old)
+        (S.keeps system.new) }
     ensures quiet { IfErr result (λ f. f ≢ Failure.Memory → f ≢ Failure.Output
         → (S.keeps system.new ≡ S.keeps system.old)
         × (W.contents out.new ≡ W.contents out.old)) }
