@@ -8,7 +8,8 @@
 #
 # For each it prints the median and the least of the milliseconds that a run took, from its start to its end, and for workers
 # by the median of the rounds how many times as fast it was as the run by no worker beside it. It asks that each run prints
-# the same lines and stores the same state. `rt run` in crates/tufcheck proves and builds the program, once; this takes some
+# the same lines and stores the same state. Of each repository it also prints the most memory that a run took, by no worker
+# and by four (which needs GNU time). `rt run` in crates/tufcheck proves and builds the program, once; this takes some
 # minutes. Idle cores are what it measures: nothing else should run meanwhile.
 #
 # The first lines are of `bench ahead`, which times the cycles alone, `run` beside `run_alone` on such a repository of 1,024
@@ -75,9 +76,10 @@ thirty() {
     files "$(joined 4 30)"
 }
 
-# verify FOLDER WORKERS PATH: a run, with its lines in FOLDER/lines
+# verify FOLDER WORKERS PATH: a run, behind the words of `before`, with its lines in FOLDER/lines
+before=()
 verify() {
-    "$program" verify --state "$1/state" --metadata "$1/metadata" --targets "$1/targets" --limit 101 \
+    "${before[@]}" "$program" verify --state "$1/state" --metadata "$1/metadata" --targets "$1/targets" --limit 101 \
         --now 2026-01-01T00:00:00Z --workers "$2" --out "$1/new" "$3" > "$1/lines"
 }
 
@@ -91,6 +93,13 @@ timed() {
     if ! cmp -s "$1/lines" "$1/due.lines" || ! cmp -s "$1/new" "$1/due.state"; then
         echo "$1: other lines or another state by $2 workers" >&2
     fi
+}
+
+# peak FOLDER WORKERS PATH: the most memory of a run, in kilobytes
+peak() {
+    local before=(command time -f %M -o "$1/peak")
+    verify "$@"
+    tail -n 1 "$1/peak"
 }
 
 # middle: the one in the middle of the numbers that are read
@@ -114,6 +123,8 @@ told() {
             "$(middle < "$2/times.$workers")e-3" "$(sort -n "$2/times.$workers" | head -n 1)e-3" \
             "$(paste "$2/times.0" "$2/times.$workers" | awk '{ printf "%.4f\n", $1 / $2 }' | middle)"
     done
+    printf '%s: %d MB at the peak by no worker, %d MB by four\n' "$1" "$(($(peak "$2" 0 "$3") / 1000))" \
+        "$(($(peak "$2" 4 "$3") / 1000))"
 }
 
 # cycles FILE: how many times as fast `run` is as `run_alone`, by the median of the rounds, which go into the file
