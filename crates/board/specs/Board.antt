@@ -203,20 +203,14 @@ pub record IsKept (me : Sat) (held : Option ℕ) (published : ℕ) : Type 0 wher
   pub once : IsDistinct nat_eq me.0.done
   pub within : (j : ℕ) → held ≡ Some j → j < length me.0.truths
 
+-- a table that no board has
+abbrev pub no_table : TableId
+no_table =
+    record { words = 0; slots = 0; views_name = 0; atom = 0; block = 0; offset = 0; slot_names = [] }
+
 -- a seat of no board, for a caller that has to name a seat before it has one
 abbrev pub no_seat : SeatValue
-no_seat = record {
-  view = newcomer [];
-  board = record {
-    words = 0;
-    slots = 0;
-    views_name = 0;
-    atom = 0;
-    block = 0;
-    offset = 0;
-    slot_names = [];
-  };
-}
+no_seat = record { view = newcomer []; board = no_table }
 
 -- # What a look answers.
 

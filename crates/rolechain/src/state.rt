@@ -137,24 +137,6 @@ impl Trusted {
         }
         self.root = next;
     }
-
-    pub(crate) fn trust_timestamp(&mut self, next: Part<Timestamp>)
-        ensures { self.new ≡ spec.with_timestamp self.old next }
-    {
-        self.timestamp = Some(next);
-    }
-
-    pub(crate) fn trust_snapshot(&mut self, next: Part<Snapshot>)
-        ensures { self.new ≡ spec.with_snapshot self.old next }
-    {
-        self.snapshot = Some(next);
-    }
-
-    pub(crate) fn trust_targets(&mut self, next: Part<Targets>)
-        ensures { self.new ≡ spec.with_targets self.old next }
-    {
-        self.targets = Some(next);
-    }
 }
 
 fn copy_of<A: Reading + Drop>(part: &Option<Part<A>>) -> Result<Option<Part<A>>, NoMemory>

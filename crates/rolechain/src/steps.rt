@@ -37,7 +37,7 @@ pub(crate) fn timestamp_step<J: Judge>(
 {
     let newer = or_halt(Step::Timestamp, newer_timestamp(round, state, judge))?;
     if let Some(part) = newer {
-        state.trust_timestamp(part);
+        state.timestamp = Some(part);
     }
     Ok(())
 }
@@ -52,7 +52,7 @@ pub(crate) fn snapshot_step<J: Judge>(
         result state.new }
 {
     let part = or_halt(Step::Snapshot, listed_snapshot(round, state, judge))?;
-    state.trust_snapshot(part);
+    state.snapshot = Some(part);
     Ok(())
 }
 
@@ -66,7 +66,7 @@ pub(crate) fn targets_step<J: Judge>(
         result state.new }
 {
     let part = or_halt(Step::Targets, listed_targets(round, state, judge))?;
-    state.trust_targets(part);
+    state.targets = Some(part);
     Ok(())
 }
 
