@@ -34,7 +34,7 @@ abbrev pub IsMomentOf : (ℕ → Bool) → Option (List ℕ) → Moment → Type
 IsMomentOf shows (Some text) m = moment_of text ≡ Some m
 IsMomentOf shows None m = (seconds : ℕ) × ((shows seconds ≡ true) × IsAfter seconds m)
 
--- why there is no moment: the text spells none, or there is no text and the clock shows none
+-- the failure where no moment is read: `Now` of a text that spells none, `Clock` without a text
 abbrev pub IsNoMoment : Option (List ℕ) → Failure → Type 0
 IsNoMoment (Some text) f = (f ≡ failure.Now) × (moment_of text ≡ None)
 IsNoMoment None f = f ≡ failure.Clock
