@@ -3,3 +3,4 @@ pub use Rattle.moment.specs.Moment
 pub mod Content
 pub mod Patterns
 pub mod Metadata
+pub mod Catalog

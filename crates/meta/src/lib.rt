@@ -2,6 +2,7 @@
 //! read from it.
 #![tactic(auto)]
 
+mod catalog;
 mod content;
 mod delegation;
 mod delegations;

@@ -1,14 +1,14 @@
 //! Snapshot files.
 
-ghost use Rattle.std.specs.Prelude.{◌≡◌};
+ghost use Rattle.std.specs.Prelude.{◌≡◌, bytes_eq, find, option_map};
 ghost use Rattle.meta.specs.Metadata as spec;
 ghost use Rattle.meta.specs.Content.{snapshot_limit};
 
+use crate::catalog::{Catalog, HasName};
 use crate::header::{Header, read_header};
 use crate::listing::Listing;
 use crate::part::Reading;
 use cjson::form::FromJson;
-use cjson::list::Items;
 use cjson::members::{FromMember, read_members};
 use cjson::text::Text;
 use cjson::{Doc, ReadFault};
@@ -25,6 +25,14 @@ pub struct Named {
     pub listing: Listing,
 }
 
+impl HasName for Named {
+    ghost name_of = { λ n. n.name };
+
+    fn name(&self) -> &str {
+        self.name.as_str()
+    }
+}
+
 impl FromMember for Named {
     ghost member_form = { spec.named };
 
@@ -39,7 +47,7 @@ impl FromMember for Named {
 #[derive(Drop)]
 pub struct Snapshot {
     header: Header,
-    files: Items<Named>,
+    files: Catalog<Named>,
 }
 
 impl Model for Snapshot {
@@ -64,6 +72,14 @@ impl Snapshot {
     {
         self.files.as_slice()
     }
+
+    /// Finds the listed file of this name, the first one if there are several.
+    pub fn find(&self, name: &str) -> Option<&Named>
+        ensures found { option_map (λ n. n.now) result
+            ≡ find (λ n. bytes_eq n.name name.now) self.now.files }
+    {
+        self.files.find(name)
+    }
 }
 
 impl Reading for Snapshot {
@@ -76,6 +92,7 @@ impl Reading for Snapshot {
         let header = read_header(alloc, "snapshot", value)?;
         let meta = value.get("meta").ok_or(ReadFault::Malformed)?;
         let files = read_members(alloc, meta)?;
+        let files = Catalog::new(files);
         Ok(Snapshot { header, files })
     }
 

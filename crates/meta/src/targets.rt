@@ -1,9 +1,10 @@
 //! Targets files, top-level and delegated.
 
-ghost use Rattle.std.specs.Prelude.{◌≡◌, IfOk, Some, option_map};
+ghost use Rattle.std.specs.Prelude.{◌≡◌, IfOk, Some, bytes_eq, find, option_map};
 ghost use Rattle.meta.specs.Content.{Answers, content, targets_limit};
 ghost use Rattle.meta.specs.Metadata as spec;
 
+use crate::catalog::{Catalog, HasName};
 use crate::content::Content;
 use crate::delegations::Delegations;
 use crate::fault::Stop;
@@ -11,7 +12,6 @@ use crate::hashes::Hashes;
 use crate::header::{Header, read_header};
 use crate::part::Reading;
 use cjson::form::{needed_member, optional_member};
-use cjson::list::Items;
 use cjson::members::{FromMember, read_members};
 use cjson::number::Length;
 use cjson::text::Text;
@@ -67,6 +67,14 @@ impl Target {
     }
 }
 
+impl HasName for Target {
+    ghost name_of = { λ t. t.path };
+
+    fn name(&self) -> &str {
+        self.path.as_str()
+    }
+}
+
 impl FromMember for Target {
     ghost member_form = { spec.target };
 
@@ -83,7 +91,7 @@ impl FromMember for Target {
 #[derive(Drop)]
 pub struct Targets {
     header: Header,
-    targets: Items<Target>,
+    targets: Catalog<Target>,
     delegations: Option<Delegations>,
 }
 
@@ -114,6 +122,14 @@ impl Targets {
         self.targets.as_slice()
     }
 
+    /// Finds the listed target of this path, the first one if there are several.
+    pub fn find(&self, path: &str) -> Option<&Target>
+        ensures found { option_map (λ t. t.now) result
+            ≡ find (λ t. bytes_eq t.path path.now) self.now.targets }
+    {
+        self.targets.find(path)
+    }
+
     /// The delegations, where the file has any.
     pub fn delegations(&self) -> Option<&Delegations>
         ensures value { option_map (λ d. d.now) result ≡ self.now.delegations }
@@ -131,7 +147,7 @@ impl Reading for Targets {
         let value = doc.tree();
         let header = read_header(alloc, "targets", value)?;
         let listed = value.get("targets").ok_or(ReadFault::Malformed)?;
-        let targets = read_members(alloc, listed)?;
+        let targets = Catalog::new(read_members(alloc, listed)?);
         let delegations = optional_member(alloc, value, "delegations")?;
         Ok(Targets {
             header,

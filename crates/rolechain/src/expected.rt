@@ -1,14 +1,13 @@
 //! What each file of the workflow is expected to be.
 
-ghost use Rattle.std.specs.Prelude.{◌≡◌, ◌+◌, IfOk, bytes_eq, codes, find, option_map};
-ghost use Rattle.std.specs.Prelude.{string_bytes};
+ghost use Rattle.std.specs.Prelude.{◌≡◌, ◌+◌, IfOk, codes, string_bytes};
 ghost use Rattle.meta.specs.Content.{root_name, versioned as due_name};
 ghost use Rattle.examine.specs.Checks.{expectation};
 ghost use Rattle.rolechain.specs.Advance as spec;
 
 use examine::{Expectation, Listed};
 use meta::names::{role_name, version_name};
-use meta::{Listing, Named, Root, Snapshot};
+use meta::{Listing, Root, Snapshot};
 use std::alloc::{AllocError, Global};
 
 /// What the root that follows is expected to be (TUF 1.0 section 5.3).
@@ -64,7 +63,7 @@ pub fn place_of(
         ≡ spec.file_name root.now role.now (spec.listing_of role.now snapshot.now)) }
 {
     let plain = role_name(alloc, role)?;
-    match find_name(snapshot.files(), plain.as_str()) {
+    match snapshot.find(plain.as_str()) {
         Some(named) => {
             let version = named.listing.version.get();
             let name = version_name(alloc, root.consistent(), version, plain.as_str())?;
@@ -85,10 +84,4 @@ pub(crate) fn due_targets<'a>(root: &'a Root, listed: Listed, name: &'a str) -> 
         ring: root.ring(),
         role: root.targets(),
     }
-}
-
-fn find_name<'a>(files: &'a [Named], name: &str) -> Option<&'a Named>
-    ensures { option_map (λ n. n.now) result ≡ find (λ n. bytes_eq n.name name.now) files.now }
-{
-    files.iter().find(|named| named.name.as_str() == name)
 }
