@@ -1,15 +1,18 @@
-//! What a run is likely to read and to ask, for workers who check it ahead.
+//! Reads the metadata that a run probably needs, so that workers can check it in advance.
 //!
-//! - [`read_ahead`] reads the metadata that a run is likely to read, as it stands.
-//! - [`signers_of`] says who has to sign it, and [`digests`] what targets should digest to.
+//! - [`read_ahead`] reads the files without verifying them, within a bound.
+//! - [`signers_of`] lists the keys that must sign each file, and [`digests`] the digests that
+//!   wanted targets must have.
 //!
-//! Nobody has verified what is read here, and it bears on no answer: a run asks its own questions,
-//! and takes an answer for one of them alone.
+//! Nothing read here affects a result: the run makes its own checks, and uses a worker's verdict
+//! only for a check that is equal in all parts.
 #![tactic(auto)]
 
 mod document;
 mod reading;
 mod signers;
+mod steps;
+mod walk;
 mod wanted;
 
 pub use document::Document;

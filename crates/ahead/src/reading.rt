@@ -1,7 +1,11 @@
-//! The metadata that a run is likely to read.
+//! The metadata that a run probably reads.
+
+ghost use Rattle.std.specs.Prelude.{◌≡◌, ◌≤◌, ◌+◌, IfOk, true, false};
+ghost use Rattle.examine.specs.Checks.{file_in};
+ghost use Rattle.ahead.specs.Bound.{bytes_read};
 
 use crate::document::Document;
-use crate::wanted::{edges_in, places_for};
+use crate::steps::Steps;
 use cjson::NoMemory;
 use examine::Listed;
 use meta::names::{root_name, version_name};
@@ -10,89 +14,116 @@ use rolechain::{LAST_VERSION, MOST_ROOTS, Trusted, place_of};
 use std::alloc::Global;
 use std::collections::{BTreeMap, BTreeSet};
 
+/// Maximum number of bytes of metadata files that a run reads ahead, roots included.
+const MOST_BYTES: u64 = 4_000_000;
+
 /// A file that was read, and the number of its document.
 #[derive(Drop)]
-pub(crate) struct Read<A: Reading> {
+pub(crate) struct ReadFile<A: Reading> {
     pub document: usize,
     pub reading: A,
 }
 
-/// A role's targets file, and the places of the delegations that are followed for the wanted paths,
-/// each with the name of its bin where the file has bins.
+/// A role's targets file.
 #[derive(Drop)]
 pub(crate) struct RoleFile {
     pub document: usize,
     pub targets: Targets,
+    /// The delegations that are followed for some wanted path: the place of each in the file, and
+    /// the name of its bin if the file has bins.
     pub followed: BTreeSet<(usize, String)>,
+    /// The number of the last wanted path whose walk visited the file.
+    pub visitor: Option<usize>,
 }
 
-/// The targets files, and by the roles' names where each stands among them. None stands for a file
-/// that isn't there or can't be read.
+/// Where a wanted path is listed: the place of the file, and the target's place in it.
+#[derive(Clone, Copy)]
+pub(crate) struct ListedAt {
+    pub file: usize,
+    pub target: usize,
+}
+
+/// The targets files that were read, the place of each by its role's name, and where wanted paths
+/// are listed. The place of a role whose file wasn't read is None.
 #[derive(Drop)]
-pub(crate) struct Roles {
+pub(crate) struct RoleFiles {
     pub files: Vec<RoleFile>,
     pub places: BTreeMap<String, Option<usize>>,
+    pub listed: Vec<ListedAt>,
 }
 
-/// What was read ahead, each file once. A file stands here only where the one that leads to it
-/// could be read.
+/// What was read ahead, each file once.
 #[derive(Drop)]
 pub struct Ahead {
-    pub(crate) roots: Vec<Read<Root>>,
-    pub(crate) timestamp: Option<Read<Timestamp>>,
-    pub(crate) snapshot: Option<Read<Snapshot>>,
-    pub(crate) roles: Roles,
+    pub(crate) roots: Vec<ReadFile<Root>>,
+    pub(crate) timestamp: Option<ReadFile<Timestamp>>,
+    pub(crate) snapshot: Option<ReadFile<Snapshot>>,
+    pub(crate) roles: RoleFiles,
 }
 
-/// Where is read, and for which paths: at most so many targets files, and at most so many
-/// questions.
+/// What to read ahead for: the run's trusted state, repository and wanted paths, the most roles
+/// that a search may visit, and the most checks that a plan may have.
 #[derive(Clone, Copy)]
 pub struct Scope<'a> {
     pub alloc: Global,
     pub trusted: &'a Trusted,
     pub repo: &'a Repo,
     pub wanted: &'a [String],
-    pub files: usize,
+    pub roles: usize,
     pub most: usize,
 }
 
-/// The files that say under which name a role's file lies: the last root and the snapshot.
+/// The files that determine the name of a role's file: the last root and the snapshot.
 #[derive(Clone, Copy)]
-struct TopLevel<'a> {
-    root: &'a Root,
-    snapshot: &'a Snapshot,
+pub(crate) struct TopLevel<'a> {
+    pub root: &'a Root,
+    pub snapshot: &'a Snapshot,
 }
 
-/// Reads what follows the trusted root: the successive roots, the timestamp, the snapshot that it
-/// lists, and the targets files from the top-level one on. Each file that is read adds its
-/// document. A file that can't be read is passed over, and so is what it would lead to. It refuses
-/// for want of memory alone.
-pub fn read_ahead(scope: &Scope) -> Result<(Ahead, Vec<Document>), NoMemory> {
+/// Reads the roots after the trusted one, the timestamp, the snapshot that it lists, and the
+/// targets files to which the wanted paths lead. Also returns the document of each. Fails only if
+/// out of memory.
+///
+/// A file is skipped, together with all that it would lead to, if it is missing or malformed, if
+/// it is longer than what is left of 4,000,000 bytes, or if it has more values than what is left of
+/// the steps allows.
+pub fn read_ahead(scope: &Scope) -> Result<(Ahead, Vec<Document>), NoMemory>
+    ensures bounded { IfOk result (λ r.
+        bytes_read (file_in scope.now.repo.now.metadata) r.1.items ≤ 4000000) }
+{
     let mut reader = Reader {
         scope: *scope,
         documents: Vec::new(scope.alloc),
+        bytes_left: MOST_BYTES,
+        steps: Steps::new(),
     };
     let ahead = reader.read_all()?;
     Ok((ahead, reader.documents))
 }
 
 /// The last of the roots.
-pub(crate) fn last_root<'b>(trusted: &'b Trusted, roots: &'b [Read<Root>]) -> &'b Root {
+pub(crate) fn last_root<'b>(trusted: &'b Trusted, roots: &'b [ReadFile<Root>]) -> &'b Root {
     match roots.last() {
         Some(read) => &read.reading,
         None => trusted.root().reading(),
     }
 }
 
-/// Who reads files, and keeps the document of each.
+/// Reads files within the bound, and keeps the document of each.
 #[derive(Drop)]
-struct Reader<'a> {
-    scope: Scope<'a>,
-    documents: Vec<Document>,
+pub(crate) struct Reader<'a> {
+    pub scope: Scope<'a>,
+    pub documents: Vec<Document>,
+    pub bytes_left: u64,
+    pub steps: Steps,
+    ghost bound: { bytes_read (file_in scope.repo.now.metadata) documents.items + bytes_left
+        ≤ 4000000 },
 }
 
 impl<'a> Reader<'a> {
-    fn read_all(&mut self) -> Result<Ahead, NoMemory> {
+    fn read_all(&mut self) -> Result<Ahead, NoMemory>
+        ensures scope { self.new.scope ≡ self.old.scope }
+    {
         let roots = self.read_roots()?;
         let root = last_root(self.scope.trusted, roots.as_slice());
         let timestamp = self.read_file("timestamp.json")?;
@@ -100,9 +131,10 @@ impl<'a> Reader<'a> {
             Some(timestamp) => self.read_snapshot(root, &timestamp.reading)?,
             None => None,
         };
-        let mut roles = Roles {
+        let mut roles = RoleFiles {
             files: Vec::new(self.scope.alloc),
             places: BTreeMap::new(self.scope.alloc),
+            listed: Vec::new(self.scope.alloc),
         };
         if let Some(snapshot) = &snapshot {
             let snapshot = &snapshot.reading;
@@ -116,8 +148,10 @@ impl<'a> Reader<'a> {
         })
     }
 
-    /// The roots behind the trusted one, by their names.
-    fn read_roots(&mut self) -> Result<Vec<Read<Root>>, NoMemory> {
+    /// Reads the roots after the trusted one, by their names.
+    fn read_roots(&mut self) -> Result<Vec<ReadFile<Root>>, NoMemory>
+        ensures scope { self.new.scope ≡ self.old.scope }
+    {
         let mut roots = Vec::new(self.scope.alloc);
         let mut version = self.scope.trusted.root_version();
         for _ in 0..MOST_ROOTS {
@@ -134,72 +168,48 @@ impl<'a> Reader<'a> {
         Ok(roots)
     }
 
-    /// The snapshot under the name that the timestamp's listing gives it.
+    /// Reads the snapshot under the name that the timestamp's listing gives it.
     fn read_snapshot(
         &mut self,
         root: &Root,
         timestamp: &Timestamp,
-    ) -> Result<Option<Read<Snapshot>>, NoMemory> {
+    ) -> Result<Option<ReadFile<Snapshot>>, NoMemory>
+        ensures scope { self.new.scope ≡ self.old.scope }
+    {
         let version = timestamp.snapshot().version.get();
         let alloc = self.scope.alloc;
         let name = version_name(alloc, root.consistent(), version, "snapshot.json")?;
         self.read_file(name.as_str())
     }
 
-    /// Reads the targets files that some wanted path leads to, the top-level one first, and then
-    /// breadth first.
-    fn read_roles(&mut self, top: &TopLevel, roles: &mut Roles) -> Result<(), NoMemory> {
-        let first = String::from_str(self.scope.alloc, "targets")?;
-        self.read_role(top, first, roles)?;
-        for place in 0..self.scope.files {
-            let names = match roles.files.get(place) {
-                Some(file) => names_in(self.scope.alloc, file)?,
-                None => break,
-            };
-            self.read_each(top, names, roles)?;
-        }
-        Ok(())
-    }
-
-    /// Reads the files of these roles.
-    fn read_each(
-        &mut self,
-        top: &TopLevel,
-        names: Vec<String>,
-        roles: &mut Roles,
-    ) -> Result<(), NoMemory> {
-        for name in names {
-            self.read_role(top, name, roles)?;
-        }
-        Ok(())
-    }
-
-    /// Reads a role's file, unless that was tried before.
-    fn read_role(
+    /// The place of a role's file. Reads the file unless that was tried before.
+    pub(crate) fn place_of_role(
         &mut self,
         top: &TopLevel,
         role: String,
-        roles: &mut Roles,
-    ) -> Result<(), NoMemory> {
-        let place = roles.files.len();
-        if place >= self.scope.files || roles.places.contains_key(role.as_str()) {
-            return Ok(());
+        roles: &mut RoleFiles,
+    ) -> Result<Option<usize>, NoMemory>
+        ensures scope { self.new.scope ≡ self.old.scope }
+    {
+        if let Some(place) = roles.places.get(role.as_str()) {
+            return Ok(*place);
         }
-        match self.role_file(top, role.as_str())? {
+        let place = match self.read_role(top, role.as_str())? {
             Some(file) => {
+                let place = roles.files.len();
                 roles.files.push(file)?;
-                roles.places.insert(role, Some(place))?;
+                Some(place)
             }
-            None => {
-                roles.places.insert(role, None)?;
-            }
-        }
-        Ok(())
+            None => None,
+        };
+        roles.places.insert(role, place)?;
+        Ok(place)
     }
 
-    /// A role's file, where it can be read under the name that the snapshot's listing gives it, and
-    /// where it leads.
-    fn role_file(&mut self, top: &TopLevel, role: &str) -> Result<Option<RoleFile>, NoMemory> {
+    /// Reads a role's file, if the snapshot lists it.
+    fn read_role(&mut self, top: &TopLevel, role: &str) -> Result<Option<RoleFile>, NoMemory>
+        ensures scope { self.new.scope ≡ self.old.scope }
+    {
         let alloc = self.scope.alloc;
         let (listed, name) = place_of(alloc, top.root, top.snapshot, role)?;
         let Listed::As(_) = listed else {
@@ -210,18 +220,29 @@ impl<'a> Reader<'a> {
         };
         Ok(Some(RoleFile {
             document: read.document,
-            followed: places_for(alloc, &read.reading, self.scope.wanted)?,
             targets: read.reading,
+            followed: BTreeSet::new(alloc),
+            visitor: None,
         }))
     }
 
-    /// Reads a file, where it is there and has the form of its kind, and keeps its document.
-    fn read_file<A: Reading + Drop>(&mut self, name: &str) -> Result<Option<Read<A>>, NoMemory> {
+    /// Reads a file of this kind and keeps its document. Returns None if the file is missing,
+    /// longer than its kind's limit or than what is left of the bytes, malformed, or if the steps
+    /// don't suffice.
+    fn read_file<A: Reading + Drop>(&mut self, name: &str) -> Result<Option<ReadFile<A>>, NoMemory>
+        ensures scope { self.new.scope ≡ self.old.scope }
+    {
         let alloc = self.scope.alloc;
         let Some(bytes) = self.scope.repo.metadata.get(name) else {
             return Ok(None);
         };
-        if bytes.len() as u64 > A::limit() {
+        let bytes = bytes.as_slice();
+        let length = bytes.len() as u64;
+        if length > A::limit() || length > self.bytes_left {
+            return Ok(None);
+        }
+        self.bytes_left -= length;
+        if !self.steps.read(bytes) {
             return Ok(None);
         }
         let doc = match read_document(alloc, bytes) {
@@ -236,15 +257,6 @@ impl<'a> Reader<'a> {
         };
         let document = self.documents.len();
         self.documents.push(Document::new(alloc, name, &doc)?)?;
-        Ok(Some(Read { document, reading }))
+        Ok(Some(ReadFile { document, reading }))
     }
-}
-
-/// The names of the roles that a file leads to.
-fn names_in(alloc: Global, file: &RoleFile) -> Result<Vec<String>, NoMemory> {
-    let mut names = Vec::new(alloc);
-    for edge in edges_in(alloc, file)? {
-        names.push(String::from_str(alloc, edge.name)?)?;
-    }
-    Ok(names)
 }

@@ -1,6 +1,6 @@
-//! Who has to sign the files that were read.
+//! The keys that must sign the files that were read.
 
-use crate::reading::{Ahead, Read, RoleFile, Roles, Scope, last_root};
+use crate::reading::{Ahead, ReadFile, RoleFile, RoleFiles, Scope, last_root};
 use crate::wanted::edges_in;
 use cjson::NoMemory;
 use keys::{KeyRing, RoleKeys};
@@ -8,7 +8,10 @@ use meta::Root;
 use rolechain::Trusted;
 use std::alloc::Global;
 
-/// Whose signatures are asked of a document.
+/// Maximum number of key ids that are looked up for all documents.
+const MOST_IDS: usize = 262_144;
+
+/// The keys that must sign a document, as one role lists them.
 #[derive(Clone, Copy)]
 pub struct Signers<'a> {
     /// The number of the document.
@@ -17,8 +20,10 @@ pub struct Signers<'a> {
     pub role: &'a RoleKeys,
 }
 
-/// Who has to sign the files that were read: a root by the keys before it and by its own, the
-/// others by the last root's, and a delegated role by those of each delegation that reaches it.
+/// The keys that must sign the files that were read: a root by those of the root before it and by
+/// its own, the other top-level files by the last root's, and a delegated role by those of each
+/// delegation that is followed to it. Leaves out the last ones if they list more than 262,144 ids
+/// together. Fails only if out of memory.
 pub fn signers_of<'b>(scope: &Scope<'b>, ahead: &'b Ahead) -> Result<Vec<Signers<'b>>, NoMemory> {
     let mut all = Vec::new(scope.alloc);
     add_roots(scope.trusted, ahead.roots.as_slice(), &mut all)?;
@@ -33,13 +38,27 @@ pub fn signers_of<'b>(scope: &Scope<'b>, ahead: &'b Ahead) -> Result<Vec<Signers
         }
         add_delegated(scope.alloc, file, &ahead.roles, &mut all)?;
     }
+    let count = count_within(all.as_slice());
+    all.truncate(count);
     Ok(all)
+}
+
+/// How many of the first signers list no more ids together than may be looked up.
+fn count_within(all: &[Signers]) -> usize {
+    let mut ids: usize = 0;
+    for (place, signers) in all.iter().enumerate() {
+        ids = ids.saturating_add(signers.role.ids.as_slice().len());
+        if ids > MOST_IDS {
+            return place;
+        }
+    }
+    all.len()
 }
 
 /// Adds for each root the keys of the root before it, and its own.
 fn add_roots<'b>(
     trusted: &'b Trusted,
-    roots: &'b [Read<Root>],
+    roots: &'b [ReadFile<Root>],
     all: &mut Vec<Signers<'b>>,
 ) -> Result<(), NoMemory> {
     let mut before = trusted.root().reading();
@@ -85,12 +104,12 @@ fn add_top<'b>(
     Ok(())
 }
 
-/// Adds the keys of the delegations of a file that are followed, where they lead to files that were
-/// read. The top-level role is none of these.
+/// Adds the keys of the file's followed delegations that lead to files that were read, but for
+/// those to the top-level role.
 fn add_delegated<'b>(
     alloc: Global,
     file: &'b RoleFile,
-    roles: &'b Roles,
+    roles: &'b RoleFiles,
     all: &mut Vec<Signers<'b>>,
 ) -> Result<(), NoMemory> {
     for edge in edges_in(alloc, file)? {
@@ -108,8 +127,8 @@ fn add_delegated<'b>(
     Ok(())
 }
 
-/// The document of a role's file, where it was read.
-fn document_of(roles: &Roles, role: &str) -> Option<usize> {
+/// The document of a role's file, if it was read.
+fn document_of(roles: &RoleFiles, role: &str) -> Option<usize> {
     let place = (*roles.places.get(role)?)?;
     Some(roles.files.get(place)?.document)
 }

@@ -1,53 +1,17 @@
-//! Which delegations and targets bear on the wanted paths.
+//! The delegations that are followed for the wanted paths, and the digests of the wanted targets.
 
-use crate::reading::{Ahead, RoleFile, Scope, last_root};
+use crate::reading::{Ahead, ListedAt, RoleFile, Scope, last_root};
 use cjson::NoMemory;
 use cjson::text::Text;
-use deleg::{Edge, bin_of, edge_at, edge_count, is_for, target_of};
+use deleg::{Edge, edge_at};
 use examine::target_file;
 use keys::Algorithm;
-use meta::{Target, Targets};
+use meta::Target;
 use std::alloc::Global;
-use std::collections::BTreeSet;
 
-/// The delegations of a file that are followed for some wanted path, by their places, and where the
-/// file has bins with the name of the bin: those for the path, in order, up to the first that is
-/// terminating; none for a path that the file itself lists.
-pub(crate) fn places_for(
-    alloc: Global,
-    targets: &Targets,
-    wanted: &[String],
-) -> Result<BTreeSet<(usize, String)>, NoMemory> {
-    let mut places = BTreeSet::new(alloc);
-    for path in wanted {
-        if target_of(targets, path.as_str()).is_none() {
-            follow(alloc, targets, path.as_str(), &mut places)?;
-        }
-    }
-    Ok(places)
-}
-
-/// Adds the delegations that are followed for the path.
-fn follow(
-    alloc: Global,
-    targets: &Targets,
-    path: &str,
-    places: &mut BTreeSet<(usize, String)>,
-) -> Result<(), NoMemory> {
-    let bin = bin_of(alloc, targets, path)?;
-    for place in 0..edge_count(targets, bin.as_str()) {
-        match edge_at(targets, bin.as_str(), place) {
-            Some(edge) if is_for(&edge, path) => {
-                places.insert((place, String::from_str(alloc, bin.as_str())?))?;
-                if edge.terminating {
-                    break;
-                }
-            }
-            _ => {}
-        }
-    }
-    Ok(())
-}
+/// Maximum length in bytes of a target that is digested in advance. A worker stops between checks
+/// only, so a run waits at most for the digest of this many bytes.
+const MOST_DIGESTED: u64 = 16_000_000;
 
 /// The delegations of a file that are followed.
 pub(crate) fn edges_in<'a>(alloc: Global, file: &'a RoleFile) -> Result<Vec<Edge<'a>>, NoMemory> {
@@ -60,7 +24,7 @@ pub(crate) fn edges_in<'a>(alloc: Global, file: &'a RoleFile) -> Result<Vec<Edge
     Ok(edges)
 }
 
-/// A listed digest of a wanted target, and the file that it should be the digest of.
+/// A listed digest of a wanted target, and the bytes of the target's file.
 #[derive(Drop)]
 pub struct Digest<'a> {
     /// The target's path.
@@ -70,34 +34,25 @@ pub struct Digest<'a> {
     pub digest: Vec<u8>,
 }
 
-/// The digests of the wanted targets, as each file that was read lists them, of those whose files
-/// are there with the listed length. It stops once there are `scope.most`.
+/// The listed digests of the wanted targets whose files are there with the listed length, up to
+/// 16,000,000 bytes each. Stops once there are `scope.most`. Fails only if out of memory.
 pub fn digests<'a>(scope: &Scope<'a>, ahead: &Ahead) -> Result<Vec<Digest<'a>>, NoMemory> {
     let consistent = last_root(scope.trusted, ahead.roots.as_slice()).consistent();
     let mut found = Vec::new(scope.alloc);
-    for path in scope.wanted {
-        add_listed(scope, consistent, path.as_str(), ahead, &mut found)?;
+    for listed in ahead.roles.listed.iter() {
+        if found.len() >= scope.most {
+            break;
+        }
+        if let Some(target) = target_at(ahead, listed) {
+            add_digests(scope, consistent, target, &mut found)?;
+        }
     }
     Ok(found)
 }
 
-/// Adds the digests of one target, as each file that was read lists them.
-fn add_listed<'a>(
-    scope: &Scope<'a>,
-    consistent: bool,
-    path: &str,
-    ahead: &Ahead,
-    found: &mut Vec<Digest<'a>>,
-) -> Result<(), NoMemory> {
-    for file in ahead.roles.files.iter() {
-        if found.len() >= scope.most {
-            break;
-        }
-        if let Some(target) = target_of(&file.targets, path) {
-            add_digests(scope, consistent, target, found)?;
-        }
-    }
-    Ok(())
+fn target_at<'b>(ahead: &'b Ahead, listed: &ListedAt) -> Option<&'b Target> {
+    let file = ahead.roles.files.get(listed.file)?;
+    file.targets.targets().get(listed.target)
 }
 
 fn add_digests<'a>(
@@ -107,6 +62,9 @@ fn add_digests<'a>(
     found: &mut Vec<Digest<'a>>,
 ) -> Result<(), NoMemory> {
     let alloc = scope.alloc;
+    if target.length.get() > MOST_DIGESTED {
+        return Ok(());
+    }
     let Some(bytes) = target_file(alloc, &scope.repo.targets, consistent, target)? else {
         return Ok(());
     };

@@ -62,19 +62,22 @@ impl<'a> Model for Plan<'a> {
 }
 
 impl<'a> Plan<'a> {
-    /// The questions that a run from this state on is likely to ask about the repository and the
-    /// wanted paths: at most `most`, none of them twice. `roles` is the number of roles that a
-    /// search visits at most; as many targets files are read as the searches for all wanted paths
-    /// could visit. The metadata is read as it stands, each file at most once, and nobody has
-    /// verified it; a file that can't be read is passed over, and so is what it would lead to.
+    /// The questions that a run from this state probably asks about the repository and the wanted
+    /// paths: at most `most`, none of them twice. Reads the files that the searches for the wanted
+    /// paths visit if every role is accepted, each at most once and without verifying it; `roles`
+    /// is the most roles that a search may visit.
+    ///
+    /// Reads at most 4,000,000 bytes of files, and matches paths within a bound of steps, so that
+    /// whoever wrote the files doesn't decide what a plan costs. A file that is missing, malformed
+    /// or too long for what is left is skipped, together with all that it would lead to. Fails only
+    /// if out of memory.
     ///
     /// First come the signatures: of each successive root, by the keys of the root before it and by
     /// its own; of timestamp, snapshot and top-level targets, by the last root's keys; of each
-    /// delegated role, by the keys of each delegation that leads to it. For each key that the role
-    /// lists, each entry under its id is a question, whatever its text looks like. Then come the
-    /// listed digests of the wanted targets whose files are there with the listed length.
-    ///
-    /// Where `most` is 0, nothing is read. It refuses for want of memory alone.
+    /// delegated role, by the keys of each delegation that is followed to it. For each key that the
+    /// role lists, each entry under its id is a question, whatever its text looks like. Then come
+    /// the listed digests of the wanted targets whose files are there with the listed length, up to
+    /// 16,000,000 bytes each. If `most` is 0, nothing is read.
     pub fn of(
         alloc: Global,
         trusted: &'a Trusted,
@@ -90,13 +93,12 @@ impl<'a> Plan<'a> {
         if most == 0 {
             return Ok(Plan::of_draft(Draft::new(alloc, Vec::new(alloc), 0)));
         }
-        let below = roles.saturating_sub(1).saturating_mul(wanted.len());
         let scope = Scope {
             alloc,
             trusted,
             repo,
             wanted,
-            files: below.saturating_add(1),
+            roles,
             most,
         };
         Ok(Plan::of_draft(draft_of(&scope)?))

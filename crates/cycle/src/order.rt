@@ -10,7 +10,7 @@ use crate::outcome::Outcome;
 use crate::roles::gather_roles;
 use crate::target::{Store, verdicts_of};
 use cjson::NoMemory;
-use deleg::{Searched, search};
+use deleg::{Searched, Searcher};
 use keys::Judge;
 use meta::{Moment, Repo};
 use rolechain::{End, Trusted, advance};
@@ -73,7 +73,7 @@ fn close<J: Judge>(
     Ok(Outcome::new(trusted, end, verdicts, accepted))
 }
 
-/// The search for each wanted path, in order.
+/// The search for each wanted path, in order. All of them share the searcher's cache.
 fn searches<J: Judge>(
     cycle: &Cycle,
     trusted: &Trusted,
@@ -86,37 +86,33 @@ fn searches<J: Judge>(
         cycle.now.limits.now.roles trusted.now end) (map string_bytes cycle.now.wanted.now)) }
 {
     let mut all = Vec::with_capacity(cycle.alloc, cycle.wanted.len())?;
+    let mut searcher = Searcher::new(cycle.alloc, trusted, cycle.repo, cycle.moment);
     for path in cycle.wanted {
-        all.push(search_path(cycle, trusted, end, path.as_str(), judge)?)?;
+        all.push(search_path(&mut searcher, cycle.limits, end, path.as_str(), judge)?)?;
     }
     Ok(all)
 }
 
-/// The search for a path, where the cycle is ready.
+/// Searches for the path if the cycle is ready.
 fn search_path<J: Judge>(
-    cycle: &Cycle,
-    trusted: &Trusted,
+    searcher: &mut Searcher,
+    limits: &Limits,
     end: End,
     path: &str,
     judge: &mut J,
 ) -> Result<Option<Searched>, NoMemory>
-    requires { end ≡ End.Ready → is_ready trusted.now ≡ true }
-    ensures { IfOk result (λ s. s
-        ≡ spec.searched (file_in cycle.now.repo.now.metadata) cycle.now.moment
-        cycle.now.limits.now.roles trusted.now end path.now) }
+    requires { end ≡ End.Ready → is_ready searcher.old.trusted.now ≡ true }
+    ensures searched { let s = searcher.old in IfOk result (λ found. found
+        ≡ spec.searched (file_in s.repo.now.metadata) s.moment limits.now.roles s.trusted.now end
+        path.now) }
+    ensures trusted { searcher.new.trusted.now ≡ searcher.old.trusted.now }
+    ensures repo { searcher.new.repo.now ≡ searcher.old.repo.now }
+    ensures moment { searcher.new.moment ≡ searcher.old.moment }
 {
     let End::Ready = end else {
         return Ok(None);
     };
-    let limit = cycle.limits.roles.get() as usize;
-    let found = search(
-        cycle.alloc,
-        trusted,
-        cycle.repo,
-        cycle.moment,
-        path,
-        limit,
-        judge,
-    )?;
+    let limit = limits.roles.get() as usize;
+    let found = searcher.search(path, limit, judge)?;
     Ok(Some(found))
 }

@@ -5,3 +5,4 @@ pub mod Versions
 pub mod Stack
 pub mod Starting
 pub mod WorkedValues
+pub mod Caching

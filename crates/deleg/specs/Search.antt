@@ -167,7 +167,7 @@ followed m path = filter (is_for path) (edges m path)
 
 -- # The search for a path through delegations, in preorder (TUF 1.0 section 5.6.7).
 
--- what came of a visit or a walk, or None where the search goes on; and the delegated roles that
+-- what outcome of a visit or a walk, or None where the search goes on; and the delegated roles that
 -- were accepted till then
 pub record Visited : Type 0 where
   pub found : Option Found
@@ -280,6 +280,14 @@ abbrev pub search_in : Files → Moment → State → List ℕ → ℕ → Optio
 search_in files now s path most =
     option_and_then (λ snap. option_map (λ m.
     search_from files now s.root.reading snap.reading path most m.reading) s.targets) s.snapshot
+
+-- # Delegations that ask for one file.
+
+-- to a role of one name, by the same of the same keys
+pub record RequireTheSame (a b : Edge) : Type 0 where
+  pub name : a.name ≡ b.name
+  pub ring : a.ring ≡ b.ring
+  pub keys : a.keys ≡ b.keys
 
 -- # A search that is under way.
 

@@ -4,7 +4,9 @@ ghost use Rattle.std.specs.Prelude.{◌≡◌, IfOk, drop, slice_get, option_map
 ghost use Rattle.deleg.specs.Search as spec;
 
 use crate::accepted::Accepted;
+use crate::cache::Entered;
 use crate::edge::{Edge, bin_of, edge_at, edge_count, is_for};
+use crate::hashed::HashedPath;
 use crate::query::is_visited;
 use cjson::NoMemory;
 use cjson::text::Text;
@@ -17,6 +19,8 @@ use std::marker::Model;
 #[derive(Drop)]
 pub(crate) struct Frame {
     file: Part<Targets>,
+    /// Whether the cache or the trusted state has the file too.
+    held: bool,
     bin: Text,
     tried: usize,
 }
@@ -32,15 +36,35 @@ impl Model for Frame {
 
 impl Frame {
     /// A file none of whose delegations were tried.
-    pub(crate) fn of(alloc: Global, file: Part<Targets>, path: &str) -> Result<Frame, NoMemory>
-        ensures { IfOk result (λ f. f ≡ spec.edges file.reading path.now) }
+    pub(crate) fn of(alloc: Global, entered: Entered, path: &HashedPath) -> Result<Frame, NoMemory>
+        ensures { IfOk result (λ f. f ≡ spec.edges entered.file.reading path.now) }
     {
+        let Entered { file, held } = entered;
         let bin = bin_of(alloc, file.reading(), path)?;
         Ok(Frame {
             file,
+            held,
             bin,
             tried: 0,
         })
+    }
+
+    /// An equal frame, which shares its file with this one.
+    pub(crate) fn copy(&self, alloc: Global) -> Result<Frame, NoMemory>
+        ensures { IfOk result (λ f. f ≡ self.now) }
+    {
+        let bin = Text::new(String::from_str(alloc, self.bin.as_str())?);
+        Ok(Frame {
+            file: self.file.copy()?,
+            held: self.held,
+            bin,
+            tried: self.tried,
+        })
+    }
+
+    /// Whether the cache or the trusted state has the file too.
+    pub(crate) fn is_held(&self) -> bool {
+        self.held
     }
 
     /// The first delegation that is left.
@@ -61,7 +85,7 @@ impl Frame {
 
     /// Leaves out the first delegations that aren't for the path or lead to visited roles, up to a
     /// terminating one that is for the path.
-    pub(crate) fn pass(&mut self, path: &str, seen: &[Accepted])
+    pub(crate) fn pass(&mut self, path: &HashedPath, seen: &[Accepted])
         ensures { self.new ≡ spec.after_passed path.now seen.now self.old }
     {
         while self.starts_passed(path, seen) {
@@ -69,16 +93,18 @@ impl Frame {
         }
     }
 
-    fn starts_passed(&self, path: &str, seen: &[Accepted]) -> bool
+    fn starts_passed(&self, path: &HashedPath, seen: &[Accepted]) -> bool
         ensures { result ≡ spec.starts_passed path.now seen.now self.now }
     {
-        let next = self.next();
-        next.is_some_and(|edge| is_passed(&edge, path, seen))
+        match self.next() {
+            Some(edge) => is_passed(&edge, path, seen),
+            None => false,
+        }
     }
 }
 
 /// Whether the delegation isn't for the path, or leads to a visited role and isn't terminating.
-fn is_passed(edge: &Edge, path: &str, seen: &[Accepted]) -> bool
+fn is_passed(edge: &Edge, path: &HashedPath, seen: &[Accepted]) -> bool
     ensures { result ≡ spec.is_passed path.now seen.now (spec.edge_of edge.now) }
 {
     !is_for(edge, path) || (is_visited(seen, edge.name) && !edge.terminating)

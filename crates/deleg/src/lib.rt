@@ -4,20 +4,25 @@
 
 mod accepted;
 mod bin;
+mod cache;
 mod edge;
 mod found;
 mod frame;
+mod hashed;
+mod once;
 mod pattern;
 mod prefix;
 mod query;
+mod same;
 mod searching;
 mod walk;
 
 pub use accepted::{Accepted, Searched};
-pub use bin::bin_name;
+pub use bin::{bin_name, bin_name_by};
 pub use edge::{Edge, bin_of, edge_at, edge_count, is_for};
 pub use found::Found;
+pub use hashed::HashedPath;
 pub use pattern::matches;
 pub use prefix::prefix_matches;
 pub use query::{has_role, target_of};
-pub use searching::search;
+pub use searching::{Searcher, search};

@@ -6,10 +6,13 @@ ghost use Rattle.meta.specs.Metadata.{Snapshot};
 ghost use Rattle.examine.specs.Checks.{file_in};
 ghost use Rattle.rolechain.specs.Advance.{is_ready};
 ghost use Rattle.deleg.specs.Search as spec;
+ghost use Rattle.deleg.specs.Cache.{IsCacheIn, IsCacheOf, examination_in};
 
 use crate::accepted::Searched;
+use crate::cache::{Entered, RoleCache};
 use crate::found::Found;
 use crate::frame::Frame;
+use crate::hashed::HashedPath;
 use crate::query::{Query, target_of};
 use crate::walk::walk;
 use cjson::NoMemory;
@@ -20,15 +23,92 @@ use meta::{Moment, Part, Repo, Targets};
 use rolechain::Trusted;
 use std::alloc::Global;
 
-/// Searches for a path from the trusted top-level targets file on (TUF 1.0 section 5.6.7).
+/// Searches for one path after another, below one trusted state, in one repository and at one
+/// moment.
 ///
-/// Roles are visited in preorder, at most `limit` of them (a search of this project has a limit of
-/// 1 to 256), the top-level role among them. A delegated role's file must be listed by the trusted
-/// snapshot and signed as the delegation asks by which the search comes to it. Where the role lists
-/// the path, the search ends. Else its delegations that are for the path are followed in order; one
-/// to a role that was visited is skipped. After a terminating one nothing else is tried, whether it
-/// was followed or skipped. The search also ends with the first role that is refused, and where one
-/// more role would be visited than the limit allows.
+/// Caches the outcome of each role's examination, its file or its fault. A later visit, of any
+/// search, uses it only if the delegation has an equal role name, ring, list of ids and threshold:
+/// so nothing that one delegator's keys accept is accepted for another.
+///
+/// Caches at most 16,384 examinations, and at most 16 of one role; the others are done again. Gives
+/// the cache up if a search is out of memory.
+#[derive(Drop)]
+pub struct Searcher<'a> {
+    pub alloc: Global,
+    pub trusted: &'a Trusted,
+    pub repo: &'a Repo,
+    pub moment: Moment,
+    cache: RoleCache,
+    ghost truth: { IsCacheIn (file_in repo.now.metadata) moment trusted.now cache },
+}
+
+impl<'a> Searcher<'a> {
+    /// A searcher with an empty cache. Does not allocate.
+    pub fn new(alloc: Global, trusted: &'a Trusted, repo: &'a Repo, moment: Moment) -> Searcher<'a>
+        ensures trusted { result.trusted.now ≡ trusted.now }
+        ensures repo { result.repo.now ≡ repo.now }
+        ensures moment { result.moment ≡ moment }
+    {
+        Searcher {
+            alloc,
+            trusted,
+            repo,
+            moment,
+            cache: RoleCache::new(alloc),
+        }
+    }
+
+    /// Searches for `path` as the function [`search`] does; earlier searches have no influence.
+    pub fn search<J: Judge>(
+        &mut self,
+        path: &str,
+        limit: usize,
+        judge: &mut J,
+    ) -> Result<Searched, NoMemory>
+        requires { IsTrue (is_ready self.old.trusted.now) }
+        ensures preorder { let s = self.old in (visits : spec.Visits) (snapshot : Part Snapshot)
+            → s.trusted.now.snapshot ≡ Some snapshot
+            → spec.IsPreorder (file_in s.repo.now.metadata) s.moment s.trusted.now.root.reading
+            snapshot.reading path.now limit visits
+            → IfOk result (λ found. spec.search_by visits s.trusted.now path.now ≡ Some found) }
+        ensures solved { let s = self.old in (snapshot : Snapshot)
+            → spec.IsSolved (file_in s.repo.now.metadata) s.moment s.trusted.now.root.reading
+            snapshot path.now limit }
+        ensures searched { let s = self.old in IfOk result (λ found. spec.search_in
+            (file_in s.repo.now.metadata) s.moment s.trusted.now path.now limit ≡ Some found) }
+        ensures trusted { self.new.trusted.now ≡ self.old.trusted.now }
+        ensures repo { self.new.repo.now ≡ self.old.repo.now }
+        ensures moment { self.new.moment ≡ self.old.moment }
+    {
+        let trusted = self.trusted;
+        let repo = self.repo;
+        let Some(snapshot) = trusted.snapshot() else {
+            unreachable!()
+        };
+        let Some(targets) = trusted.targets() else {
+            unreachable!()
+        };
+        let query = Query {
+            alloc: self.alloc,
+            files: &repo.metadata,
+            moment: self.moment,
+            root: trusted.root().reading(),
+            snapshot: snapshot.reading(),
+            path: &HashedPath::of(path),
+            limit,
+        };
+        search_or_again(&query, targets, &mut self.cache, judge)
+    }
+}
+
+/// Searches for `path` in preorder from the trusted top-level targets file (TUF 1.0 section 5.6.7).
+/// Visits each role once and at most `limit` roles, the top-level role included; this program
+/// passes 1 to 256. Fails only if out of memory.
+///
+/// A delegated role's file must be listed by the trusted snapshot and signed as the delegation that
+/// leads to it requires. The search ends if a role lists `path`, if a role is refused, if one more
+/// visit would exceed `limit`, or if no delegation is left. A matching terminating delegation is
+/// the last one tried, whether its role is visited or was visited before.
 pub fn search<J: Judge>(
     alloc: Global,
     trusted: &Trusted,
@@ -49,34 +129,46 @@ pub fn search<J: Judge>(
     ensures searched { IfOk result (λ s.
         spec.search_in (file_in repo.now.metadata) now trusted.now path.now limit ≡ Some s) }
 {
-    let Some(snapshot) = trusted.snapshot() else {
-        unreachable!()
-    };
-    let Some(targets) = trusted.targets() else {
-        unreachable!()
-    };
-    let query = Query {
-        alloc,
-        files: &repo.metadata,
-        moment: now,
-        root: trusted.root().reading(),
-        snapshot: snapshot.reading(),
-        path,
-        limit,
-    };
-    search_from(&query, targets, judge)
+    Searcher::new(alloc, trusted, repo, now).search(path, limit, judge)
 }
 
-/// The search from the top-level targets file on.
+/// The search from the top-level targets file, once more with an empty cache if it was out of
+/// memory.
+fn search_or_again<J: Judge>(
+    query: &Query,
+    targets: &Part<Targets>,
+    cache: &mut RoleCache,
+    judge: &mut J,
+) -> Result<Searched, NoMemory>
+    requires cache { IsCacheOf (examination_in query.now) cache.old }
+    ensures searched { let q = query.now in IfOk result (λ s. s ≡ spec.search_from
+        (file_in q.files.now) q.moment q.root.now q.snapshot.now q.path.now q.limit
+        targets.now.reading) }
+    ensures cache { IsCacheOf (examination_in query.now) cache.new }
+{
+    match search_from(query, targets, cache, judge) {
+        Err(NoMemory) if !cache.is_empty() => {
+            *cache = RoleCache::new(query.alloc);
+            search_from(query, targets, cache, judge)
+        }
+        found => found,
+    }
+}
+
+/// The search from the top-level targets file.
 fn search_from<J: Judge>(
     query: &Query,
     targets: &Part<Targets>,
+    cache: &mut RoleCache,
     judge: &mut J,
 ) -> Result<Searched, NoMemory>
-    ensures { let q = query.now in IfOk result (λ s. s ≡ spec.search_from (file_in q.files.now)
-        q.moment q.root.now q.snapshot.now q.path.now q.limit targets.now.reading) }
+    requires cache { IsCacheOf (examination_in query.now) cache.old }
+    ensures searched { let q = query.now in IfOk result (λ s. s ≡ spec.search_from
+        (file_in q.files.now) q.moment q.root.now q.snapshot.now q.path.now q.limit
+        targets.now.reading) }
+    ensures cache { IsCacheOf (examination_in query.now) cache.new }
 {
-    if let Some(target) = target_of(targets.reading(), query.path) {
+    if let Some(target) = target_of(targets.reading(), query.path.as_str()) {
         let role = Text::new(String::from_str(query.alloc, "targets")?);
         let found = Found::Listed {
             role,
@@ -87,6 +179,10 @@ fn search_from<J: Judge>(
         return Ok(Searched { found, accepted });
     }
     let mut stack = Vec::new(query.alloc);
-    stack.push(Frame::of(query.alloc, targets.copy()?, query.path)?)?;
-    walk(query, stack, judge)
+    let top = Entered {
+        file: targets.copy()?,
+        held: true,
+    };
+    stack.push(Frame::of(query.alloc, top, query.path)?)?;
+    walk(query, stack, cache, judge)
 }

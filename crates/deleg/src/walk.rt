@@ -3,12 +3,15 @@
 ghost use Rattle.std.specs.Prelude.{◌≡◌, ◌+◌, ◌<◌, ◌∷◌, ◌++◌, [], Some, drop, length, option_map};
 ghost use Rattle.std.specs.Prelude.{if◌then◌else◌, IfOk, IfSome, IfNone};
 ghost use Rattle.deleg.specs.Search as spec;
+ghost use Rattle.deleg.specs.Cache.{IsCacheOf, examination_in};
 ghost use Rattle.deleg.specs.declared.found.Found.TheVariants as found;
 
 use crate::accepted::{Accepted, Searched};
+use crate::cache::RoleCache;
 use crate::found::Found;
 use crate::frame::Frame;
-use crate::query::{Query, examine, is_visited, target_of};
+use crate::once::examine_once;
+use crate::query::{Query, is_visited, target_of};
 use cjson::NoMemory;
 use cjson::list::Items;
 use cjson::text::Text;
@@ -19,14 +22,17 @@ use meta::{Part, Stop, Targets};
 pub(crate) fn walk<J: Judge>(
     query: &Query,
     mut stack: Vec<Frame>,
+    cache: &mut RoleCache,
     judge: &mut J,
 ) -> Result<Searched, NoMemory>
-    ensures { IfOk result (λ s.
+    requires cache { IsCacheOf (examination_in query.now) cache.old }
+    ensures searched { IfOk result (λ s.
         s ≡ spec.outlook query.now (spec.pending query.now.path.now stack.items) []) }
+    ensures cache { IsCacheOf (examination_in query.now) cache.new }
 {
     let mut seen = Vec::new(query.alloc);
     while let Some(frame) = next_frame(query, &mut stack, seen.as_slice()) {
-        if let Some(found) = visit(query, frame, &mut stack, &mut seen, judge)? {
+        if let Some(found) = visit(query, frame, &mut stack, &mut seen, cache, judge)? {
             let accepted = Items::new(seen);
             return Ok(Searched { found, accepted });
         }
@@ -68,9 +74,11 @@ fn visit<J: Judge>(
     frame: Frame,
     stack: &mut Vec<Frame>,
     seen: &mut Vec<Accepted>,
+    cache: &mut RoleCache,
     judge: &mut J,
 ) -> Result<Option<Found>, NoMemory>
-    requires { spec.IsNext query.now.path.now seen.old.items frame }
+    requires next { spec.IsNext query.now.path.now seen.old.items frame }
+    requires cache { IsCacheOf (examination_in query.now) cache.old }
     ensures goes_on { let q = query.now in
         IfOk result (λ o. IfNone o (spec.GoesOn q
         (spec.pending_with q.path.now frame stack.old.items) seen.old.items
@@ -78,6 +86,7 @@ fn visit<J: Judge>(
     ensures ends { let q = query.now in
         IfOk result (λ o. IfSome o (λ f. spec.Ends q
         (spec.pending_with q.path.now frame stack.old.items) seen.old.items f seen.new.items)) }
+    ensures cache { IsCacheOf (examination_in query.now) cache.new }
 {
     if seen.len() >= query.limit.saturating_sub(1) {
         return Ok(Some(Found::LimitReached));
@@ -87,16 +96,16 @@ fn visit<J: Judge>(
     };
     let terminating = edge.terminating;
     let role = Text::new(String::from_str(query.alloc, edge.name)?);
-    let part = match examine(query, &edge, judge) {
-        Ok(part) => part,
+    let entered = match examine_once(query, &frame, &edge, cache, judge) {
+        Ok(entered) => entered,
         Err(Stop::Refused(fault)) => return Ok(Some(Found::RoleRefused { role, fault })),
         Err(Stop::NoMemory) => return Err(NoMemory),
     };
-    if let Some(found) = accept(query, role, &part, seen)? {
+    if let Some(found) = accept(query, role, &entered.file, seen)? {
         return Ok(Some(found));
     }
     put_back(frame, terminating, stack)?;
-    stack.push(Frame::of(query.alloc, part, query.path)?)?;
+    stack.push(Frame::of(query.alloc, entered, query.path)?)?;
     Ok(None)
 }
 
@@ -120,7 +129,7 @@ fn accept(
         role: name,
         version,
     })?;
-    let Some(target) = target_of(part.reading(), query.path) else {
+    let Some(target) = target_of(part.reading(), query.path.as_str()) else {
         return Ok(None);
     };
     let target = target.copy(query.alloc)?;

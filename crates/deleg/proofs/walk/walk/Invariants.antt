@@ -1,11 +1,15 @@
 use Rattle.std.proofs.Common.{◌≡◌, ◌-◌, length}
 use Rattle.deleg.specs.Search.{outlook, pending}
+use Rattle.deleg.specs.Cache.{IsCacheOf, examination_in}
 use Rattle.deleg.proofs.walk.walk.Given as goal
 
 abbrev pub invariant-loop-frame : goal.invariant-loop-frame
 invariant-loop-frame g l =
     let q = l.query in
-    outlook q (pending q.path.now l.initial.stack.items) l.initial.seen.items ≡ outlook q (pending q.path.now l.stack.items) l.seen.items
+    record {
+      same : outlook q (pending q.path.now l.initial.stack.items) l.initial.seen.items ≡ outlook q (pending q.path.now l.stack.items) l.seen.items;
+      cache : IsCacheOf (examination_in q) l.cache;
+    }
 
 abbrev pub decreases-loop-frame : goal.decreases-loop-frame
 decreases-loop-frame g l = l.query.limit - length l.seen.items

@@ -1,0 +1,13 @@
+-- How much of a repository is read ahead.
+use Rattle.std.specs.Prelude.{ℕ, List, length}
+use Rattle.std.specs.List.{sum_by}
+use Rattle.std.specs.Option.{option_map_or}
+use Rattle.examine.specs.Checks.{Files}
+use Rattle.ahead.specs.declared.document.Document.{Document}
+
+-- the bytes of the file that a document is of
+abbrev pub bytes_of : Files → Document → ℕ
+bytes_of files document = option_map_or length (files document.file) 0
+
+abbrev pub bytes_read : Files → List Document → ℕ
+bytes_read files documents = sum_by (bytes_of files) documents
