@@ -321,3 +321,54 @@ Two roles delegate to one, each by another key: each delegation asks its own key
   ok "x/1" 1 "c"
   no "y/1" Unsigned "c"
   [1]
+  $ by 0,1,4 old new y/1 x/1 y/1 x/1
+  root 1
+  end ready
+  role "a" 1
+  role "b" 1
+  role "c" 1
+  no "y/1" Unsigned "c"
+  ok "x/1" 1 "c"
+  no "y/1" Unsigned "c"
+  ok "x/1" 1 "c"
+  [1]
+
+Two roles delegate to one by the same keys, one with a threshold of 1 and the other of 2, and one key has signed: what is accepted for the one isn't accepted for the other, and what is refused for the other isn't refused for the one.
+  $ make
+  > @one
+  > key 5 5 4
+  > key 6 5 4
+  > delegate targets a 1 1 go paths x/*
+  > delegate targets b 1 1 go paths y/*
+  > delegate a c 1 5,6 go paths x/*
+  > delegate b c 2 5,6 go paths y/*
+  > target c x/1 31 sha256
+  > target c y/1 32 sha256
+  > write c 1 5
+  > write a 1 1
+  > write b 1 1
+  > @top
+  $ init old
+  root 1
+  $ by 0,1,4 old new x/1 y/1 x/1 y/1
+  root 1
+  end ready
+  role "a" 1
+  role "b" 1
+  role "c" 1
+  ok "x/1" 1 "c"
+  no "y/1" Unsigned "c"
+  ok "x/1" 1 "c"
+  no "y/1" Unsigned "c"
+  [1]
+  $ by 0,1,4 old new y/1 x/1 y/1 x/1
+  root 1
+  end ready
+  role "a" 1
+  role "b" 1
+  role "c" 1
+  no "y/1" Unsigned "c"
+  ok "x/1" 1 "c"
+  no "y/1" Unsigned "c"
+  ok "x/1" 1 "c"
+  [1]

@@ -27,11 +27,11 @@ A rotated timestamp key lets a lower version in.
   $ keeps three
   root snapshot targets timestamp
 
-A snapshot key changed and changed back.
+A snapshot key changed and changed back. That drops the trusted snapshot too, so a lower version of the targets file is let in.
   $ make
   > @keys
   > write root 1 1
-  > write targets 1 4
+  > write targets 3 4
   > write snapshot 1 3
   > write timestamp 9 2
   $ init one
@@ -46,7 +46,7 @@ A snapshot key changed and changed back.
   > write root 2 1
   > top snapshot 1 3
   > write root 3 1
-  > write targets 1 4
+  > write targets 2 4
   > write snapshot 1 3
   > write timestamp 1 2
   $ verify two three
@@ -55,11 +55,18 @@ A snapshot key changed and changed back.
   $ keeps three
   root snapshot targets timestamp
 
-Keys of W8 give way to keys of W4 in all roles.
+Keys of W8 give way to keys of W4 in all roles. The trusted timestamp and snapshot are dropped, so lower versions of the timestamp and of the listed targets file are let in.
   $ make
-  > @keys
+  > key 1 5 8
+  > key 2 5 8
+  > key 3 5 8
+  > key 4 5 8
+  > top root 1 1
+  > top timestamp 1 2
+  > top snapshot 1 3
+  > top targets 1 4
   > write root 1 1
-  > write targets 1 4
+  > write targets 3 4
   > write snapshot 1 3
   > write timestamp 9 2
   $ init one
@@ -68,7 +75,7 @@ Keys of W8 give way to keys of W4 in all roles.
   root 1
   end ready
   $ make
-  > @keys
+  > key 1 5 8
   > key 5 5 4
   > key 6 5 4
   > key 7 5 4
@@ -78,7 +85,7 @@ Keys of W8 give way to keys of W4 in all roles.
   > top snapshot 1 7
   > top targets 1 8
   > write root 2 1,5
-  > write targets 1 8
+  > write targets 2 8
   > write snapshot 1 7
   > write timestamp 1 6
   $ verify two three
