@@ -220,4 +220,5 @@ def main():
                     measure(name, LIMIT * quarters // 4)
 
 
-main()
+if __name__ == "__main__":
+    main()

@@ -1,0 +1,231 @@
+#!/usr/bin/env python3
+"""Times `tufcheck verify` of hostile and of large mirrors by 0 and by 4 workers, and measures its memory.
+
+  checks/mirrors.py [--program PROGRAM] [--before PROGRAM] [--rounds N] [--most SECONDS] [CASE..]
+
+The program is crates/tufcheck/out/tufcheck unless given, which `rt run` in crates/tufcheck proves and builds. With
+`--before` each round runs that program and then the other. There are 3 rounds and all cases unless given.
+
+For each mirror, number of wanted paths and number of workers it prints the medians of the seconds from start to end, of
+the processor's seconds and of the peak memory in MB (at least that of this script). A run is killed after 60 seconds
+unless given. It then prints `over 60` and what that run had used, and runs it no more.
+
+It checks that each run that isn't killed prints, returns and stores what the workflow gives, which it works out by
+itself. So the lines and the state are also the same by 0 and by 4 workers, before and after. If not, it exits with
+status 1.
+
+In a hostile mirror nobody with a key has signed what stands beside the right first root:
+
+  keyless    31 roles of 5,000,000 bytes of prefixes of one digit, to which each wanted path leads
+  small      the same with 120,000 bytes each, less than 4,000,000 together
+  patterns   3,900,000 bytes of patterns that are compared for long, and are for none of the paths
+  repeated   one delegation 40,000 times over
+  prefix     hash bins whose names begin with the same 3,800,000 bytes
+  listings   hash bins of 32 bits, and a snapshot that lists 50,000 names, none of them a wanted path's bin
+  roots      250 successive roots of nearly 500,000 bytes
+  target     a wanted target of 600,000,000 bytes that has the listed length, beside one of 3 bytes, and a timestamp
+             with six forged signatures
+  costly     each kind of file of `checks/costly.py`, with a forged signature under the right key's id
+  fitting    the same kinds with 3,950,000 bytes, which fit into the bytes that are read ahead
+
+In an honest one all is signed, and all wanted paths are accepted:
+
+  bins       20,000 targets in 64 and in 1,024 hash bins
+  folders    20,000 targets in 1,000 roles, each for the paths of a folder
+  diamond    2,000 targets of a role to which two others lead, by different keys and for every other path each
+  least      a key for each role, and one target
+  signatures 1,024 signatures: 32 roles that 32 keys sign each, of which the last lists the target
+  large      a targets file of 3,900,000 and one of 5,000,000 bytes, of which one target is wanted
+
+It takes some minutes, and up to a minute more for each run that is killed. Nothing else should run meanwhile.
+"""
+import argparse
+import filecmp
+import itertools
+import os
+import signal
+import statistics
+import subprocess
+import sys
+import tempfile
+import time
+from typing import NamedTuple
+
+from hostile import CASES, write
+import tuf
+
+TOP = os.path.dirname(os.path.dirname(os.path.abspath(__file__)))
+NOW = "2026-01-01T00:00:00Z"
+WORKERS = ("0", "4")
+
+
+class Run(NamedTuple):
+    """The seconds, the processor's seconds and the peak memory of a run, and whether it was killed."""
+
+    seconds: float
+    processor: float
+    memory: int
+    killed: bool
+
+
+def read(name):
+    with open(name, "rb") as file:
+        return file.read()
+
+
+def lines_of(mirror, paths):
+    """The lines that the workflow gives for these paths."""
+    if mirror.stop:
+        return f"root 1\nend {mirror.stop} Unsigned\n" + "".join(f'no "{path}" NotSearched\n' for path in paths)
+    accepted = sorted({role for path in paths for role in mirror.way(path)[1:]})
+    roles = "".join(f'role "{role}" 1\n' for role in accepted)
+    found = "".join(f'ok "{path}" {len(path)} "{mirror.way(path)[-1]}"\n' for path in paths)
+    return f"root 1\nend ready\n{roles}{found}"
+
+
+def state_of(*roles):
+    """The state file that trusts the files of these roles."""
+    names = {role: "1.root" if role == "root" else role for role in roles}
+    return tuf.canonical({role: read(f"metadata/{name}.json").hex() for role, name in names.items()})
+
+
+def prepare(program, make, sizes, counts):
+    """Makes a mirror, the state before a run, and what is due: the state after it, the status and the lines."""
+    mirror = make(*sizes)
+    if mirror.script:
+        write("script", mirror.script.encode())
+        subprocess.run([program, "make", "script", "."], check=True)
+    write("state", state_of("root"))
+    write("due.state", state_of("root") if mirror.stop else state_of("root", "snapshot", "targets", "timestamp"))
+    write("due.status", b"2" if mirror.stop else b"0")
+    for count in counts:
+        paths = mirror.paths[:: len(mirror.paths) // count][:count]
+        write(f"wanted.{count}", "\n".join(paths).encode())
+        write(f"due.lines.{count}", lines_of(mirror, paths).encode())
+
+
+def prepared(*given):
+    """Prepares in a process of its own, since a run's peak memory is at least that of the process that starts it."""
+    child = os.fork()
+    if not child:
+        try:
+            prepare(*given)
+            os._exit(0)
+        except Exception as error:
+            print(f"mirrors.py: {error!r}", file=sys.stderr, flush=True)
+        os._exit(1)
+    if os.waitpid(child, 0)[1]:
+        sys.exit("mirrors.py: the mirror couldn't be made")
+
+
+def run(words, most):
+    """Runs the program for so many seconds at most. Returns its status and what it took."""
+    begin = time.monotonic()
+    with open("lines", "wb") as lines:
+        process = subprocess.Popen(words, stdout=lines)
+    signal.signal(signal.SIGALRM, lambda *_: os.kill(process.pid, signal.SIGKILL))
+    signal.setitimer(signal.ITIMER_REAL, most)
+    _, status, usage = os.wait4(process.pid, 0)
+    signal.setitimer(signal.ITIMER_REAL, 0)
+    took = time.monotonic() - begin
+    process.returncode = os.waitstatus_to_exitcode(status)
+    killed = process.returncode == -signal.SIGKILL and took >= most
+    return process.returncode, Run(took, usage.ru_utime + usage.ru_stime, usage.ru_maxrss // 1024, killed)
+
+
+def is_same(one, other):
+    filecmp.clear_cache()
+    return os.path.exists(one) and filecmp.cmp(one, other, shallow=False)
+
+
+def difference(printed, due):
+    """What is said of the first line in which these files differ."""
+    rows = itertools.zip_longest(read(printed).splitlines(True), read(due).splitlines(True))
+    number, row = next((number, row) for number, row in enumerate(rows, 1) if row[0] != row[1])
+    return "line {} is {}, and {} is due".format(number, *row)
+
+
+def fault_of(status, count):
+    """How the status, the lines or the state of a run differ from those that are due, or None."""
+    if status != int(read("due.status")):
+        return f"status {status}"
+    if not is_same("lines", f"due.lines.{count}"):
+        return difference("lines", f"due.lines.{count}")
+    return None if is_same("new", "due.state") else "another state is stored"
+
+
+def verify(program, workers, count, most):
+    """Runs `verify`. Returns what it took, and how it differs from what is due."""
+    if os.path.exists("new"):
+        os.remove("new")
+    words = [program, "verify", "--state", "state", "--metadata", "metadata", "--targets", "targets", "--now", NOW]
+    words += ["--limit", "33", "--workers", workers, "--out", "new", *read(f"wanted.{count}").decode().split("\n")]
+    status, taken = run(words, most)
+    return taken, None if taken.killed else fault_of(status, count)
+
+
+def columns(runs, most):
+    """What the runs of one program took, the killed one alone if there is one."""
+    killed = [it for it in runs if it.killed]
+    seconds, processor, memory, _ = map(statistics.median, zip(*(killed or runs)))
+    return f"{f'over {most:g}' if killed else f'{seconds:.2f}':>9} {processor:>9.2f} {memory:>6.0f}"
+
+
+def measure(name, count, options):
+    """Runs the programs in turns by each number of workers, round by round, and prints a line for each number."""
+    runs = {workers: [[] for _ in options.programs] for workers in WORKERS}
+    turns = [(workers, *turn) for workers in WORKERS for turn in zip(options.programs, runs[workers])]
+    for workers, program, done in turns * options.rounds:
+        if any(it.killed for it in done):
+            continue
+        taken, fault = verify(program, workers, count, options.most)
+        if fault:
+            sys.exit(f"mirrors.py: {name}, {count} paths by {workers} workers of {program}: {fault}")
+        done.append(taken)
+    for workers in WORKERS:
+        taken = "  ".join(columns(each, options.most) for each in runs[workers])
+        print(f"{name:<20} {count:>6} {workers:>7}  {taken}", flush=True)
+
+
+def print_head(programs):
+    if len(programs) > 1:
+        print(" " * 37 + f"{'before':>26}  {'after':>26}")
+    taken = f"  {'seconds':>9} {'processor':>9} {'MB':>6}"
+    print(f"{'mirror':<20} {'paths':>6} {'workers':>7}{taken * len(programs)}")
+
+
+def read_options():
+    parser = argparse.ArgumentParser(description=__doc__, formatter_class=argparse.RawDescriptionHelpFormatter)
+    parser.add_argument("--program", default=f"{TOP}/crates/tufcheck/out/tufcheck", metavar="PROGRAM")
+    parser.add_argument("--before", metavar="PROGRAM")
+    parser.add_argument("--rounds", type=int, default=3, metavar="N")
+    parser.add_argument("--most", type=float, default=60, metavar="SECONDS")
+    parser.add_argument("cases", nargs="*", metavar="CASE")
+    options = parser.parse_args()
+    options.programs = [os.path.abspath(program) for program in (options.before, options.program) if program]
+    for program in options.programs:
+        if not os.access(program, os.X_OK):
+            parser.error(f"no program {program}")
+    for name in options.cases:
+        if name not in CASES:
+            parser.error(f"no case {name}: there are {', '.join(CASES)}")
+    return options
+
+
+def main():
+    options = read_options()
+    print_head(options.programs)
+    for case in options.cases or CASES:
+        for name, make, sizes, counts in CASES[case]:
+            with tempfile.TemporaryDirectory() as room:
+                os.chdir(room)
+                os.mkdir("metadata")
+                os.mkdir("targets")
+                prepared(options.programs[-1], make, sizes, counts)
+                for count in counts:
+                    measure(name, count, options)
+                os.chdir(TOP)
+
+
+if __name__ == "__main__":
+    main()
