@@ -35,7 +35,7 @@ pub fn workers_option<'a>(alloc: Global) -> Arg<'a> {
         .value_name("N")
         .value_parser(ValueParser::unsigned(0, 64))
         .default_value("4")
-        .help("How many threads check signatures and digests ahead, 0 to 64")
+        .help("Threads that check in advance what the first 4 MB of metadata need, 0 to 64")
 }
 
 pub fn keep_option<'a>(alloc: Global) -> Arg<'a> {

@@ -37,7 +37,8 @@ It writes the new state first, also where the update stopped, and then prints
   ok NAME LENGTH ROLE     or `no NAME WHY`, for each wanted target in order
 
 Put `--` before the first PATH where one begins with `-`. Links in the folders are passed over.
-What is printed, written and answered is the same for any number of workers.
+Workers check signatures, and digests of targets of up to 16 MB, in advance. For them at most 4 MB
+of metadata are read twice. Lines, state and status are the same for any number of workers.
 
 EXAMPLES:
   tufcheck verify --state state --metadata repo/metadata --targets repo/targets --out state abc.txt
