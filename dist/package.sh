@@ -3,8 +3,8 @@
 #
 #   dist/package.sh [PROGRAM [FOLDER]]      crates/tufcheck/out/tufcheck and dist/out unless given
 #
-# Both have the program, the man page, completions for bash, zsh and fish, the user's page with the page on scripts and the
-# examples that it leads to, and the licenses. The program is taken as it was built; only one of 2,000,000 bytes or more is
+# Both have the program, the man page, completions for bash, zsh and fish, the user's page with the pages and the examples
+# that it leads to, and the licenses. The program is taken as it was built; only one of 2,000,000 bytes or more is
 # stripped, which is told. The package depends on what the program links, by the packages of this machine that own it.
 #
 # The same files give the same bytes: times are SOURCE_DATE_EPOCH or else the last commit's, the owner is 0, and names are
@@ -58,7 +58,7 @@ laid() {
         install -D -m 644 "$top/completions/tufcheck.bash" "$1/share/bash-completion/completions/tufcheck" &&
         install -D -m 644 "$top/completions/_tufcheck" "$1/share/zsh/$2/_tufcheck" &&
         install -D -m 644 "$top/completions/tufcheck.fish" "$1/share/fish/vendor_completions.d/tufcheck.fish" &&
-        install -D -m 644 -t "$doc" "$top/docs/USERS.md" "$top/docs/SCRIPTS.md" &&
+        install -D -m 644 -t "$doc" "$top"/docs/{USERS,SCRIPTS,OPERATING,SIGNING,FORMATS,BENCHMARKS}.md &&
         install -D -m 644 -t "$doc/examples" "$top"/examples/*.script &&
         sed -i 's,](\.\./examples),](examples),' "$doc/SCRIPTS.md" &&
         cat "$top/dist/notices" "$top/LICENSE" > "$doc/copyright" &&
