@@ -168,7 +168,7 @@ def columns(runs, most):
     """What the runs of one program took, the killed one alone if there is one."""
     killed = [it for it in runs if it.killed]
     seconds, processor, memory, _ = map(statistics.median, zip(*(killed or runs)))
-    return f"{f'over {most:g}' if killed else f'{seconds:.2f}':>9} {processor:>9.2f} {memory:>6.0f}"
+    return f"{f'over {most:g}' if killed else f'{seconds:.3f}':>9} {processor:>9.3f} {memory:>6.0f}"
 
 
 def measure(name, count, options):
