@@ -34,12 +34,13 @@ def name_of(bits, number):
     return f"bin-{number:0{(bits + 3) // 4}x}"
 
 
-def script(targets, bits):
+def script(targets, bits, content=str.encode):
+    """The script of so many targets in hash bins, each of which has the content of its path."""
     lines = [f"key {number} 5" for number in range(1, 5)] + ["key 5 10"]
     lines += [f"top {role} 1 {key}" for key, role in enumerate(["root", "timestamp", "snapshot", "targets"], 1)]
     lines += [f"succinct targets 1 5 {bits} bin"]
     for path in map(path_of, range(targets)):
-        lines.append(f"target {name_of(bits, bin_of(bits, path))} {path} {path.encode().hex()} sha256")
+        lines.append(f"target {name_of(bits, bin_of(bits, path))} {path} {content(path).hex()} sha256")
     lines += [f"write {name_of(bits, number)} 1 5" for number in range(2 ** bits)]
     lines += ["write root 1 1", "write targets 1 4", "write snapshot 1 3", "write timestamp 1 2"]
     return "\n".join(lines) + "\n"

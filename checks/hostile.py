@@ -12,18 +12,31 @@ KEY = costly.KEY
 
 class Mirror(NamedTuple):
     """The paths that may be wanted, and what the workflow does with them: the step at which it stops as unsigned, if
-    any, and else the roles on the way to a path, the last of which lists it. If there is a script, `tufcheck make`
-    makes the files from it."""
+    any, and else the roles on the way to a path, the last of which lists it, the length of its file, and the fault for
+    which all of them are refused, if any. If there is a script, `tufcheck make` makes the files from it."""
 
     paths: list
     stop: str = ""
     way: Callable = lambda path: ["targets"]
     script: str = ""
+    length: Callable = len
+    fault: str = ""
 
 
 def write(name, content):
     with open(name, "wb") as file:
         file.write(content)
+
+
+def write_holes(name, size):
+    """Writes a file of so many bytes that takes no room."""
+    with open(name, "wb") as file:
+        file.truncate(size)
+
+
+def unhashed(size):
+    """What lists a target of so many bytes by a digest that it hasn't."""
+    return {"hashes": {"sha256": "00" * 32}, "length": size}
 
 
 # Hostile mirrors: a right first root, and files that nobody with a key has signed.
@@ -122,14 +135,13 @@ class Forged:
 def target(size):
     """The large target has only holes, and another digest than listed. The timestamp has as many forged signatures as
     fit, so that workers have begun before it is refused."""
-    listed = {"large": {"hashes": {"sha256": "00" * 32}, "length": size}, "small": tuf.target(b"abc")}
+    listed = {"large": unhashed(size), "small": tuf.target(b"abc")}
     write_unsigned({"targets": unsigned("targets", targets=listed)})
     entry = tuf.canonical({"keyid": KEY.id, "sig": Forged().sign(b"").hex()}) + b","
     part = tuf.part("timestamp", meta={"snapshot.json": {"version": 1}})
     write("metadata/timestamp.json", tuf.signed(part, Forged(), entry * 5))
     write("targets/small", b"abc")
-    with open("targets/large", "wb") as file:
-        file.truncate(size)
+    write_holes("targets/large", size)
     return stopped(["large", "small"])
 
 
@@ -142,6 +154,14 @@ def forged(kind, size=costly.LIMIT):
 
 
 # Honest mirrors.
+
+
+def write_signed(listed):
+    """Writes metadata in which one key has all roles, and the targets file lists these targets."""
+    write("metadata/1.root.json", tuf.root(KEY))
+    write("metadata/targets.json", tuf.signed(tuf.canonical(tuf.part("targets", targets=listed)), KEY))
+    write("metadata/snapshot.json", tuf.snapshot(KEY, ["targets"]))
+    write("metadata/timestamp.json", tuf.timestamp(KEY))
 
 
 def script(*lines):
@@ -157,11 +177,12 @@ def listing(role, path):
     return f"target {role} {path} {path.encode().hex()} sha256"
 
 
-def hashed(targets, bits):
+def hashed(targets, bits, content=str.encode):
     """The mirror of `bins.py`."""
     paths = [bins.path_of(number) for number in range(targets)]
     way = lambda path: ["targets", bins.name_of(bits, bins.bin_of(bits, path))]
-    return Mirror(paths, way=way, script=bins.script(targets, bits))
+    length = lambda path: len(content(path))
+    return Mirror(paths, way=way, script=bins.script(targets, bits, content), length=length)
 
 
 def folders(targets, roles):
@@ -204,11 +225,7 @@ def large(size):
     """A targets file that lists as many targets as fit, of which the one in the middle is there."""
     names = [f"p{number:05}" for number in range((size - 3500) // 109)]
     wanted = names[len(names) // 2]
-    listed = {name: tuf.target(name.encode()) for name in names}
-    write("metadata/1.root.json", tuf.root(KEY))
-    write("metadata/targets.json", tuf.signed(tuf.canonical(tuf.part("targets", targets=listed)), KEY))
-    write("metadata/snapshot.json", tuf.snapshot(KEY, ["targets"]))
-    write("metadata/timestamp.json", tuf.timestamp(KEY))
+    write_signed({name: tuf.target(name.encode()) for name in names})
     write(f"targets/{wanted}", wanted.encode())
     return Mirror([wanted])
 

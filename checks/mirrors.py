@@ -8,11 +8,11 @@ The program is crates/tufcheck/out/tufcheck unless given, which `rt run` in crat
 
 For each mirror, number of wanted paths and number of workers it prints the medians of the seconds from start to end, of
 the processor's seconds and of the peak memory in MB (at least that of this script). A run is killed after 60 seconds
-unless given. It then prints `over 60` and what that run had used, and runs it no more.
+unless given. It then prints `over 60` and what that run had used, and runs it no more. If the program of `--before`
+fails for want of memory, it prints `memory` likewise.
 
-It checks that each run that isn't killed prints, returns and stores what the workflow gives, which it works out by
-itself. So the lines and the state are also the same by 0 and by 4 workers, before and after. If not, it exits with
-status 1.
+It checks that each other run prints, returns and stores what the workflow gives, which it works out by itself. So the
+lines and the state are also the same by 0 and by 4 workers, before and after. If not, it exits with status 1.
 
 In a hostile mirror nobody with a key has signed what stands beside the right first root:
 
@@ -54,18 +54,21 @@ from typing import NamedTuple
 from hostile import CASES, write
 import tuf
 
+SCRIPT = os.path.basename(sys.argv[0])
 TOP = os.path.dirname(os.path.dirname(os.path.abspath(__file__)))
 NOW = "2026-01-01T00:00:00Z"
 WORKERS = ("0", "4")
+REFUSED = "status 4, tufcheck: memory"
 
 
 class Run(NamedTuple):
-    """The seconds, the processor's seconds and the peak memory of a run, and whether it was killed."""
+    """The seconds, the processor's seconds and the peak memory of a run, and what it ended by before it was done, if
+    anything."""
 
     seconds: float
     processor: float
     memory: int
-    killed: bool
+    end: str = ""
 
 
 def read(name):
@@ -79,8 +82,9 @@ def lines_of(mirror, paths):
         return f"root 1\nend {mirror.stop} Unsigned\n" + "".join(f'no "{path}" NotSearched\n' for path in paths)
     accepted = sorted({role for path in paths for role in mirror.way(path)[1:]})
     roles = "".join(f'role "{role}" 1\n' for role in accepted)
-    found = "".join(f'ok "{path}" {len(path)} "{mirror.way(path)[-1]}"\n' for path in paths)
-    return f"root 1\nend ready\n{roles}{found}"
+    ok = lambda path: f'ok "{path}" {mirror.length(path)} "{mirror.way(path)[-1]}"\n'
+    verdicts = "".join(f'no "{path}" {mirror.fault}\n' if mirror.fault else ok(path) for path in paths)
+    return f"root 1\nend ready\n{roles}{verdicts}"
 
 
 def state_of(*roles):
@@ -97,7 +101,7 @@ def prepare(program, make, sizes, counts):
         subprocess.run([program, "make", "script", "."], check=True)
     write("state", state_of("root"))
     write("due.state", state_of("root") if mirror.stop else state_of("root", "snapshot", "targets", "timestamp"))
-    write("due.status", b"2" if mirror.stop else b"0")
+    write("due.status", b"2" if mirror.stop else b"1" if mirror.fault else b"0")
     for count in counts:
         paths = mirror.paths[:: len(mirror.paths) // count][:count]
         write(f"wanted.{count}", "\n".join(paths).encode())
@@ -112,25 +116,25 @@ def prepared(*given):
             prepare(*given)
             os._exit(0)
         except Exception as error:
-            print(f"mirrors.py: {error!r}", file=sys.stderr, flush=True)
+            print(f"{SCRIPT}: {error!r}", file=sys.stderr, flush=True)
         os._exit(1)
     if os.waitpid(child, 0)[1]:
-        sys.exit("mirrors.py: the mirror couldn't be made")
+        sys.exit(f"{SCRIPT}: the mirror couldn't be made")
 
 
 def run(words, most):
     """Runs the program for so many seconds at most. Returns its status and what it took."""
     begin = time.monotonic()
-    with open("lines", "wb") as lines:
-        process = subprocess.Popen(words, stdout=lines)
+    with open("lines", "wb") as lines, open("errors", "wb") as errors:
+        process = subprocess.Popen(words, stdout=lines, stderr=errors)
     signal.signal(signal.SIGALRM, lambda *_: os.kill(process.pid, signal.SIGKILL))
     signal.setitimer(signal.ITIMER_REAL, most)
     _, status, usage = os.wait4(process.pid, 0)
     signal.setitimer(signal.ITIMER_REAL, 0)
     took = time.monotonic() - begin
     process.returncode = os.waitstatus_to_exitcode(status)
-    killed = process.returncode == -signal.SIGKILL and took >= most
-    return process.returncode, Run(took, usage.ru_utime + usage.ru_stime, usage.ru_maxrss // 1024, killed)
+    end = f"over {most:g}" if process.returncode == -signal.SIGKILL and took >= most else ""
+    return process.returncode, Run(took, usage.ru_utime + usage.ru_stime, usage.ru_maxrss // 1024, end)
 
 
 def is_same(one, other):
@@ -148,7 +152,7 @@ def difference(printed, due):
 def fault_of(status, count):
     """How the status, the lines or the state of a run differ from those that are due, or None."""
     if status != int(read("due.status")):
-        return f"status {status}"
+        return f"status {status}, {read('errors').decode(errors='replace').strip() or 'no error'}"
     if not is_same("lines", f"due.lines.{count}"):
         return difference("lines", f"due.lines.{count}")
     return None if is_same("new", "due.state") else "another state is stored"
@@ -161,70 +165,88 @@ def verify(program, workers, count, most):
     words = [program, "verify", "--state", "state", "--metadata", "metadata", "--targets", "targets", "--now", NOW]
     words += ["--limit", "33", "--workers", workers, "--out", "new", *read(f"wanted.{count}").decode().split("\n")]
     status, taken = run(words, most)
-    return taken, None if taken.killed else fault_of(status, count)
+    return taken, None if taken.end else fault_of(status, count)
 
 
-def columns(runs, most):
-    """What the runs of one program took, the killed one alone if there is one."""
-    killed = [it for it in runs if it.killed]
-    seconds, processor, memory, _ = map(statistics.median, zip(*(killed or runs)))
-    return f"{f'over {most:g}' if killed else f'{seconds:.3f}':>9} {processor:>9.3f} {memory:>6.0f}"
+def middle(runs):
+    """The medians of runs, or the one that ended before it was done if there is one."""
+    return next((it for it in runs if it.end), None) or Run(*map(statistics.median, zip(*(it[:3] for it in runs))))
 
 
-def measure(name, count, options):
-    """Runs the programs in turns by each number of workers, round by round, and prints a line for each number."""
+def measured(name, count, options, beside=lambda: None):
+    """Runs the programs in turns by each number of workers, round by round, and at the end of each round what is given.
+    Returns what each program took by each number of workers."""
     runs = {workers: [[] for _ in options.programs] for workers in WORKERS}
     turns = [(workers, *turn) for workers in WORKERS for turn in zip(options.programs, runs[workers])]
-    for workers, program, done in turns * options.rounds:
-        if any(it.killed for it in done):
-            continue
-        taken, fault = verify(program, workers, count, options.most)
-        if fault:
-            sys.exit(f"mirrors.py: {name}, {count} paths by {workers} workers of {program}: {fault}")
-        done.append(taken)
-    for workers in WORKERS:
-        taken = "  ".join(columns(each, options.most) for each in runs[workers])
-        print(f"{name:<20} {count:>6} {workers:>7}  {taken}", flush=True)
+    for _ in range(options.rounds):
+        for workers, program, done in turns:
+            if any(it.end for it in done):
+                continue
+            taken, fault = verify(program, workers, count, options.most)
+            if fault == REFUSED and program != options.programs[-1]:
+                taken, fault = taken._replace(end="memory"), None
+            if fault:
+                sys.exit(f"{SCRIPT}: {name}, {count} paths by {workers} workers of {program}: {fault}")
+            done.append(taken)
+        beside()
+    return {workers: list(map(middle, each)) for workers, each in runs.items()}
 
 
-def print_head(programs):
-    if len(programs) > 1:
-        print(" " * 37 + f"{'before':>26}  {'after':>26}")
+def row(name, count, workers, taken):
+    columns = (f"{it.end or f'{it.seconds:.3f}':>9} {it.processor:>9.3f} {it.memory:>6.0f}" for it in taken)
+    return "  ".join([f"{name:<20} {count:>6} {workers:>7}", *columns])
+
+
+def heads(programs):
+    """The lines above the rows."""
+    above = [" " * 37 + f"{'before':>26}  {'after':>26}"] if len(programs) > 1 else []
     taken = f"  {'seconds':>9} {'processor':>9} {'MB':>6}"
-    print(f"{'mirror':<20} {'paths':>6} {'workers':>7}{taken * len(programs)}")
+    return "\n".join([*above, f"{'mirror':<20} {'paths':>6} {'workers':>7}{taken * len(programs)}"])
 
 
-def read_options():
-    parser = argparse.ArgumentParser(description=__doc__, formatter_class=argparse.RawDescriptionHelpFormatter)
+def made(options, cases, folder=None):
+    """Makes the mirrors of the cases one after another, each in a folder of its own, which is then the current one.
+    Gives the name of each, with each number of wanted paths."""
+    for case in options.cases or cases:
+        for name, make, sizes, counts in cases[case]:
+            with tempfile.TemporaryDirectory(dir=folder) as room:
+                os.chdir(room)
+                os.mkdir("metadata")
+                os.mkdir("targets")
+                prepared(options.programs[-1], make, sizes, counts)
+                for count in counts:
+                    yield name, count
+                os.chdir(TOP)
+
+
+def parser_of(description):
+    parser = argparse.ArgumentParser(description=description, formatter_class=argparse.RawDescriptionHelpFormatter)
     parser.add_argument("--program", default=f"{TOP}/crates/tufcheck/out/tufcheck", metavar="PROGRAM")
     parser.add_argument("--before", metavar="PROGRAM")
     parser.add_argument("--rounds", type=int, default=3, metavar="N")
     parser.add_argument("--most", type=float, default=60, metavar="SECONDS")
     parser.add_argument("cases", nargs="*", metavar="CASE")
+    return parser
+
+
+def read_options(parser, cases):
     options = parser.parse_args()
     options.programs = [os.path.abspath(program) for program in (options.before, options.program) if program]
     for program in options.programs:
         if not os.access(program, os.X_OK):
             parser.error(f"no program {program}")
     for name in options.cases:
-        if name not in CASES:
-            parser.error(f"no case {name}: there are {', '.join(CASES)}")
+        if name not in cases:
+            parser.error(f"no case {name}: there are {', '.join(cases)}")
     return options
 
 
 def main():
-    options = read_options()
-    print_head(options.programs)
-    for case in options.cases or CASES:
-        for name, make, sizes, counts in CASES[case]:
-            with tempfile.TemporaryDirectory() as room:
-                os.chdir(room)
-                os.mkdir("metadata")
-                os.mkdir("targets")
-                prepared(options.programs[-1], make, sizes, counts)
-                for count in counts:
-                    measure(name, count, options)
-                os.chdir(TOP)
+    options = read_options(parser_of(__doc__), CASES)
+    print(heads(options.programs))
+    for name, count in made(options, CASES):
+        for workers, taken in measured(name, count, options).items():
+            print(row(name, count, workers, taken), flush=True)
 
 
 if __name__ == "__main__":

@@ -8,18 +8,20 @@ use failure::Failure;
 use folder::{Depth, Disk, path_below};
 use std::alloc::{AllocError, Global};
 use std::io::Write;
-use std::rt::{Clock, Files};
+use std::rt::Files;
 use std::sync::Wait;
 use std::thread::Threads;
 use system::Machine;
 use update::{Folders, replay, verify};
 
 /// Verifies the folders of the file system that the words name.
-pub fn verify_on_disk<
-    R: Files + Clock + AllocGlobal + Clone + Drop,
-    T: Threads + Wait + Sync,
-    W: Write,
->(rt: &R, threads: &T, alloc: Global, words: &ArgMatches<'_>, out: &mut W) -> Result<u8, Failure>
+pub fn verify_on_disk<T: Threads + Wait + Sync, W: Write>(
+    rt: &HostRuntime,
+    threads: &T,
+    alloc: Global,
+    words: &ArgMatches<'_>,
+    out: &mut W,
+) -> Result<u8, Failure>
     ensures known { IfOk result (λ status. status ≤ 2) }
 {
     let terms = terms(alloc, words)?;
@@ -37,11 +39,13 @@ pub fn verify_on_disk<
 }
 
 /// Verifies the repositories of the file system that the words name, one after another.
-pub fn replay_on_disk<
-    R: Files + Clock + AllocGlobal + Clone + Drop,
-    T: Threads + Wait + Sync,
-    W: Write,
->(rt: &R, threads: &T, alloc: Global, words: &ArgMatches<'_>, out: &mut W) -> Result<u8, Failure>
+pub fn replay_on_disk<T: Threads + Wait + Sync, W: Write>(
+    rt: &HostRuntime,
+    threads: &T,
+    alloc: Global,
+    words: &ArgMatches<'_>,
+    out: &mut W,
+) -> Result<u8, Failure>
     ensures known { IfOk result (λ status. status ≤ 2) }
 {
     let terms = terms(alloc, words)?;

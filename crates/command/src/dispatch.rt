@@ -12,7 +12,6 @@ use failure::{Failure, tell_failure};
 use report::put;
 use std::alloc::Global;
 use std::io::Write;
-use std::rt::{Clock, Files};
 use std::sync::Wait;
 use std::thread::Threads;
 use system::Machine;
@@ -23,12 +22,14 @@ use update::init;
 /// refused, 2 where the update stopped or the root was refused, 3 for a mistake of the caller and 4
 /// for a refusal of the system. The lines go to `out`, and what is said of a mistake or a refusal
 /// goes to `err`. Files and clock are those of `rt`, and what checks ahead is started by `threads`.
-pub fn perform<
-    R: Files + Clock + AllocGlobal + Clone + Drop,
-    T: Threads + Wait + Sync,
-    W: Write,
-    E: Write,
->(rt: &R, threads: &T, alloc: Global, words: &[String], out: &mut W, err: &mut E) -> u8
+pub fn perform<T: Threads + Wait + Sync, W: Write, E: Write>(
+    rt: &HostRuntime,
+    threads: &T,
+    alloc: Global,
+    words: &[String],
+    out: &mut W,
+    err: &mut E,
+) -> u8
     ensures known { result ≤ 4 }
 {
     let done = if words.is_empty() {
@@ -39,13 +40,8 @@ pub fn perform<
     status_of(done, err)
 }
 
-fn perform_words<
-    R: Files + Clock + AllocGlobal + Clone + Drop,
-    T: Threads + Wait + Sync,
-    W: Write,
-    E: Write,
->(
-    rt: &R,
+fn perform_words<T: Threads + Wait + Sync, W: Write, E: Write>(
+    rt: &HostRuntime,
     threads: &T,
     alloc: Global,
     words: &[String],
@@ -60,11 +56,13 @@ fn perform_words<
     }
 }
 
-fn perform_command<
-    R: Files + Clock + AllocGlobal + Clone + Drop,
-    T: Threads + Wait + Sync,
-    W: Write,
->(rt: &R, threads: &T, alloc: Global, matches: &ArgMatches<'_>, out: &mut W) -> Result<u8, Failure>
+fn perform_command<T: Threads + Wait + Sync, W: Write>(
+    rt: &HostRuntime,
+    threads: &T,
+    alloc: Global,
+    matches: &ArgMatches<'_>,
+    out: &mut W,
+) -> Result<u8, Failure>
     ensures known { IfOk result (λ status. status ≤ 2) }
 {
     let (name, words) = matches.subcommand().ok_or(Failure::Words)?;

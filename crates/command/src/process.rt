@@ -7,21 +7,23 @@ use failure::{Failure, of_io};
 use std::alloc::Global;
 use std::env;
 use std::io::Write;
-use std::rt::{Clock, Env, Files};
+use std::rt::Env;
 use std::sync::Wait;
 use std::thread::Threads;
 
 /// Does what the words after the program's name ask for, and answers the exit status, as
 /// [`perform`] does.
-pub fn run<
-    R: Env + Files + Clock + Threads + Wait + AllocGlobal + Sync + Clone + Drop,
-    W: Write,
-    E: Write,
->(rt: &R, alloc: Global, out: &mut W, err: &mut E) -> u8
+pub fn run<T: Threads + Wait + Sync, W: Write, E: Write>(
+    rt: &HostRuntime,
+    threads: &T,
+    alloc: Global,
+    out: &mut W,
+    err: &mut E,
+) -> u8
     ensures known { result ≤ 4 }
 {
     match words_of(rt, alloc) {
-        Ok(words) => perform(rt, rt, alloc, words.as_slice(), out, err),
+        Ok(words) => perform(rt, threads, alloc, words.as_slice(), out, err),
         Err(failure) => status_of(Err(failure), err),
     }
 }

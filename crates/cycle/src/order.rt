@@ -1,14 +1,16 @@
 //! The workflow, done in order by whatever judge.
 
-ghost use Rattle.std.specs.Prelude.{◌≡◌, IfOk, map, string_bytes, true};
-ghost use Rattle.examine.specs.Checks.{file_in};
+ghost use Rattle.std.specs.Prelude.{◌≡◌, All, IfOk, IfSome, map, string_bytes, true};
+ghost use Rattle.examine.specs.Checks.{Files, file_in};
 ghost use Rattle.rolechain.specs.Advance.{is_ready};
 ghost use Rattle.cycle.specs.Workflow as spec;
 
+use crate::course::Course;
 use crate::limits::Limits;
 use crate::outcome::Outcome;
 use crate::roles::gather_roles;
-use crate::target::{Store, verdicts_of};
+use crate::store::{InMemory, Store};
+use crate::target::verdicts_of;
 use cjson::NoMemory;
 use deleg::{Searched, Searcher};
 use keys::Judge;
@@ -16,19 +18,20 @@ use meta::{Moment, Repo};
 use rolechain::{End, Trusted, advance};
 use std::alloc::Global;
 
-/// Work that is done in order, by any judge, and has one outcome.
+/// Work that is done in order, by any judge, with one result.
 pub(crate) trait Ordered {
-    ghost use Rattle.cycle.specs.Workflow as spec;
+    type Gives: Drop;
 
-    /// The outcome, on which no judge has any influence.
-    ghost outcome: { Self → spec.Outcome };
+    /// The result, on which no judge has any influence.
+    ghost gives: { Self → Self.Gives };
 
     /// Does the work.
-    fn in_order<J: Judge>(&self, judge: &mut J) -> Result<Outcome, NoMemory>
-        ensures { IfOk result (λ o. o ≡ outcome self.now) };
+    fn in_order<J: Judge>(&self, judge: &mut J) -> Result<Self::Gives, NoMemory>
+        ensures { IfOk result (λ o. o ≡ gives self.now) };
 }
 
-/// What a run begins with and looks at.
+/// What a run begins with and looks at. Its own work is the workflow up to the searches, which
+/// looks at no target file.
 #[derive(Clone, Copy)]
 pub(crate) struct Cycle<'a> {
     pub alloc: Global,
@@ -40,36 +43,73 @@ pub(crate) struct Cycle<'a> {
 }
 
 impl Ordered for Cycle<'_> {
-    ghost outcome = { λ c. spec.workflow (file_in c.repo.now.metadata) (file_in c.repo.now.targets)
-        c.moment c.trusted.now (map string_bytes c.wanted.now) c.limits.now.roles };
+    type Gives = Course;
 
-    /// The workflow with this judge: each file is judged when its turn comes, and each wanted path
-    /// is searched on its own, in order.
-    fn in_order<J: Judge>(&self, judge: &mut J) -> Result<Outcome, NoMemory> {
+    ghost gives = { λ c. spec.course (file_in c.repo.now.metadata) c.moment c.trusted.now
+        (map string_bytes c.wanted.now) c.limits.now.roles };
+
+    /// Each file is judged when its turn comes, and each wanted path is searched on its own, in
+    /// order.
+    fn in_order<J: Judge>(&self, judge: &mut J) -> Result<Course, NoMemory> {
         let (trusted, end) = advance(self.alloc, self.trusted, self.repo, self.moment, judge)?;
         let searches = searches(self, &trusted, end, judge)?;
-        close(self, trusted, end, searches.as_slice(), judge)
+        Ok(Course::new(trusted, end, searches))
     }
 }
 
-/// The outcome of a cycle whose searches are done.
-fn close<J: Judge>(
+/// The whole workflow, on the target files of the repository.
+#[derive(Clone, Copy)]
+pub(crate) struct Whole<'a> {
+    pub cycle: &'a Cycle<'a>,
+}
+
+impl Ordered for Whole<'_> {
+    type Gives = Outcome;
+
+    ghost gives = { λ w. let c = w.cycle.now in spec.workflow (file_in c.repo.now.metadata)
+        (file_in c.repo.now.targets) c.moment c.trusted.now (map string_bytes c.wanted.now)
+        c.limits.now.roles };
+
+    fn in_order<J: Judge>(&self, judge: &mut J) -> Result<Outcome, NoMemory> {
+        let cycle = self.cycle;
+        let course = cycle.in_order(judge)?;
+        close_in_memory(cycle, course, judge)
+    }
+}
+
+/// Ends the course, by the target files of the repository.
+fn close_in_memory<J: Judge>(
     cycle: &Cycle,
-    trusted: Trusted,
-    end: End,
-    searches: &[Option<Searched>],
+    course: Course,
     judge: &mut J,
 ) -> Result<Outcome, NoMemory>
     ensures { IfOk result (λ o.
-        o ≡ spec.closed (file_in cycle.now.repo.now.targets) trusted end searches.now) }
+        o ≡ spec.closed_course (file_in cycle.now.repo.now.targets) course) }
 {
-    let store = Store {
+    let store = InMemory {
         alloc: cycle.alloc,
         files: &cycle.repo.targets,
-        consistent: trusted.root().reading().consistent(),
     };
-    let verdicts = verdicts_of(&store, searches, judge)?;
-    let accepted = gather_roles(cycle.alloc, searches)?;
+    close(cycle.alloc, course, &store, judge)
+}
+
+/// Ends the course, by the files of a store.
+pub(crate) fn close<S: Store, J: Judge>(
+    alloc: Global,
+    course: Course,
+    store: &S,
+    judge: &mut J,
+) -> Result<Outcome, NoMemory>
+    requires known { All (λ s. IfSome (spec.target_of s)
+        (S.knows store.now course.trusted.root.reading.consistent)) course.searches }
+    ensures outcome { IfOk result (λ o. (files : Files) → S.may_be store.now files
+        → o ≡ spec.closed_course files course) }
+    ensures state { IfOk result (λ o. o.trusted ≡ course.trusted) }
+{
+    let consistent = course.has_consistent_names();
+    let verdicts = verdicts_of(alloc, store, consistent, course.searches(), judge)?;
+    let accepted = gather_roles(alloc, course.searches())?;
+    let (trusted, end) = course.into_state();
     Ok(Outcome::new(trusted, end, verdicts, accepted))
 }
 

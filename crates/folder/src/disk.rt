@@ -1,10 +1,14 @@
 //! Folders of the file system.
 
-ghost use Rattle.std.specs.Prelude.{◌≡◌, ◌↔◌, true, List, ℕ, Bool, IfOk, string_bytes};
+ghost use Rattle.std.specs.Prelude.{◌≡◌, ◌≤◌, ◌↔◌, true, List, ℕ, Bool, IfOk};
+ghost use Rattle.std.specs.Prelude.{length, string_bytes};
 ghost use Rattle.std.specs.IoError.{error_kind};
 ghost use Rattle.folder.specs.Folders as spec;
+ghost use Rattle.folder.specs.Measures.{IsMeasure};
 
 use crate::files::{Folder, LoadFault};
+use crate::measure::{Measure, Need};
+use crate::start::start_of_reader;
 use std::alloc::{AllocError, Global};
 use std::fs;
 use std::io::{self, ErrorKind};
@@ -82,9 +86,52 @@ impl<'a, R: Files + AllocGlobal + Clone + Drop> Folder for Disk<'a, R> {
         }
     }
 
+    fn read_start(&mut self, alloc: Global, name: &str, up_to: u64) -> Result<Vec<u8>, LoadFault> {
+        let path = path_below(alloc, self.path.as_str(), name)?;
+        match start_of_file(self.rt, alloc, path.as_str(), up_to) {
+            Ok(bytes) => Ok(bytes),
+            Err(error) => {
+                self.faults = self.faults.saturating_add(1);
+                Err(fault_of(&error))
+            }
+        }
+    }
+
+    fn measure(&mut self, alloc: Global, name: &str, need: Need) -> Result<Measure, LoadFault> {
+        let path = path_below(alloc, self.path.as_str(), name)?;
+        match measure_file(self.rt, alloc, path.as_str(), need) {
+            Ok(measure) => Ok(measure),
+            Err(error) => {
+                self.faults = self.faults.saturating_add(1);
+                Err(fault_of(&error))
+            }
+        }
+    }
+
+    fn measure_shared(&self, alloc: Global, name: &str, need: Need) -> Option<Measure> {
+        let path = path_below(alloc, self.path.as_str(), name).ok()?;
+        measure_file(self.rt, alloc, path.as_str(), need).ok()
+    }
+
     fn failure_count(&self) -> u64 {
         self.faults
     }
+}
+
+/// The first `up_to` bytes of the file of that path.
+fn start_of_file<R: Files>(rt: &R, alloc: Global, path: &str, up_to: u64) -> io::Result<Vec<u8>>
+    ensures { IfOk result (λ start. length start.items ≤ up_to) }
+{
+    let mut file = fs::open(rt, path)?;
+    start_of_reader(alloc, &mut file, up_to)
+}
+
+/// The measure of the file of that path.
+fn measure_file<R: Files>(rt: &R, alloc: Global, path: &str, need: Need) -> io::Result<Measure>
+    ensures { IfOk result (IsMeasure need) }
+{
+    let mut file = fs::open(rt, path)?;
+    Measure::of_reader(alloc, need, &mut file)
 }
 
 fn fault_of(error: &io::Error) -> LoadFault

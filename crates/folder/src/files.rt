@@ -1,10 +1,15 @@
 //! Folders of files, and what is read from them.
 
 ghost use Rattle.std.specs.Prelude.{◌≡◌, ◌≤◌, ◌<◌, ◌⊎◌, ◌^◌, ◌-◌, List, ℕ, Bool, IsTrue, true};
-ghost use Rattle.std.specs.Prelude.{IfOk, IfErr, OnOk, map, string_bytes};
+ghost use Rattle.std.specs.Prelude.{IfOk, IfErr, IfSome, OnOk, map, string_bytes};
 ghost use Rattle.folder.specs.Folders.{AddsFile, HasFailed, IsLoaded};
+ghost use Rattle.folder.specs.Measures.{IsMeasureOf};
+ghost use Rattle.folder.specs.Seen.{IsStartOf};
+ghost use Rattle.folder.specs.Starts.{AddsStart, AreStarts};
 ghost use Rattle.folder.specs.declared.files.LoadFault.TheVariants as fault;
 
+use crate::measure::{Measure, Need};
+use crate::start::cut;
 use std::alloc::{AllocError, AllocFailed, Global};
 use std::collections::BTreeMap;
 use thiserror::Error;
@@ -66,9 +71,80 @@ pub trait Folder {
         ensures same_lists { lists self.new ≡ lists self.old }
         ensures same_bytes { holds self.new ≡ holds self.old };
 
+    /// The first `up_to` bytes of the file of that name, or all where it has no more. A refusal as
+    /// `Folder` is one of a call that failed.
+    fn read_start(&mut self, alloc: Global, name: &str, up_to: u64) -> Result<Vec<u8>, LoadFault>
+        ensures given { IfOk result
+            (λ bytes. IsStartOf (holds self.old name.now) up_to bytes.items) }
+        ensures failed { IfErr result
+            (λ e. e ≡ fault.Folder → HasFailed (failures self.old) (failures self.new)) }
+        ensures counts { failures self.old ≤ failures self.new }
+        ensures same_lists { lists self.new ≡ lists self.old }
+        ensures same_bytes { holds self.new ≡ holds self.old }
+    {
+        let mut bytes = self.read(alloc, name)?;
+        cut(&mut bytes, up_to);
+        Ok(bytes)
+    }
+
+    /// What is wanted of the file of that name, which is read once. A refusal as `Folder` is one of
+    /// a call that failed.
+    fn measure(&mut self, alloc: Global, name: &str, need: Need) -> Result<Measure, LoadFault>
+        ensures given { IfOk result (IsMeasureOf need (holds self.old name.now)) }
+        ensures failed { IfErr result
+            (λ e. e ≡ fault.Folder → HasFailed (failures self.old) (failures self.new)) }
+        ensures counts { failures self.old ≤ failures self.new }
+        ensures same_lists { lists self.new ≡ lists self.old }
+        ensures same_bytes { holds self.new ≡ holds self.old }
+    {
+        let bytes = self.read(alloc, name)?;
+        Ok(Measure::of(need, bytes.as_slice()))
+    }
+
+    /// The same measure, for a thread that shares the folder with others. It is none where a shared
+    /// folder can't be read or the call fails, and a failure isn't counted.
+    fn measure_shared(&self, alloc: Global, name: &str, need: Need) -> Option<Measure>
+        ensures given { IfSome result (IsMeasureOf need (holds self.now name.now)) }
+    {
+        None
+    }
+
     /// How many calls have failed, up to 2^64 - 1.
     fn failure_count(&self) -> u64
         ensures count { result ≡ failures self.now };
+}
+
+/// A folder behind a reference.
+impl<F: Folder> Folder for &mut F {
+    ghost lists = { λ s. F.lists s.now };
+
+    ghost holds = { λ s. F.holds s.now };
+
+    ghost failures = { λ s. F.failures s.now };
+
+    fn names(&mut self, alloc: Global) -> Result<Vec<String>, LoadFault> {
+        (**self).names(alloc)
+    }
+
+    fn read(&mut self, alloc: Global, name: &str) -> Result<Vec<u8>, LoadFault> {
+        (**self).read(alloc, name)
+    }
+
+    fn read_start(&mut self, alloc: Global, name: &str, up_to: u64) -> Result<Vec<u8>, LoadFault> {
+        (**self).read_start(alloc, name, up_to)
+    }
+
+    fn measure(&mut self, alloc: Global, name: &str, need: Need) -> Result<Measure, LoadFault> {
+        (**self).measure(alloc, name, need)
+    }
+
+    fn measure_shared(&self, alloc: Global, name: &str, need: Need) -> Option<Measure> {
+        (**self).measure_shared(alloc, name, need)
+    }
+
+    fn failure_count(&self) -> u64 {
+        (**self).failure_count()
+    }
 }
 
 /// All files of a folder, by name: each name of one list that `names` may give, with bytes that
@@ -82,6 +158,7 @@ pub fn load<F: Folder>(
     ensures files { IfOk result (IsLoaded (F.lists folder.old) (F.holds folder.old)) }
     ensures failed { IfErr result (λ e. e ≡ fault.Folder
         → HasFailed (F.failures folder.old) (F.failures folder.new)) }
+    ensures counts { F.failures folder.old ≤ F.failures folder.new }
     ensures same_lists { F.lists folder.new ≡ F.lists folder.old }
     ensures same_bytes { F.holds folder.new ≡ F.holds folder.old }
 {
@@ -110,6 +187,55 @@ fn add_file<F: Folder>(
     ensures same_bytes { F.holds folder.new ≡ F.holds folder.old }
 {
     let bytes = folder.read(alloc, name.as_str())?;
+    files.insert(name, bytes)?;
+    Ok(())
+}
+
+/// The first `up_to` bytes of each file whose name ends so. Other files aren't opened. `Folder` is
+/// returned only where a call of the folder failed.
+#[tactic(auto, using(crate::proofs::Starting::one_more_name))]
+pub fn load_starts<F: Folder>(
+    alloc: Global,
+    folder: &mut F,
+    ending: &str,
+    up_to: u64,
+) -> Result<BTreeMap<String, Vec<u8>>, LoadFault>
+    ensures files { IfOk result
+        (AreStarts ending.now up_to (F.lists folder.old) (F.holds folder.old)) }
+    ensures failed { IfErr result (λ e. e ≡ fault.Folder
+        → HasFailed (F.failures folder.old) (F.failures folder.new)) }
+    ensures counts { F.failures folder.old ≤ F.failures folder.new }
+    ensures same_lists { F.lists folder.new ≡ F.lists folder.old }
+    ensures same_bytes { F.holds folder.new ≡ F.holds folder.old }
+{
+    let listed = folder.names(alloc)?;
+    let mut files = BTreeMap::new(alloc);
+    for name in listed {
+        if name.as_str().ends_with(ending) {
+            add_start(alloc, folder, name, up_to, &mut files)?;
+        }
+    }
+    Ok(files)
+}
+
+/// Reads the first `up_to` bytes of the file of that name, and stores them under the name.
+#[tactic(auto, using(std::proofs::lemmas::Map::Text::text_keys))]
+fn add_start<F: Folder>(
+    alloc: Global,
+    folder: &mut F,
+    name: String,
+    up_to: u64,
+    files: &mut BTreeMap<String, Vec<u8>>,
+) -> Result<(), LoadFault>
+    ensures added { OnOk result
+        (AddsStart up_to (F.holds folder.old) (string_bytes name) files.old files.new) }
+    ensures failed { IfErr result (λ e. e ≡ fault.Folder
+        → HasFailed (F.failures folder.old) (F.failures folder.new)) }
+    ensures counts { F.failures folder.old ≤ F.failures folder.new }
+    ensures same_lists { F.lists folder.new ≡ F.lists folder.old }
+    ensures same_bytes { F.holds folder.new ≡ F.holds folder.old }
+{
+    let bytes = folder.read_start(alloc, name.as_str(), up_to)?;
     files.insert(name, bytes)?;
     Ok(())
 }

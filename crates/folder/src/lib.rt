@@ -1,11 +1,16 @@
 //! Folders of files, and the maps of bytes by name that are read from them.
 //!
-//! - [`Folder`] is what may be listed and read, and [`load`] reads all of it.
+//! - [`Folder`] is what may be listed and read. [`load`] reads all of it, and [`load_starts`] the
+//!   first bytes of the files whose names have one ending.
+//! - [`Measure`] is the length and the digests of a file that isn't read into memory.
 //! - [`Disk`] is a folder of the file system.
 #![tactic(auto)]
 
 mod disk;
 mod files;
+mod measure;
+mod start;
 
 pub use disk::{Depth, Disk, path_below};
-pub use files::{Folder, LoadFault, load};
+pub use files::{Folder, LoadFault, load, load_starts};
+pub use measure::{Measure, Measuring, Need};

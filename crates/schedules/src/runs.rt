@@ -4,7 +4,7 @@ use crate::asked::Asked;
 use crate::gates::Schedule;
 use crate::repositories::{Made, read};
 use anyhow::{Context, Result};
-use cycle::{Limits, Moment, Outcome, Stats, run, run_alone};
+use cycle::{InMemory, Limits, Moment, Outcome, Stats, follow_alone, run, run_alone};
 use report::tell;
 use sessions::{Step, Told};
 use std::alloc::Global;
@@ -39,6 +39,18 @@ pub fn alone<R: Files + AllocGlobal + Clone + Drop>(
 ) -> Result<Told> {
     let made = read(rt, alloc, step.word(0)?)?;
     told_alone(alloc, &made, step.words_behind(1))
+}
+
+/// The same lines and status of the workflow up to the searches, ended by the target files.
+pub fn course<R: Files + AllocGlobal + Clone + Drop>(
+    rt: &R,
+    alloc: Global,
+    step: &Step,
+) -> Result<Told> {
+    let made = read(rt, alloc, step.word(0)?)?;
+    let wanted = step.words_behind(1);
+    let outcome = followed(alloc, &made, wanted)?;
+    told(alloc, &outcome, wanted)
 }
 
 /// How a run came by its answers, and how many waits of its gate met their limit.
@@ -174,4 +186,13 @@ fn ran_alone(alloc: Global, made: &Made, wanted: &[String]) -> Result<Outcome> {
     let now = Moment::read(MOMENT).context("no moment")?;
     let (trusted, repo) = (&made.trusted, &made.repo);
     Ok(run_alone(alloc, trusted, repo, now, wanted, &limits)?)
+}
+
+fn followed(alloc: Global, made: &Made, wanted: &[String]) -> Result<Outcome> {
+    let limits = Limits::new(ROLES, 0).context("too many questions")?;
+    let now = Moment::read(MOMENT).context("no moment")?;
+    let (trusted, repo) = (&made.trusted, &made.repo);
+    let course = follow_alone(alloc, trusted, repo, now, wanted, &limits)?;
+    let files = &repo.targets;
+    Ok(course.close(alloc, &InMemory { alloc, files })?)
 }

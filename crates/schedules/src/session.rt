@@ -4,7 +4,7 @@ use crate::boards::printed;
 use crate::keepers::{cycles, kept};
 use crate::plans::plan;
 use crate::repositories::make;
-use crate::runs::{agrees, alone, counts, entered, lines};
+use crate::runs::{agrees, alone, counts, course, entered, lines};
 use crate::stress::stress;
 use crate::walks::walk;
 use anyhow::Result;
@@ -26,6 +26,7 @@ pub fn perform<F: Files + AllocGlobal + Clone + Drop, T: Threads + Wait + Sync>(
         "make" => make(files, alloc, step),
         "plan" => plan(files, alloc, step),
         "alone" => alone(files, alloc, step),
+        "course" => course(files, alloc, step),
         "lines" => lines(files, threads, alloc, step),
         "counts" => counts(files, threads, alloc, step),
         "entered" => entered(files, threads, alloc, step),

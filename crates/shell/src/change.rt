@@ -9,16 +9,13 @@ use serde_json::Value;
 use sessions::{Step, Told, script_of};
 use std::alloc::Global;
 use std::fs;
-use std::rt::{Clock, Files};
+use std::rt::Files;
 
 /// Puts a text in the place of another where this stands first in the file. The first line is the
 /// old text, in which `...` stands for as little as may be, and the others are the new one, spelled
 /// as a script's lines. With the byte of a key, the change is made in what the file signs, and the
 /// key signs it under the id that signed it before.
-pub fn change<R: Files + Clock + AllocGlobal + Clone + Drop, T>(
-    shell: &Shell<'_, R, T>,
-    step: &Step,
-) -> Result<Told> {
+pub fn change<T>(shell: &Shell<'_, T>, step: &Step) -> Result<Told> {
     let (name, key) = (step.word(0)?, step.words().get(1));
     let (old, new) = step
         .script

@@ -7,7 +7,7 @@ use crate::shell::{NOW, Shell};
 use anyhow::{Context, Result};
 use cycle::{Moment, Trusted};
 use failure::{Failure, tell_failure};
-use folder::{Folder, LoadFault};
+use folder::{Depth, Disk, Folder, LoadFault};
 use sessions::{Step, Told};
 use std::alloc::Global;
 use std::rt::{Clock, Files};
@@ -61,7 +61,7 @@ impl<'a, R: Files + AllocGlobal> System for Stopped<'a, R> {
 /// Tells the day and the second of the moment that a verification has by the text, or without a
 /// text by a clock that shows so many seconds and nanoseconds; `none` is a clock that can't be
 /// read.
-pub fn clock<R: Files + AllocGlobal, T>(shell: &Shell<'_, R, T>, words: &[String]) -> Result<Told> {
+pub fn clock<T>(shell: &Shell<'_, T>, words: &[String]) -> Result<Told> {
     let seconds = words.first().context("no seconds")?.as_str();
     let time = if seconds == "none" {
         None
@@ -95,18 +95,22 @@ fn failed(alloc: Global, failure: Failure) -> Result<Told> {
     Ok(told)
 }
 
-/// A folder of two files, `a` and `b`, with two bytes each. Some calls succeed, and all later ones
-/// fail.
+/// A folder of the session. Some calls succeed, and all later ones fail.
 #[derive(Drop)]
-struct FailingFolder {
+struct FailingFolder<'a> {
+    disk: Disk<'a, HostRuntime>,
     calls: u64,
     faults: u64,
 }
 
-impl FailingFolder {
-    /// The folder whose first `calls` calls succeed.
-    fn after(calls: u64) -> FailingFolder {
-        FailingFolder { calls, faults: 0 }
+impl<'a> FailingFolder<'a> {
+    /// The folder whose first `calls` calls succeed, where those of the disk do.
+    fn after(disk: Disk<'a, HostRuntime>, calls: u64) -> FailingFolder<'a> {
+        FailingFolder {
+            disk,
+            calls,
+            faults: 0,
+        }
     }
 
     fn turn(&mut self) -> Result<(), LoadFault>
@@ -114,15 +118,23 @@ impl FailingFolder {
         ensures counts { self.old.faults ≤ self.new.faults }
     {
         if self.calls == 0 {
-            self.faults = self.faults.saturating_add(1);
-            return Err(LoadFault::Folder);
+            return Err(self.counted(LoadFault::Folder));
         }
         self.calls -= 1;
         Ok(())
     }
+
+    /// The same fault, which is then counted.
+    fn counted(&mut self, fault: LoadFault) -> LoadFault
+        ensures failed { HasFailed self.old.faults self.new.faults }
+        ensures counts { self.old.faults ≤ self.new.faults }
+    {
+        self.faults = self.faults.saturating_add(1);
+        fault
+    }
 }
 
-impl Folder for FailingFolder {
+impl<'a> Folder for FailingFolder<'a> {
     ghost lists = { λ _ _. true };
 
     ghost holds = { λ _ _ _. true };
@@ -131,16 +143,18 @@ impl Folder for FailingFolder {
 
     fn names(&mut self, alloc: Global) -> Result<Vec<String>, LoadFault> {
         self.turn()?;
-        let mut names = Vec::new(alloc);
-        for name in ["a", "b"] {
-            names.push(String::from_str(alloc, name)?)?;
+        match self.disk.names(alloc) {
+            Ok(names) => Ok(names),
+            Err(fault) => Err(self.counted(fault)),
         }
-        Ok(names)
     }
 
-    fn read(&mut self, alloc: Global, _name: &str) -> Result<Vec<u8>, LoadFault> {
+    fn read(&mut self, alloc: Global, name: &str) -> Result<Vec<u8>, LoadFault> {
         self.turn()?;
-        Ok(Vec::from_slice(alloc, b"{}")?)
+        match self.disk.read(alloc, name) {
+            Ok(bytes) => Ok(bytes),
+            Err(fault) => Err(self.counted(fault)),
+        }
     }
 
     fn failure_count(&self) -> u64 {
@@ -148,40 +162,41 @@ impl Folder for FailingFolder {
     }
 }
 
-/// Verifies two folders whose first calls succeed, so many of each, from the root of version 1, and
-/// stores the state under that name.
-pub fn failing<R: Files + AllocGlobal, T: Threads + Wait + Sync>(
-    shell: &Shell<'_, R, T>,
-    step: &Step,
-) -> Result<Told> {
+/// Verifies the folders `metadata` and `targets`, whose first calls succeed, so many of each, from
+/// the root of version 1, by the wanted paths, and stores the state under that name.
+pub fn failing<T: Threads + Wait + Sync>(shell: &Shell<'_, T>, step: &Step) -> Result<Told> {
     let root = fs::read(shell.rt, "metadata/1.root.json")?;
-    let wanted = [String::from_str(shell.alloc, "a")?];
     let start = Start {
         trusted: Trusted::from_root(shell.alloc, root.as_slice())?,
         moment: Moment::read(NOW).context("no moment")?,
-        wanted: &wanted,
+        wanted: step.words_behind(3),
         limit: 32,
         workers: 2,
         state: step.word(2)?,
     };
-    verified(shell, &start, failing_folders(step)?)
+    verified(shell, &start, failing_folders(shell, step)?)
 }
 
 /// The folders whose calls fail after as many as the step says.
-fn failing_folders(step: &Step) -> Result<Folders<FailingFolder, FailingFolder>> {
-    let metadata = step.word(0)?.parse::<u64>()?;
-    let targets = step.word(1)?.parse::<u64>()?;
+fn failing_folders<'a, T>(
+    shell: &Shell<'a, T>,
+    step: &Step,
+) -> Result<Folders<FailingFolder<'a>, FailingFolder<'a>>> {
+    let metadata = String::from_str(shell.alloc, "metadata")?;
+    let targets = String::from_str(shell.alloc, "targets")?;
+    let metadata = Disk::new(shell.rt, metadata, Depth::Here);
+    let targets = Disk::new(shell.rt, targets, Depth::Below);
     Ok(Folders {
-        metadata: FailingFolder::after(metadata),
-        targets: FailingFolder::after(targets),
+        metadata: FailingFolder::after(metadata, step.word(0)?.parse::<u64>()?),
+        targets: FailingFolder::after(targets, step.word(1)?.parse::<u64>()?),
     })
 }
 
 /// The lines and the status of a verification of these folders, or what is told of its failure.
-fn verified<R: Files + AllocGlobal, T: Threads + Wait + Sync>(
-    shell: &Shell<'_, R, T>,
+fn verified<T: Threads + Wait + Sync>(
+    shell: &Shell<'_, T>,
     start: &Start<'_>,
-    mut folders: Folders<FailingFolder, FailingFolder>,
+    mut folders: Folders<FailingFolder<'_>, FailingFolder<'_>>,
 ) -> Result<Told> {
     let mut system = Stopped {
         rt: shell.rt,

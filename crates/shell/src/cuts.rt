@@ -7,7 +7,6 @@ use sessions::{Step, Told};
 use std::alloc::Global;
 use std::fs;
 use std::io::Write;
-use std::rt::{Clock, Files};
 use std::sync::Wait;
 use std::thread::Threads;
 
@@ -21,10 +20,7 @@ struct Answer {
 /// Cuts a file off at each multiple of a step below its length, and verifies each time by several
 /// numbers of workers. It gives each different answer once, behind the number of lengths that gave
 /// it. Then the file is as before.
-pub fn cuts<R: Files + Clock + AllocGlobal + Clone + Drop, T: Threads + Wait + Sync>(
-    shell: &Shell<'_, R, T>,
-    step: &Step,
-) -> Result<Told> {
+pub fn cuts<T: Threads + Wait + Sync>(shell: &Shell<'_, T>, step: &Step) -> Result<Told> {
     let size = step.word(0)?.parse::<usize>()?;
     let name = step.word(1)?;
     let whole = fs::read(shell.rt, name)?;
@@ -34,8 +30,8 @@ pub fn cuts<R: Files + Clock + AllocGlobal + Clone + Drop, T: Threads + Wait + S
 }
 
 /// The answers for the beginnings of a file, whose lengths are the multiples of a step.
-fn answers_of<R: Files + Clock + AllocGlobal + Clone + Drop, T: Threads + Wait + Sync>(
-    shell: &Shell<'_, R, T>,
+fn answers_of<T: Threads + Wait + Sync>(
+    shell: &Shell<'_, T>,
     step: &Step,
     size: usize,
     whole: &[u8],
@@ -53,8 +49,8 @@ fn answers_of<R: Files + Clock + AllocGlobal + Clone + Drop, T: Threads + Wait +
 
 /// What a verification of the step's states tells where its file has these bytes, by each of its
 /// numbers of workers.
-fn verified<R: Files + Clock + AllocGlobal + Clone + Drop, T: Threads + Wait + Sync>(
-    shell: &Shell<'_, R, T>,
+fn verified<T: Threads + Wait + Sync>(
+    shell: &Shell<'_, T>,
     step: &Step,
     bytes: &[u8],
 ) -> Result<Told> {

@@ -8,13 +8,9 @@ use sha2::{Digest, Sha256};
 use std::alloc::Global;
 use std::collections::BTreeMap;
 use std::fs;
-use std::rt::{Clock, Files};
 
 /// Writes a state file with members `NAME=FILE`, in the order in which they are given.
-pub fn state<R: Files + Clock + AllocGlobal + Clone + Drop, T>(
-    shell: &Shell<'_, R, T>,
-    step: &Step,
-) -> Result<Told> {
+pub fn state<T>(shell: &Shell<'_, T>, step: &Step) -> Result<Told> {
     let mut text = String::from_str(shell.alloc, "{")?;
     let mut comma = "";
     for member in step.words_behind(1) {
@@ -26,8 +22,8 @@ pub fn state<R: Files + Clock + AllocGlobal + Clone + Drop, T>(
     Ok(Told::nothing(shell.alloc))
 }
 
-fn push_member<R: Files + Clock + AllocGlobal + Clone + Drop, T>(
-    shell: &Shell<'_, R, T>,
+fn push_member<T>(
+    shell: &Shell<'_, T>,
     text: &mut String,
     comma: &str,
     member: &str,
@@ -39,10 +35,7 @@ fn push_member<R: Files + Clock + AllocGlobal + Clone + Drop, T>(
 }
 
 /// Tells the names of the members that a state file has, in its order.
-pub fn keeps<R: Files + Clock + AllocGlobal + Clone + Drop, T>(
-    shell: &Shell<'_, R, T>,
-    step: &Step,
-) -> Result<Told> {
+pub fn keeps<T>(shell: &Shell<'_, T>, step: &Step) -> Result<Told> {
     let text = fs::read_to_string(shell.rt, step.word(0)?)?;
     let mut line = String::new(shell.alloc);
     for (place, part) in text.as_str().split("\"").enumerate() {
@@ -63,9 +56,7 @@ fn push_name(line: &mut String, name: &str) -> Result<()> {
 }
 
 /// Tells the name of each file that was made and its SHA-256, in the order of the names' bytes.
-pub fn digests<R: Files + Clock + AllocGlobal + Clone + Drop, T>(
-    shell: &Shell<'_, R, T>,
-) -> Result<Told> {
+pub fn digests<T>(shell: &Shell<'_, T>) -> Result<Told> {
     let mut text = String::new(shell.alloc);
     for name in ["metadata", "targets"] {
         let path = String::from_str(shell.alloc, name)?;

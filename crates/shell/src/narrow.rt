@@ -5,7 +5,6 @@ use anyhow::Result;
 use command::perform;
 use sessions::{Step, Told};
 use std::io::{self, ErrorKind, Write};
-use std::rt::{Clock, Files};
 use std::sync::Wait;
 use std::thread::Threads;
 
@@ -32,8 +31,8 @@ impl Write for Narrow {
 }
 
 /// Runs the command line where standard output takes so many bytes.
-pub fn with_narrow_output<R: Files + Clock + AllocGlobal + Clone + Drop, T: Threads + Wait + Sync>(
-    shell: &Shell<'_, R, T>,
+pub fn with_narrow_output<T: Threads + Wait + Sync>(
+    shell: &Shell<'_, T>,
     step: &Step,
 ) -> Result<Told> {
     let mut out = Narrow {
@@ -52,8 +51,8 @@ pub fn with_narrow_output<R: Files + Clock + AllocGlobal + Clone + Drop, T: Thre
 }
 
 /// Runs the command line where standard error takes so many bytes.
-pub fn with_narrow_error<R: Files + Clock + AllocGlobal + Clone + Drop, T: Threads + Wait + Sync>(
-    shell: &Shell<'_, R, T>,
+pub fn with_narrow_error<T: Threads + Wait + Sync>(
+    shell: &Shell<'_, T>,
     step: &Step,
 ) -> Result<Told> {
     let mut err = Narrow {

@@ -6,20 +6,15 @@ use sessions::{Step, Told};
 use std::fs;
 use std::fs::Permissions;
 use std::os::unix::fs::{PermissionsExt, symlink};
-use std::rt::Files;
 
 /// Gives a file or folder these rights, as `chmod` does.
-pub fn allow<R: Files + AllocGlobal, T>(
-    shell: &Shell<'_, R, T>,
-    step: &Step,
-    mode: u32,
-) -> Result<Told> {
+pub fn allow<T>(shell: &Shell<'_, T>, step: &Step, mode: u32) -> Result<Told> {
     fs::set_permissions(shell.rt, step.word(0)?, Permissions::from_mode(mode))?;
     Ok(Told::nothing(shell.alloc))
 }
 
 /// Makes a link to the file of the first word, with the name of the second.
-pub fn link<R: Files + AllocGlobal, T>(shell: &Shell<'_, R, T>, step: &Step) -> Result<Told> {
+pub fn link<T>(shell: &Shell<'_, T>, step: &Step) -> Result<Told> {
     symlink(shell.rt, step.word(0)?, step.word(1)?)?;
     Ok(Told::nothing(shell.alloc))
 }

@@ -4,7 +4,6 @@ use crate::shell::Shell;
 use sessions::run_all;
 use std::alloc::Global;
 use std::io::Write;
-use std::rt::{Clock, Files};
 use std::sync::Wait;
 use std::thread::Threads;
 
@@ -12,17 +11,13 @@ use std::thread::Threads;
 /// [`run_all`] does. The folder has to hold `cases` and nothing else: each session begins with
 /// nothing beside it, and what it made is removed after it. It answers 0 where all was as written,
 /// else 1, and 2 where the sessions couldn't be run, which is said on standard error.
-pub fn run_sessions<R, T, O: Write, E: Write>(
-    rt: &R,
+pub fn run_sessions<T: Threads + Wait + Sync, O: Write, E: Write>(
+    rt: &HostRuntime,
     threads: &T,
     alloc: Global,
     out: &mut O,
     err: &mut E,
-) -> u8
-where
-    R: Files + Clock + AllocGlobal + Clone + Drop,
-    T: Threads + Wait + Sync,
-{
+) -> u8 {
     let shell = Shell::new(rt, threads, alloc);
     match run_all(rt, alloc, out, ".t", |step| shell.perform(step)) {
         Ok(0) => 0,

@@ -10,11 +10,10 @@ use crate::shell::Shell;
 use crate::workers::{verify, verify_by};
 use anyhow::{Result, bail};
 use sessions::{Step, Told};
-use std::rt::{Clock, Files};
 use std::sync::Wait;
 use std::thread::Threads;
 
-impl<'a, R: Files + Clock + AllocGlobal + Clone + Drop, T: Threads + Wait + Sync> Shell<'a, R, T> {
+impl<'a, T: Threads + Wait + Sync> Shell<'a, T> {
     /// Does a step, and gives what its command told. An error says why the step can't be done.
     pub fn perform(&self, step: &Step) -> Result<Told> {
         match step.name()? {

@@ -5,7 +5,6 @@ use command::perform;
 use sessions::{Step, Told, script_of, words_of};
 use std::alloc::Global;
 use std::fs;
-use std::rt::{Clock, Files};
 use std::sync::Wait;
 use std::thread::Threads;
 
@@ -14,14 +13,14 @@ pub const NOW: &str = "2026-01-01T00:00:00Z";
 
 /// The system as a session sees it.
 #[derive(Clone, Copy, Drop)]
-pub struct Shell<'a, R, T> {
-    pub rt: &'a R,
+pub struct Shell<'a, T> {
+    pub rt: &'a HostRuntime,
     pub threads: &'a T,
     pub alloc: Global,
 }
 
-impl<'a, R: Files + Clock + AllocGlobal + Clone + Drop, T: Threads + Wait + Sync> Shell<'a, R, T> {
-    pub fn new(rt: &'a R, threads: &'a T, alloc: Global) -> Shell<'a, R, T> {
+impl<'a, T: Threads + Wait + Sync> Shell<'a, T> {
+    pub fn new(rt: &'a HostRuntime, threads: &'a T, alloc: Global) -> Shell<'a, T> {
         Shell { rt, threads, alloc }
     }
 

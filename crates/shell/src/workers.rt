@@ -4,15 +4,14 @@ use crate::shell::{Shell, push_word, push_words};
 use anyhow::{Context, Result, bail};
 use sessions::{Step, Told};
 use std::fs;
-use std::rt::{Clock, Files};
 use std::sync::Wait;
 use std::thread::Threads;
 
-/// What a verification told, and the state that it stored.
+/// What a verification told, and the state that lies at its place after it, if one does.
 #[derive(Drop)]
 struct Ran {
     told: Told,
-    state: Vec<u8>,
+    state: Option<Vec<u8>>,
 }
 
 impl Ran {
@@ -22,26 +21,20 @@ impl Ran {
 }
 
 /// Verifies as the step says: from one state to another, with further words.
-pub fn verify<R: Files + Clock + AllocGlobal + Clone + Drop, T: Threads + Wait + Sync>(
-    shell: &Shell<'_, R, T>,
-    step: &Step,
-) -> Result<Told> {
+pub fn verify<T: Threads + Wait + Sync>(shell: &Shell<'_, T>, step: &Step) -> Result<Told> {
     shell.verify(step.word(0)?, step.word(1)?, step.words_behind(2))
 }
 
 /// Verifies as the step says by each of the numbers of workers that its first word lists.
-pub fn verify_by<R: Files + Clock + AllocGlobal + Clone + Drop, T: Threads + Wait + Sync>(
-    shell: &Shell<'_, R, T>,
-    step: &Step,
-) -> Result<Told> {
+pub fn verify_by<T: Threads + Wait + Sync>(shell: &Shell<'_, T>, step: &Step) -> Result<Told> {
     let (old, new) = (step.word(1)?, step.word(2)?);
     by(shell, step.word(0)?, old, new, step.words_behind(3))
 }
 
 /// Verifies by each of the numbers of workers, which commas part, and gives what the first run
 /// told. It is an error where another one tells or stores something else.
-pub fn by<R: Files + Clock + AllocGlobal + Clone + Drop, T: Threads + Wait + Sync>(
-    shell: &Shell<'_, R, T>,
+pub fn by<T: Threads + Wait + Sync>(
+    shell: &Shell<'_, T>,
     numbers: &str,
     old: &str,
     new: &str,
@@ -62,8 +55,8 @@ pub fn by<R: Files + Clock + AllocGlobal + Clone + Drop, T: Threads + Wait + Syn
 }
 
 /// Verifies by so many workers.
-fn verify_with<R: Files + Clock + AllocGlobal + Clone + Drop, T: Threads + Wait + Sync>(
-    shell: &Shell<'_, R, T>,
+fn verify_with<T: Threads + Wait + Sync>(
+    shell: &Shell<'_, T>,
     number: &str,
     old: &str,
     new: &str,
@@ -74,6 +67,14 @@ fn verify_with<R: Files + Clock + AllocGlobal + Clone + Drop, T: Threads + Wait 
     push_word(shell.alloc, &mut words, number)?;
     push_words(&mut words, more)?;
     let told = shell.verify(old, new, words.as_slice())?;
-    let state = fs::read(shell.rt, new)?;
+    let state = state_at(shell.rt, new)?;
     Ok(Ran { told, state })
+}
+
+/// The state of that name, if there is one.
+fn state_at(rt: &HostRuntime, name: &str) -> Result<Option<Vec<u8>>> {
+    if !fs::exists(rt, name)? {
+        return Ok(None);
+    }
+    Ok(Some(fs::read(rt, name)?))
 }

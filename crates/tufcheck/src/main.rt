@@ -5,5 +5,5 @@
 use std::process::ExitCode;
 
 fn main(rt: HostRuntime) -> ExitCode {
-    ExitCode::from(command::run(&rt, rt.alloc(), &mut rt.stdout(), &mut rt.stderr()))
+    ExitCode::from(command::run(&rt, &rt, rt.alloc(), &mut rt.stdout(), &mut rt.stderr()))
 }

@@ -1,10 +1,12 @@
 -- What a verification did, out of what its steps did.
-use Rattle.std.proofs.Common.{◌≡◌, ◌≢◌, ◌⊎◌, inl, inr, Result, Ok, Err, IfErr, IfOk, IsErrAnd, OnErr, OnOk, List, ℕ, Bool, true, Option, refl, subst}
+use Rattle.std.proofs.Common.{◌≡◌, ◌≢◌, ◌∙◌, ap, ◌⊎◌, inl, inr, Result, Ok, Err, IfErr, IfOk, IfSome, IsErrAnd, OnErr, OnOk, List, ℕ, Bool, true, Option, refl, subst, sym}
 use Rattle.std.specs.Bool.{⊤}
 use Rattle.std.specs.Io.KnownBytes.{Appends}
 use Rattle.examine.specs.Checks.{file_in}
-use Rattle.meta.specs.declared.repo.Repo.{Repo}
-use Rattle.cycle.specs.Workflow.{Outcome}
+use Rattle.cycle.specs.Workflow.{Course, Files, Outcome, closed_course, course}
+use Rattle.folder.specs.Seen.{MayBeSeen, Seen}
+use Rattle.measured.specs.Closed.{IsClosed, is_found}
+use Rattle.cycle.proofs.Looking.{same_course}
 use Rattle.report.specs.Lines.{cycles_text, outcome_text, last_status, outcome_status}
 use Rattle.failure.specs.declared.failure.Failure.{Failure}
 use Rattle.failure.specs.declared.failure.Failure.TheVariants as failure
@@ -14,7 +16,7 @@ use Rattle.rolechain.specs.declared.fault.StateFault.{StateFault}
 use Rattle.rolechain.specs.declared.fault.StateFault.TheVariants as state
 use Rattle.moment.specs.Moment.{Moment}
 use Rattle.rolechain.specs.Advance.{State}
-use Rattle.update.specs.Told.{IsMomentOf, AreTold, IsReplayed, outcomes_of, state_after, Begins, IsRead, IsStored, IsTold, Loaded, Start, outcome_of, state_text}
+use Rattle.update.specs.Told.{IsMomentOf, AreTold, IsReplayed, AreOutcomesOn, Mirror, last_state, Begins, IsOutcomeOn, IsRead, IsStored, IsTold, Loaded, Start, outcome_of, state_text}
 
 -- the failure that a folder's fault is
 pub of_load : {T : Type 0} (r : Result T Failure) (e : LoadFault)
@@ -64,7 +66,7 @@ begun_failure gives shows text Q follows trusted moment (Err e) read shown (inl 
 begun_failure gives shows text Q follows trusted moment (Err e) read shown (inr then) = inr (record { trusted = trusted; moment = moment; read = read; of_moment = shown; then = then })
 
 -- the start and the place by other names
-pub renamed : {E : Type 0} (of_metadata of_targets : Loaded → Type 0) (keeps : List ℕ → List ℕ → Bool) (s t : Start) (place other : List ℕ) (old new : Option (List ℕ)) (r : Result ℕ E)
+pub renamed : {E : Type 0} (of_metadata : Loaded → Type 0) (of_targets : Seen → Type 0) (keeps : List ℕ → List ℕ → Bool) (s t : Start) (place other : List ℕ) (old new : Option (List ℕ)) (r : Result ℕ E)
     → s ≡ t → place ≡ other
     → IfOk r (λ status. IsStored of_metadata of_targets s (keeps place) (λ o. IsTold o s.wanted status old new))
     → IfOk r (λ status. IsStored of_metadata of_targets t (keeps other) (λ o. IsTold o t.wanted status old new))
@@ -72,7 +74,7 @@ renamed of_metadata of_targets keeps s t place other old new r same at h =
     subst (λ q. IfOk r (λ status. IsStored of_metadata of_targets t (keeps q) (λ o. IsTold o t.wanted status old new))) at
     (subst (λ u. IfOk r (λ status. IsStored of_metadata of_targets u (keeps place) (λ o. IsTold o u.wanted status old new))) same h)
 
-pub renamed_failure : {A E : Type 0} (of_metadata of_targets : Loaded → Type 0) (keeps : List ℕ → List ℕ → Bool) (s t : Start) (place other : List ℕ) (Q : Type 0) (r : Result A E)
+pub renamed_failure : {A E : Type 0} (of_metadata : Loaded → Type 0) (of_targets : Seen → Type 0) (keeps : List ℕ → List ℕ → Bool) (s t : Start) (place other : List ℕ) (Q : Type 0) (r : Result A E)
     → s ≡ t → place ≡ other
     → OnErr r (Q ⊎ IsStored of_metadata of_targets s (keeps place) (λ _. ⊤))
     → OnErr r (Q ⊎ IsStored of_metadata of_targets t (keeps other) (λ _. ⊤))
@@ -89,49 +91,74 @@ pub after_failure : {A E : Type 0} {P : Type 0} (r : Result A E) → P → OnErr
 after_failure (Ok x) p = tt
 after_failure (Err e) p = p
 
-module _ (of_metadata of_targets : Loaded → Type 0) (start : Start) (keeps : List ℕ → Bool) (metadata targets : Loaded) where
-  -- the new state of what was loaded is stored, and more holds of the outcome
-  pub stored : (P : Outcome → Type 0) → of_metadata metadata → of_targets targets
-      → keeps (state_text (outcome_of start (file_in metadata) (file_in targets)).trusted) ≡ true
-      → P (outcome_of start (file_in metadata) (file_in targets))
-      → IsStored of_metadata of_targets start keeps P
-  stored P m t kept then = record { metadata = metadata; targets = targets; in_metadata = m; in_targets = t; kept = kept; then = then }
+module _ (of_metadata : Loaded → Type 0) (of_targets : Seen → Type 0) (start : Start) (keeps : List ℕ → Bool) (metadata : Loaded) (o : Outcome) where
+  -- the new state of the outcome is stored, and more holds of it
+  pub stored : (P : Outcome → Type 0) → of_metadata metadata → IsOutcomeOn of_targets start (file_in metadata) o
+      → keeps (state_text o.trusted) ≡ true → P o → IsStored of_metadata of_targets start keeps P
+  stored P m is kept then = record { metadata = metadata; in_metadata = m; outcome = o; of_workflow = is; kept = kept; then = then }
 
-  pub stored_answer : {E : Type 0} (P : Outcome → ℕ → Type 0) (r : Result ℕ E) → of_metadata metadata → of_targets targets
-      → OnOk r (keeps (state_text (outcome_of start (file_in metadata) (file_in targets)).trusted) ≡ true)
-      → IfOk r (P (outcome_of start (file_in metadata) (file_in targets)))
+  pub stored_answer : {E : Type 0} (P : Outcome → ℕ → Type 0) (r : Result ℕ E) → of_metadata metadata → IsOutcomeOn of_targets start (file_in metadata) o
+      → OnOk r (keeps (state_text o.trusted) ≡ true) → IfOk r (P o)
       → IfOk r (λ status. IsStored of_metadata of_targets start keeps (λ o. P o status))
-  stored_answer P (Ok status) m t kept then = stored _ m t kept then
-  stored_answer P (Err e) m t kept then = tt
+  stored_answer P (Ok status) m is kept then = stored _ m is kept then
+  stored_answer P (Err e) m is kept then = tt
 
-  pub stored_failure : {E : Type 0} (Q : Type 0) (r : Result ℕ E) → of_metadata metadata → of_targets targets
-      → OnErr r (Q ⊎ (keeps (state_text (outcome_of start (file_in metadata) (file_in targets)).trusted) ≡ true))
+  pub stored_failure : {E : Type 0} (Q : Type 0) (r : Result ℕ E) → of_metadata metadata → IsOutcomeOn of_targets start (file_in metadata) o
+      → OnErr r (Q ⊎ (keeps (state_text o.trusted) ≡ true))
       → OnErr r (Q ⊎ IsStored of_metadata of_targets start keeps (λ _. ⊤))
-  stored_failure Q (Ok status) m t h = tt
-  stored_failure Q (Err e) m t (inl same) = inl same
-  stored_failure Q (Err e) m t (inr kept) = inr (stored _ m t kept tt)
+  stored_failure Q (Ok status) m is h = tt
+  stored_failure Q (Err e) m is (inl same) = inl same
+  stored_failure Q (Err e) m is (inr kept) = inr (stored _ m is kept tt)
 
-module _ (loaded : List Repo → Type 0) (start : Start) (keeps : List ℕ → Bool) (repos : List Repo) where
-  -- the state after the cycles on what was loaded is stored, and more holds of the outcomes
-  pub replayed : (P : List Outcome → Type 0) → loaded repos → keeps (state_text (state_after start repos)) ≡ true → P (outcomes_of start repos)
-      → IsReplayed loaded start keeps P
-  replayed P l kept then = record { repos = repos; of_folders = l; kept = kept; then = then }
+-- the outcome of a closed course, where its parts have other names
+pub closed_outcome : {E : Type 0} (lists : List (List ℕ) → Bool) (holds : List ℕ → List ℕ → Bool) (s : Start) (metadata : Files) (most : ℕ) (c : Course) (r : Result Outcome E)
+    → c ≡ course metadata s.moment s.trusted s.wanted most → most ≡ s.limit
+    → IfOk r (IsClosed lists holds c) → IfOk r (IsOutcomeOn (MayBeSeen lists holds) s metadata)
+unfolding outcome_of
+closed_outcome lists holds s metadata most c (Ok o) is limit h = record {
+  targets = h.seen;
+  in_targets = h.may_be_seen;
+  of_files = record {
+    outcome = λ whole files alike are. h.outcome files are ∙ ap (closed_course files)
+        (same ∙ sym (same_course whole metadata s.moment s.trusted s.wanted s.limit alike));
+    only_found = subst (λ k. (name : List ℕ) → IfSome (h.seen.read name) (λ _. is_found k.trusted.root.reading.consistent k.searches name ≡ true)) same h.found;
+    files = h.files;
+    are_seen = h.are_seen;
+  };
+}
+  where
+    same : c ≡ course metadata s.moment s.trusted s.wanted s.limit
+    same = is ∙ ap (course metadata s.moment s.trusted s.wanted) limit
+closed_outcome lists holds s metadata most c (Err e) is limit h = tt
 
-  pub replayed_answer : {E : Type 0} (P : List Outcome → ℕ → Type 0) (r : Result ℕ E) → loaded repos
-      → OnOk r (keeps (state_text (state_after start repos)) ≡ true) → IfOk r (P (outcomes_of start repos))
-      → IfOk r (λ status. IsReplayed loaded start keeps (λ os. P os status))
-  replayed_answer P (Ok status) l kept then = replayed _ l kept then
-  replayed_answer P (Err e) l kept then = tt
+-- the folder's meaning by another name
+pub outcome_on : (lists lists' : List (List ℕ) → Bool) (holds holds' : List ℕ → List ℕ → Bool) (s : Start) (metadata : Files) (o : Outcome)
+    → lists ≡ lists' → holds ≡ holds' → IsOutcomeOn (MayBeSeen lists holds) s metadata o → IsOutcomeOn (MayBeSeen lists' holds') s metadata o
+outcome_on lists lists' holds holds' s metadata o same_lists same_bytes is =
+    subst (λ h. IsOutcomeOn (MayBeSeen lists' h) s metadata o) same_bytes
+    (subst (λ l. IsOutcomeOn (MayBeSeen l holds) s metadata o) same_lists is)
 
-  pub replayed_failure : {E : Type 0} (Q : Type 0) (r : Result ℕ E) → loaded repos
-      → OnErr r (Q ⊎ (keeps (state_text (state_after start repos)) ≡ true))
-      → OnErr r (Q ⊎ IsReplayed loaded start keeps (λ _. ⊤))
-  replayed_failure Q (Ok status) l h = tt
-  replayed_failure Q (Err e) l (inl same) = inl same
-  replayed_failure Q (Err e) l (inr kept) = inr (replayed _ l kept tt)
+module _ (of_folders : List Mirror → Type 0) (start : Start) (keeps : List ℕ → Bool) (os : List Outcome) where
+  -- the state after the cycles is stored, and more holds of the outcomes
+  pub replayed : (P : List Outcome → Type 0) → AreOutcomesOn of_folders start os → keeps (state_text (last_state start os)) ≡ true → P os
+      → IsReplayed of_folders start keeps P
+  replayed P are kept then = record { outcomes = os; of_cycles = are; kept = kept; then = then }
+
+  pub replayed_answer : {E : Type 0} (P : List Outcome → ℕ → Type 0) (r : Result ℕ E) → AreOutcomesOn of_folders start os
+      → OnOk r (keeps (state_text (last_state start os)) ≡ true) → IfOk r (P os)
+      → IfOk r (λ status. IsReplayed of_folders start keeps (λ os. P os status))
+  replayed_answer P (Ok status) are kept then = replayed _ are kept then
+  replayed_answer P (Err e) are kept then = tt
+
+  pub replayed_failure : {E : Type 0} (Q : Type 0) (r : Result ℕ E) → AreOutcomesOn of_folders start os
+      → OnErr r (Q ⊎ (keeps (state_text (last_state start os)) ≡ true))
+      → OnErr r (Q ⊎ IsReplayed of_folders start keeps (λ _. ⊤))
+  replayed_failure Q (Ok status) are h = tt
+  replayed_failure Q (Err e) are (inl same) = inl same
+  replayed_failure Q (Err e) are (inr kept) = inr (replayed _ are kept tt)
 
 -- the start and the place of cycles by other names
-pub renamed_cycles : {E : Type 0} (loaded : List Repo → Type 0) (keeps : List ℕ → List ℕ → Bool) (s t : Start) (place other : List ℕ) (old new : Option (List ℕ)) (r : Result ℕ E)
+pub renamed_cycles : {E : Type 0} (loaded : List Mirror → Type 0) (keeps : List ℕ → List ℕ → Bool) (s t : Start) (place other : List ℕ) (old new : Option (List ℕ)) (r : Result ℕ E)
     → s ≡ t → place ≡ other
     → IfOk r (λ status. IsReplayed loaded s (keeps place) (λ os. AreTold os s.wanted status old new))
     → IfOk r (λ status. IsReplayed loaded t (keeps other) (λ os. AreTold os t.wanted status old new))
@@ -139,7 +166,7 @@ renamed_cycles loaded keeps s t place other old new r same at h =
     subst (λ q. IfOk r (λ status. IsReplayed loaded t (keeps q) (λ os. AreTold os t.wanted status old new))) at
     (subst (λ u. IfOk r (λ status. IsReplayed loaded u (keeps place) (λ os. AreTold os u.wanted status old new))) same h)
 
-pub renamed_cycles_failure : {A E : Type 0} (loaded : List Repo → Type 0) (keeps : List ℕ → List ℕ → Bool) (s t : Start) (place other : List ℕ) (Q : Type 0) (r : Result A E)
+pub renamed_cycles_failure : {A E : Type 0} (loaded : List Mirror → Type 0) (keeps : List ℕ → List ℕ → Bool) (s t : Start) (place other : List ℕ) (Q : Type 0) (r : Result A E)
     → s ≡ t → place ≡ other
     → OnErr r (Q ⊎ IsReplayed loaded s (keeps place) (λ _. ⊤))
     → OnErr r (Q ⊎ IsReplayed loaded t (keeps other) (λ _. ⊤))

@@ -2,10 +2,9 @@
 use Rattle.std.specs.List.{AllZip}
 use Rattle.std.specs.BTreeMap.{BTreeMap}
 use Rattle.std.specs.Io.KnownBytes.{Appends}
-use Rattle.std.specs.Prelude.{◌≡◌, ◌≢◌, ℕ, ◌/◌, ◌%◌, pos, List, Bool, true, Option, Some, None, String, Vec, Ok, Err, map, string_bytes, [], ◌∷◌}
+use Rattle.std.specs.Prelude.{codes, IfSome, ◌≡◌, ◌≢◌, ℕ, ◌/◌, ◌%◌, pos, List, Bool, true, Option, Some, None, String, Vec, Ok, Err, map, string_bytes, [], ◌∷◌}
 use Rattle.std.specs.declared.alloc.Global.{Global}
 pub use Rattle.moment.specs.Moment.{moment_of, Moment}
-use Rattle.meta.specs.declared.repo.Repo.{Repo}
 use Rattle.meta.specs.declared.fault.Fault.{Fault}
 use Rattle.meta.specs.declared.fault.Fault.TheVariants as fault
 use Rattle.examine.specs.Checks.{file_in}
@@ -14,11 +13,14 @@ use Rattle.rolechain.specs.Kept.{kept_of, kept_text}
 pub use Rattle.rolechain.specs.Advance.{State}
 use Rattle.rolechain.specs.declared.fault.StateFault.TheVariants.{TooLong}
 pub use Rattle.rolechain.specs.declared.fault.StateFault.{StateFault}
-pub use Rattle.cycle.specs.Workflow.{Files, Outcome, workflow}
-use Rattle.cycle.specs.declared.round.Round.{Round}
+pub use Rattle.cycle.specs.Workflow.{Files, Outcome, course, workflow}
+use Rattle.cycle.specs.Looked.{AreAlike, most_looked_at}
+use Rattle.folder.specs.Starts.{AreStarts}
+use Rattle.measured.specs.Closed.{is_found}
 use Rattle.failure.specs.declared.failure.Failure.{Failure}
 use Rattle.failure.specs.declared.failure.Failure.TheVariants as failure
 use Rattle.report.specs.Lines.{outcome_status, last_status, outcome_text, cycles_text}
+pub use Rattle.folder.specs.Seen.{Seen, AreSeen, MayBeSeen}
 use Rattle.update.specs.declared.start.Terms.{Terms}
 use Rattle.update.specs.declared.start.Start as program
 
@@ -77,17 +79,45 @@ pub record IsTold (o : Outcome) (wanted : List (List ℕ)) (status : ℕ)
 abbrev pub Loaded : Type 0
 Loaded = BTreeMap (String Global) (Vec ℕ Global)
 
--- Files that are those of the two folders: the new state of their outcome is stored, and more holds
--- of the outcome.
-pub record IsStored (of_metadata of_targets : Loaded → Type 0) (start : Start)
+-- the metadata files of a folder, as the workflow looks at them: those whose names end in `.json`,
+-- each as its first bytes
+abbrev pub AreMetadata : (List (List ℕ) → Bool) → (List ℕ → List ℕ → Bool) → Loaded → Type 0
+AreMetadata lists holds files = AreStarts (codes ".json") most_looked_at lists holds files
+
+-- the name is one of a target that a search found
+abbrev pub is_found_from : Start → Files → List ℕ → Bool
+is_found_from s metadata name =
+    let c = course metadata s.moment s.trusted s.wanted s.limit in
+    is_found c.trusted.root.reading.consistent c.searches name
+
+-- The outcome on all metadata files of which the same is looked at, and on all target files that
+-- are seen so. There are such target files, and none was read but of targets that searches found.
+pub record IsOutcomeIn (start : Start) (metadata : Files) (targets : Seen) (o : Outcome)
+    : Type 0 where
+  pub outcome : (whole files : Files) → AreAlike whole metadata → AreSeen targets files
+      → o ≡ outcome_of start whole files
+  pub only_found : (name : List ℕ) → IfSome (targets.read name)
+      (λ _. is_found_from start metadata name ≡ true)
+  pub files : Files
+  pub are_seen : AreSeen targets files
+
+-- What was seen of the target files, and the outcome.
+pub record IsOutcomeOn (of_targets : Seen → Type 0) (start : Start) (metadata : Files)
+    (o : Outcome) : Type 0 where
+  pub targets : Seen
+  pub in_targets : of_targets targets
+  pub of_files : IsOutcomeIn start metadata targets o
+
+-- Metadata files that are those of a folder, and what was seen of the target files of the other
+-- one: the new state of their outcome is stored, and more holds of the outcome.
+pub record IsStored (of_metadata : Loaded → Type 0) (of_targets : Seen → Type 0) (start : Start)
     (keeps : List ℕ → Bool) (follows : Outcome → Type 0) : Type 0 where
   pub metadata : Loaded
-  pub targets : Loaded
   pub in_metadata : of_metadata metadata
-  pub in_targets : of_targets targets
-  pub kept : keeps (state_text (outcome_of start (file_in metadata) (file_in targets)).trusted)
-      ≡ true
-  pub then : follows (outcome_of start (file_in metadata) (file_in targets))
+  pub outcome : Outcome
+  pub of_workflow : IsOutcomeOn of_targets start (file_in metadata) outcome
+  pub kept : keeps (state_text outcome.trusted) ≡ true
+  pub then : follows outcome
 
 -- A trusted state that was read.
 pub record IsRead (gives : List ℕ → Bool) (trusted : State) : Type 0 where
@@ -138,41 +168,54 @@ abbrev pub start_from : Terms → State → Moment → Start
 start_from terms trusted moment =
     start_at trusted moment (map string_bytes terms.wanted.items) terms.limit
 
--- a round on the repository
-pub record IsRound (moment : Moment) (wanted : List (List ℕ)) (repo : Repo) (round : Round)
-    : Type 0 where
-  pub of_repo : round.repo.now ≡ repo
-  pub at : round.now ≡ moment
-  pub of_paths : map string_bytes round.wanted.now ≡ wanted
-
--- a round on each repository, in order
-abbrev pub AreRounds : Moment → List (List ℕ) → List Repo → List Round → Type 0
-AreRounds moment wanted = AllZip (IsRound moment wanted)
-
 -- # One cycle after another, each on the files of two folders.
 
--- the workflow's outcome on these files
-abbrev pub outcome_in : Start → Repo → Outcome
-outcome_in s r = outcome_of s (file_in r.metadata) (file_in r.targets)
+-- metadata files that were loaded, and what was seen of the target files beside them
+pub record Mirror : Type 0 where
+  pub metadata : Loaded
+  pub targets : Seen
+
+-- the names of a folder were listed, which stays what it was
+pub record IsListed (lists : List (List ℕ) → Bool) (holds : List ℕ → List ℕ → Bool)
+    (still_lists : List (List ℕ) → Bool) (still_holds : List ℕ → List ℕ → Bool)
+    (names : List (List ℕ)) : Type 0 where
+  pub listed : lists names ≡ true
+  pub same_lists : still_lists ≡ lists
+  pub same_bytes : still_holds ≡ holds
+
+-- the same start with another state
+abbrev pub from_state : Start → State → Start
+from_state s trusted = record s { trusted = trusted }
 
 -- what the next cycle begins with
 abbrev pub after : Start → Outcome → Start
-after s o = record s { trusted = o.trusted }
-
--- the outcomes of the cycles, each from the state of the one before
-unfoldable pub outcomes_of : Start → List Repo → List Outcome
-outcomes_of s [] = []
-outcomes_of s (r ∷ rs) = outcome_in s r ∷ outcomes_of (after s (outcome_in s r)) rs
+after s o = from_state s o.trusted
 
 -- the state after the cycles
-unfoldable pub state_after : Start → List Repo → State
-state_after s [] = s.trusted
-state_after s (r ∷ rs) = state_after (after s (outcome_in s r)) rs
+abbrev pub last_state : Start → List Outcome → State
+last_state s [] = s.trusted
+last_state s (o ∷ os) = last_state (after s o) os
 
--- the files of each pair of folders, in order
-abbrev pub AreLoaded : {F : Type 0} → (F → Loaded → Type 0) → (F → Loaded → Type 0)
-    → List F → List Repo → Type 0
-AreLoaded of_metadata of_targets = AllZip (λ f r. of_metadata f r.metadata × of_targets f r.targets)
+-- the outcomes of the cycles, each from the state of the one before
+abbrev pub AreOutcomesIn : Start → List Mirror → List Outcome → Type 0
+AreOutcomesIn s [] [] = Unit {0}
+AreOutcomesIn s [] (o ∷ os) = ⊥
+AreOutcomesIn s (m ∷ ms) [] = ⊥
+AreOutcomesIn s (m ∷ ms) (o ∷ os) =
+    IsOutcomeIn s (file_in m.metadata) m.targets o × AreOutcomesIn (after s o) ms os
+
+-- what each pair of folders may give, in order
+abbrev pub AreMirrors : {F : Type 0} → (F → Loaded → Type 0) → (F → Seen → Type 0)
+    → List F → List Mirror → Type 0
+AreMirrors of_metadata of_targets =
+    AllZip (λ f m. of_metadata f m.metadata × of_targets f m.targets)
+
+-- What the folders gave, and the outcomes of the cycles on it.
+pub record AreOutcomesOn (of_folders : List Mirror → Type 0) (start : Start) (os : List Outcome)
+    : Type 0 where
+  pub mirrors : List Mirror
+  pub given : of_folders mirrors
+  pub of_workflow : AreOutcomesIn start mirrors os
 
 -- A writer was given the lines of the cycles, and the status is that of the last one.
 pub record AreTold (os : List Outcome) (wanted : List (List ℕ)) (status : ℕ)
@@ -182,9 +225,9 @@ pub record AreTold (os : List Outcome) (wanted : List (List ℕ)) (status : ℕ)
 
 -- Files that are those of the folders: the state after their cycles is stored, and more holds of
 -- the outcomes.
-pub record IsReplayed (loaded : List Repo → Type 0) (start : Start) (keeps : List ℕ → Bool)
+pub record IsReplayed (of_folders : List Mirror → Type 0) (start : Start) (keeps : List ℕ → Bool)
     (follows : List Outcome → Type 0) : Type 0 where
-  pub repos : List Repo
-  pub of_folders : loaded repos
-  pub kept : keeps (state_text (state_after start repos)) ≡ true
-  pub then : follows (outcomes_of start repos)
+  pub outcomes : List Outcome
+  pub of_cycles : AreOutcomesOn of_folders start outcomes
+  pub kept : keeps (state_text (last_state start outcomes)) ≡ true
+  pub then : follows outcomes

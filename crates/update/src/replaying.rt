@@ -1,18 +1,21 @@
 //! One cycle after another, each on a repository that lies in two folders.
 
-ghost use Rattle.std.specs.Prelude.{◌≡◌, ◌≢◌, ◌≤◌, ◌⊎◌, ⊤, IfErr, IfOk, OnErr, OnOk};
+ghost use Rattle.std.specs.Prelude.{◌≡◌, ◌≢◌, ◌≤◌, ◌⊎◌, ⊤, true, All, IfErr, IfOk, OnErr};
 ghost use Rattle.std.specs.Prelude.{option_map, map, string_bytes};
-ghost use Rattle.folder.specs.Folders.{IsLoaded};
-ghost use Rattle.update.specs.Told.{Begins, AreLoaded, AreTold, IsReplayed, OthersKept};
-ghost use Rattle.update.specs.Told.{outcomes_of, state_after, AreRounds, start_from, start_of};
+ghost use Rattle.std.specs.List.{AllZip};
+ghost use Rattle.examine.specs.Checks.{file_in};
+ghost use Rattle.update.specs.Told.{AreMetadata, AreMirrors, AreOutcomesOn, AreTold, Begins};
+ghost use Rattle.update.specs.Told.{IsListed, IsOutcomeOn, IsReplayed, MayBeSeen, OthersKept};
+ghost use Rattle.update.specs.Told.{from_state, last_state, start_from, start_of};
 
-use crate::start::{Folders, Start, Terms, begin, limits_of, load_both};
+use crate::start::{Folders, Start, Terms, begin, limits_of, load_metadata};
 use crate::state::keep_state;
-use cycle::{Keeper, Moment, Open, Outcome, Repo, Round};
+use cycle::{Keeper, Limits, Open, Outcome, Repo};
 use failure::Failure;
 use folder::Folder;
+use measured::close;
 use report::tell_cycles;
-use std::alloc::{AllocError, Global};
+use std::alloc::Global;
 use std::io::Write;
 use std::sync::Wait;
 use std::thread::Threads;
@@ -29,11 +32,17 @@ pub struct Cycles<'a> {
     pub keep: usize,
 }
 
-/// Replays what the words name: the moment is read first, then the state file, and then the
-/// folders, as [`replay_from`] does. Where the moment, the state file or a folder fails, nothing is
-/// stored and nothing printed. After want of memory or a refused output either that holds too, or
-/// the last state is stored whole. What is stored for other paths stays.
-pub fn replay<R: Threads + Wait + Sync, S: System, M: Folder + Drop, T: Folder + Drop, W: Write>(
+/// Replays what the words name: reads the moment, then the state file, and then the folders, as
+/// [`replay_from`] does. If one of them fails, nothing was stored or printed. If out of memory or by
+/// an output error, that holds too, or the last state was stored whole. What is stored for other
+/// paths stays.
+pub fn replay<
+    R: Threads + Wait + Sync,
+    S: System,
+    M: Folder + Drop,
+    T: Folder + Drop + Sync,
+    W: Write,
+>(
     rt: &R,
     alloc: Global,
     system: &mut S,
@@ -45,8 +54,8 @@ pub fn replay<R: Threads + Wait + Sync, S: System, M: Folder + Drop, T: Folder +
     ensures known { IfOk result (λ status. status ≤ 2) }
     ensures replayed { IfOk result (λ status. Begins (S.gives system.old terms.now.state.now)
         (S.shows system.old) (option_map (λ t. t.now) terms.now.moment) (λ trusted moment.
-        IsReplayed (AreLoaded (λ f. IsLoaded (M.lists f.metadata) (M.holds f.metadata))
-        (λ f. IsLoaded (T.lists f.targets) (T.holds f.targets)) folders.items)
+        IsReplayed (AreMirrors (λ f. AreMetadata (M.lists f.metadata) (M.holds f.metadata))
+        (λ f. MayBeSeen (T.lists f.targets) (T.holds f.targets)) folders.items)
         (start_from terms.now trusted moment) (S.keeps system.new terms.now.out.now)
         (λ os. AreTold os (map string_bytes terms.now.wanted.items) status (W.contents out.old)
         (W.contents out.new)))) }
@@ -54,8 +63,8 @@ pub fn replay<R: Threads + Wait + Sync, S: System, M: Folder + Drop, T: Folder +
         × (W.contents out.new ≡ W.contents out.old))
         ⊎ Begins (S.gives system.old terms.now.state.now)
         (S.shows system.old) (option_map (λ t. t.now) terms.now.moment) (λ trusted moment.
-        IsReplayed (AreLoaded (λ f. IsLoaded (M.lists f.metadata) (M.holds f.metadata))
-        (λ f. IsLoaded (T.lists f.targets) (T.holds f.targets)) folders.items)
+        IsReplayed (AreMirrors (λ f. AreMetadata (M.lists f.metadata) (M.holds f.metadata))
+        (λ f. MayBeSeen (T.lists f.targets) (T.holds f.targets)) folders.items)
         (start_from terms.now trusted moment) (S.keeps system.new terms.now.out.now)
         (λ _. ⊤))) }
     ensures others { OthersKept terms.now.out.now (S.keeps system.old) (S.keeps system.new) }
@@ -68,21 +77,18 @@ pub fn replay<R: Threads + Wait + Sync, S: System, M: Folder + Drop, T: Folder +
 }
 
 /// Verifies what each pair of folders holds, in order, each time from the state of the cycle
-/// before; stores the last state, prints for each cycle the line `cycle K`, counted from 1, and its
-/// lines, and answers the status of the last one, or 0 where there is none. All is that of the
-/// workflow on the files that the folders gave; what is remembered from cycle to cycle bears on
-/// none of it.
+/// before. Stores the last state, and prints for each cycle the line `cycle K`, counted from 1, and
+/// its lines. Returns the status of the last one, or 0 if there is none. Cached verdicts have no
+/// influence on any of it.
 ///
-/// All folders are read before the first cycle, and no line is printed before the state is stored.
-/// After any failure either nothing is printed and what was stored before is as it was, or the last
-/// state is stored whole; and the first of these after each failure but want of memory and a
-/// refused output, such as that of a folder. What is stored for other paths stays. It waits for the
-/// threads that check ahead.
+/// All metadata folders are loaded and the names of all target files are listed before the first
+/// cycle. A target file that a cycle's searches found is read in that cycle, and no other is.
+/// Otherwise all is as for [`verify_from`](crate::verify_from), with the last state.
 pub fn replay_from<
     R: Threads + Wait + Sync,
     S: System,
     M: Folder + Drop,
-    T: Folder + Drop,
+    T: Folder + Drop + Sync,
     W: Write,
 >(
     rt: &R,
@@ -94,16 +100,16 @@ pub fn replay_from<
 ) -> Result<u8, Failure>
     ensures known { IfOk result (λ status. status ≤ 2) }
     ensures replayed { IfOk result (λ status. IsReplayed
-        (AreLoaded (λ f. IsLoaded (M.lists f.metadata) (M.holds f.metadata))
-        (λ f. IsLoaded (T.lists f.targets) (T.holds f.targets)) folders.items)
+        (AreMirrors (λ f. AreMetadata (M.lists f.metadata) (M.holds f.metadata))
+        (λ f. MayBeSeen (T.lists f.targets) (T.holds f.targets)) folders.items)
         (start_of cycles.now.start) (S.keeps system.new cycles.now.start.state.now)
         (λ os. AreTold os (map string_bytes cycles.now.start.wanted.now) status
         (W.contents out.old)
         (W.contents out.new))) }
     ensures order { OnErr result (((S.keeps system.new ≡ S.keeps system.old)
         × (W.contents out.new ≡ W.contents out.old)) ⊎ IsReplayed
-        (AreLoaded (λ f. IsLoaded (M.lists f.metadata) (M.holds f.metadata))
-        (λ f. IsLoaded (T.lists f.targets) (T.holds f.targets)) folders.items)
+        (AreMirrors (λ f. AreMetadata (M.lists f.metadata) (M.holds f.metadata))
+        (λ f. MayBeSeen (T.lists f.targets) (T.holds f.targets)) folders.items)
         (start_of cycles.now.start) (S.keeps system.new cycles.now.start.state.now) (λ _. ⊤)) }
     ensures others { OthersKept cycles.now.start.state.now (S.keeps system.old)
         (S.keeps system.new) }
@@ -111,45 +117,57 @@ pub fn replay_from<
         → (S.keeps system.new ≡ S.keeps system.old)
         × (W.contents out.new ≡ W.contents out.old)) }
 {
-    let repos = load_all(alloc, folders)?;
+    let opened = open_all(alloc, folders)?;
     let mut keeper = keeper_of(alloc, cycles)?;
-    let outcomes = outcomes(rt, alloc, &cycles.start, repos.as_slice(), &mut keeper)?;
+    let outcomes = outcomes(rt, alloc, &cycles.start, opened, &mut keeper)?;
     keep_state(alloc, system, cycles.start.state, keeper.trusted())?;
     tell_cycles(alloc, outcomes.as_slice(), cycles.start.wanted, out)
 }
 
-/// The files of all folders, in order.
-fn load_all<M: Folder + Drop, T: Folder + Drop>(
-    alloc: Global,
-    folders: Vec<Folders<M, T>>,
-) -> Result<Vec<Repo>, Failure>
-    ensures loaded { IfOk result (λ repos. AreLoaded
-        (λ f. IsLoaded (M.lists f.metadata) (M.holds f.metadata))
-        (λ f. IsLoaded (T.lists f.targets) (T.holds f.targets)) folders.items repos.items) }
-    ensures refused { IfErr result (λ f. (f ≡ Failure.Memory) ⊎ (f ≡ Failure.Folder)) }
-{
-    let mut repos = Vec::new(alloc);
-    for mut pair in folders {
-        repos.push(load_both(alloc, &mut pair)?)?;
-    }
-    Ok(repos)
+/// A pair of folders whose metadata was loaded, and of whose target files the names were listed.
+#[derive(Drop)]
+pub struct Opened<T> {
+    repo: Repo,
+    targets: T,
+    names: Vec<String>,
 }
 
-/// A round on each repository, with one moment and the same wanted paths.
-fn rounds_of<'a>(
+/// All pairs of folders, in order.
+fn open_all<M: Folder + Drop, T: Folder + Drop>(
     alloc: Global,
-    repos: &'a [Repo],
-    now: Moment,
-    wanted: &'a [String],
-) -> Result<Vec<Round<'a>>, AllocError>
-    ensures rounds { IfOk result (λ rounds. AreRounds now (map string_bytes wanted.now)
-        repos.now rounds.items) }
+    folders: Vec<Folders<M, T>>,
+) -> Result<Vec<Opened<T>>, Failure>
+    ensures opened { IfOk result (λ all. AllZip
+        (λ f o. AreMetadata (M.lists f.metadata) (M.holds f.metadata) o.repo.metadata
+        × IsListed (T.lists f.targets) (T.holds f.targets) (T.lists o.targets) (T.holds o.targets)
+        (map string_bytes o.names.items)) folders.items all.items) }
+    ensures refused { IfErr result (λ f. (f ≡ Failure.Memory) ⊎ (f ≡ Failure.Folder)) }
 {
-    let mut rounds = Vec::new(alloc);
-    for repo in repos {
-        rounds.extend_from_slice(&[Round { repo, now, wanted }])?;
+    let mut all = Vec::new(alloc);
+    for pair in folders {
+        all.push(open(alloc, pair)?)?;
     }
-    Ok(rounds)
+    Ok(all)
+}
+
+/// A pair of folders.
+fn open<M: Folder + Drop, T: Folder + Drop>(
+    alloc: Global,
+    mut pair: Folders<M, T>,
+) -> Result<Opened<T>, Failure>
+    ensures metadata { IfOk result (λ o. AreMetadata (M.lists pair.metadata)
+        (M.holds pair.metadata) o.repo.metadata) }
+    ensures targets { IfOk result (λ o. IsListed (T.lists pair.targets) (T.holds pair.targets)
+        (T.lists o.targets) (T.holds o.targets) (map string_bytes o.names.items)) }
+    ensures refused { IfErr result (λ f. (f ≡ Failure.Memory) ⊎ (f ≡ Failure.Folder)) }
+{
+    let (repo, names) = load_metadata(alloc, &mut pair)?;
+    let Folders { targets, .. } = pair;
+    Ok(Opened {
+        repo,
+        targets,
+        names,
+    })
 }
 
 /// A keeper of the state that the cycles begin with. A number of remembered files that is none is a
@@ -167,20 +185,61 @@ fn keeper_of(alloc: Global, cycles: &Cycles<'_>) -> Result<Keeper, Failure>
 
 /// The outcomes of all cycles of a keeper of the start's state, by the number of workers that the
 /// start names.
-fn outcomes<R: Threads + Wait + Sync>(
+fn outcomes<R: Threads + Wait + Sync, T: Folder + Drop + Sync>(
     rt: &R,
     alloc: Global,
     start: &Start<'_>,
-    repos: &[Repo],
+    opened: Vec<Opened<T>>,
     keeper: &mut Keeper,
 ) -> Result<Vec<Outcome>, Failure>
     requires state { keeper.old ≡ start.now.trusted }
-    ensures outcomes { IfOk result (λ all. all.items
-        ≡ outcomes_of (start_of start.now) repos.now) }
-    ensures state { OnOk result (keeper.new ≡ state_after (start_of start.now) repos.now) }
-    ensures refused { IfErr result (λ f. (f ≡ Failure.Words) ⊎ (f ≡ Failure.Memory)) }
+    requires listed { All (λ o. T.lists o.targets (map string_bytes o.names.items) ≡ true)
+        opened.items }
+    ensures outcomes { IfOk result (λ all. AreOutcomesOn (AllZip (λ o m.
+        (m.metadata ≡ o.repo.metadata)
+        × MayBeSeen (T.lists o.targets) (T.holds o.targets) m.targets)
+        opened.items) (start_of start.now) all.items) }
+    ensures state { IfOk result (λ all. keeper.new
+        ≡ last_state (start_of start.now) all.items) }
 {
     let limits = limits_of(start)?;
-    let rounds = rounds_of(alloc, repos, start.moment, start.wanted)?;
-    Ok(keeper.cycles(rt, rounds.as_slice(), &limits, start.workers, &Open)?)
+    let mut all = Vec::new(alloc);
+    for one in opened {
+        all.push(outcome(rt, alloc, start, &limits, one, keeper)?)?;
+    }
+    Ok(all)
+}
+
+/// The outcome of one cycle from the keeper's state, which is then the outcome's.
+fn outcome<R: Threads + Wait + Sync, T: Folder + Drop + Sync>(
+    rt: &R,
+    alloc: Global,
+    start: &Start<'_>,
+    limits: &Limits,
+    one: Opened<T>,
+    keeper: &mut Keeper,
+) -> Result<Outcome, Failure>
+    requires listed { T.lists one.targets (map string_bytes one.names.items) ≡ true }
+    requires limit { limits.now.roles ≡ start.now.limit }
+    requires workers { start.now.workers ≤ 64 }
+    ensures outcome { IfOk result (IsOutcomeOn
+        (MayBeSeen (T.lists one.targets) (T.holds one.targets))
+        (from_state (start_of start.now) keeper.old) (file_in one.repo.metadata)) }
+    ensures state { IfOk result (λ o. keeper.new ≡ o.trusted) }
+{
+    let Opened {
+        repo,
+        mut targets,
+        names,
+    } = one;
+    let course = keeper.follow(
+        rt,
+        &repo,
+        start.moment,
+        start.wanted,
+        limits,
+        start.workers,
+        &Open,
+    )?;
+    close(rt, alloc, course, &mut targets, names, start.workers)
 }

@@ -1,19 +1,25 @@
 //! What a verification begins with.
 
-ghost use Rattle.std.specs.Prelude.{◌≡◌, ◌≤◌, ◌⊎◌, IfErr, IfOk, option_map, map, string_bytes};
-ghost use Rattle.folder.specs.Folders.{IsLoaded};
-ghost use Rattle.update.specs.Told.{IsMomentOf, IsNoMoment, IsRead, start_from, start_of};
+ghost use Rattle.std.specs.Prelude.{◌≡◌, ◌≤◌, ◌⊎◌, true, IfErr, IfOk, option_map, map};
+ghost use Rattle.std.specs.Prelude.{string_bytes};
+ghost use Rattle.update.specs.Told.{AreMetadata, IsMomentOf, IsNoMoment, IsRead};
+ghost use Rattle.update.specs.Told.{start_from, start_of};
 
 use crate::clock::moment;
 use crate::state::read_state;
 use cycle::{Limits, Moment, Repo, Trusted};
 use failure::Failure;
-use folder::{Folder, load};
+use folder::{Folder, load_starts};
 use std::alloc::Global;
+use std::collections::BTreeMap;
 use system::System;
 
 /// How many checks a plan has at most.
 const CHECKS: usize = 4096;
+
+/// How many bytes of a metadata file are read at most: the greatest limit of any kind, and one byte
+/// that shows that a file is over it.
+const MOST_LOOKED_AT: u64 = 5_000_001;
 
 /// How many workers a run has at most.
 const WORKERS: usize = 64;
@@ -76,21 +82,25 @@ pub(crate) fn begin<'a, S: System>(
     })
 }
 
-/// The files of both folders.
+/// The metadata files, each up to the bytes that the workflow looks at, and the names of the target
+/// files.
 #[tactic(auto, using(crate::proofs::Told::of_load))]
-pub(crate) fn load_both<M: Folder, T: Folder>(
+pub(crate) fn load_metadata<M: Folder, T: Folder>(
     alloc: Global,
     folders: &mut Folders<M, T>,
-) -> Result<Repo, Failure>
-    ensures metadata { IfOk result (λ repo. IsLoaded (M.lists folders.old.metadata)
-        (M.holds folders.old.metadata) repo.metadata) }
-    ensures targets { IfOk result (λ repo. IsLoaded (T.lists folders.old.targets)
-        (T.holds folders.old.targets) repo.targets) }
+) -> Result<(Repo, Vec<String>), Failure>
+    ensures metadata { IfOk result (λ r. AreMetadata (M.lists folders.old.metadata)
+        (M.holds folders.old.metadata) r.0.metadata) }
+    ensures names { IfOk result (λ r. T.lists folders.old.targets
+        (map string_bytes r.1.items) ≡ true) }
+    ensures same_lists { T.lists folders.new.targets ≡ T.lists folders.old.targets }
+    ensures same_bytes { T.holds folders.new.targets ≡ T.holds folders.old.targets }
     ensures refused { IfErr result (λ f. (f ≡ Failure.Memory) ⊎ (f ≡ Failure.Folder)) }
 {
-    let metadata = load(alloc, &mut folders.metadata)?;
-    let targets = load(alloc, &mut folders.targets)?;
-    Ok(Repo { metadata, targets })
+    let metadata = load_starts(alloc, &mut folders.metadata, ".json", MOST_LOOKED_AT)?;
+    let names = folders.targets.names(alloc)?;
+    let targets = BTreeMap::new(alloc);
+    Ok((Repo { metadata, targets }, names))
 }
 
 /// The limits of a run. More than 64 workers are a mistake of the caller, and so is a limit that is

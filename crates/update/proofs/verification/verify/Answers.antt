@@ -1,7 +1,7 @@
 use Rattle.std.proofs.Common.{map, string_bytes, subst}
 use Rattle.std.specs.Bool.{⊤}
-use Rattle.folder.specs.Folders.{IsLoaded}
-use Rattle.update.specs.Told.{start_from, start_of, IsStored, IsTold, OthersKept}
+use Rattle.update.specs.Told.{AreMetadata}
+use Rattle.update.specs.Told.{start_from, start_of, IsStored, IsTold, MayBeSeen, OthersKept}
 use Rattle.update.proofs.Told.{begun, begun_failure, renamed, renamed_failure}
 use Rattle.update.proofs.verification.verify.Goals as goal
 
@@ -9,8 +9,8 @@ pub returns-clause-verified : goal.returns-clause-verified
 returns-clause-verified g c =
     begun _ _ _
     (λ status trusted moment. IsStored
-    (IsLoaded (g.M.Folder.lists c.args.folders.now.metadata) (g.M.Folder.holds c.args.folders.now.metadata))
-    (IsLoaded (g.T.Folder.lists c.args.folders.now.targets) (g.T.Folder.holds c.args.folders.now.targets))
+    (AreMetadata (g.M.Folder.lists c.args.folders.now.metadata) (g.M.Folder.holds c.args.folders.now.metadata))
+    (MayBeSeen (g.T.Folder.lists c.args.folders.now.targets) (g.T.Folder.holds c.args.folders.now.targets))
     (start_from c.args.terms.now trusted moment) (g.S.System.keeps c.verify_from.new.system c.args.terms.now.out.now)
     (λ o. IsTold o (map string_bytes c.args.terms.now.wanted.items) status (g.W.Write.contents c.args.out.now) (g.W.Write.contents c.verify_from.new.out)))
     _ _ c.verify_from.result c.in_ok-start.ensures.read c.in_ok-start.ensures.moment
@@ -22,8 +22,8 @@ pub returns-clause-order : goal.returns-clause-order
 returns-clause-order g c =
     begun_failure _ _ _ _
     (λ trusted moment. IsStored
-    (IsLoaded (g.M.Folder.lists c.args.folders.now.metadata) (g.M.Folder.holds c.args.folders.now.metadata))
-    (IsLoaded (g.T.Folder.lists c.args.folders.now.targets) (g.T.Folder.holds c.args.folders.now.targets))
+    (AreMetadata (g.M.Folder.lists c.args.folders.now.metadata) (g.M.Folder.holds c.args.folders.now.metadata))
+    (MayBeSeen (g.T.Folder.lists c.args.folders.now.targets) (g.T.Folder.holds c.args.folders.now.targets))
     (start_from c.args.terms.now trusted moment) (g.S.System.keeps c.verify_from.new.system c.args.terms.now.out.now) (λ _. ⊤))
     _ _ c.verify_from.result c.in_ok-start.ensures.read c.in_ok-start.ensures.moment
     (renamed_failure _ _ (g.S.System.keeps c.verify_from.new.system) (start_of c.in_ok-start.start)

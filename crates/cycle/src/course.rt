@@ -1,0 +1,120 @@
+//! The workflow up to the searches.
+
+ghost use Rattle.std.specs.Prelude.{◌≡◌, All, IfOk, IfSome};
+ghost use Rattle.examine.specs.Checks.{Files};
+ghost use Rattle.cycle.specs.Workflow.{closed_course, target_of};
+
+use crate::order::close;
+use crate::outcome::Outcome;
+use crate::stats::Stats;
+use crate::store::Store;
+use cjson::NoMemory;
+use deleg::Searched;
+use keys::Direct;
+use rolechain::{End, Trusted};
+use std::alloc::Global;
+use std::marker::Model;
+
+/// The workflow up to the searches: the new trusted state, how the cycle ended, and the search for
+/// each wanted path, by position. No target file has been looked at. Contracts see these three
+/// parts; the counts beside them have no influence on an outcome.
+#[derive(Drop)]
+pub struct Course {
+    trusted: Trusted,
+    end: End,
+    searches: Vec<Option<Searched>>,
+    stats: Stats,
+}
+
+impl Model for Course {
+    ghost use Rattle.cycle.specs.Workflow as spec;
+
+    ghost Value = { spec.Course };
+
+    ghost view = { λ c. record {
+      trusted = c.trusted;
+      end = c.end;
+      searches = c.searches.items;
+    } };
+}
+
+impl Course {
+    pub(crate) fn new(trusted: Trusted, end: End, searches: Vec<Option<Searched>>) -> Course
+        ensures { result ≡ record {
+          trusted = trusted;
+          end = end;
+          searches = searches.items;
+        } }
+    {
+        Course {
+            trusted,
+            end,
+            searches,
+            stats: Stats::none(),
+        }
+    }
+
+    /// The same course with these counts.
+    pub(crate) fn with_stats(mut self, stats: Stats) -> Course
+        ensures { result ≡ self }
+    {
+        self.stats = stats;
+        self
+    }
+
+    /// The new trusted state.
+    pub fn trusted(&self) -> &Trusted
+        ensures value { result.now ≡ self.now.trusted }
+    {
+        &self.trusted
+    }
+
+    /// How the cycle ended.
+    pub fn end(&self) -> End
+        ensures value { result ≡ self.now.end }
+    {
+        self.end
+    }
+
+    /// Whether target files have consistent names, by the trusted root (TUF 1.0 section 7.1).
+    pub fn has_consistent_names(&self) -> bool
+        ensures value { result ≡ self.now.trusted.root.reading.consistent }
+    {
+        self.trusted.root().reading().consistent()
+    }
+
+    /// The search for each wanted path, by position, or None where the cycle stopped.
+    pub fn searches(&self) -> &[Option<Searched>]
+        ensures value { result.now ≡ self.now.searches }
+    {
+        self.searches.as_slice()
+    }
+
+    /// How the run came by its answers.
+    pub fn stats(&self) -> Stats {
+        self.stats
+    }
+
+    pub(crate) fn into_state(self) -> (Trusted, End)
+        ensures trusted { result.0 ≡ self.trusted }
+        ensures end { result.1 ≡ self.end }
+    {
+        let Course { trusted, end, .. } = self;
+        (trusted, end)
+    }
+
+    /// Ends the workflow: a verdict for each wanted path, by the files of the store, which has to
+    /// know enough of each target that a search found. The outcome is that of whatever files may be
+    /// the store's. Fails only if out of memory.
+    pub fn close<S: Store>(self, alloc: Global, store: &S) -> Result<Outcome, NoMemory>
+        requires known { All (λ s. IfSome (target_of s)
+            (S.knows store.now self.trusted.root.reading.consistent)) self.searches }
+        ensures outcome { IfOk result (λ o. (files : Files) → S.may_be store.now files
+            → o ≡ closed_course files self) }
+        ensures state { IfOk result (λ o. o.trusted ≡ self.trusted) }
+    {
+        let stats = self.stats;
+        let outcome = close(alloc, self, store, &mut Direct)?;
+        Ok(outcome.with_stats(stats))
+    }
+}

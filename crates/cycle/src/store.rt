@@ -1,0 +1,54 @@
+//! The target files of a repository.
+
+ghost use Rattle.std.specs.Prelude.{◌≡◌, Bool};
+ghost use Rattle.meta.specs.Content.{Answers};
+ghost use Rattle.examine.specs.Checks.{Files, Target, file_in};
+ghost use Rattle.cycle.specs.Workflow.{target_checked};
+
+use examine::target_file;
+use keys::Judge;
+use meta::{Fault, Stop, Target};
+use std::alloc::Global;
+use std::collections::BTreeMap;
+
+/// The target files of a repository, or as much of them as has been found out. So several maps of
+/// files may be the store's; what it returns holds of each of them.
+pub trait Store {
+    /// Whether these may be the files.
+    ghost may_be: { Self → Files → Type 0 };
+
+    /// Whether enough is known to check the file of the target, under consistent names or not.
+    ghost knows: { Self → Bool → Target → Type 0 };
+
+    /// Checks that the target's file is there and has the listed length and digests (TUF 1.0
+    /// section 5.7). May ask `judge` for the digests.
+    fn check<J: Judge>(&self, consistent: bool, target: &Target, judge: &mut J) -> Result<(), Stop>
+        requires known { knows self.now consistent target.now }
+        ensures checked { (files : Files) → may_be self.now files
+            → Answers (target_checked files consistent target.now) result (λ x. x) };
+}
+
+/// Target files in memory, by name.
+#[derive(Clone, Copy)]
+pub struct InMemory<'a> {
+    pub alloc: Global,
+    pub files: &'a BTreeMap<String, Vec<u8>>,
+}
+
+impl Store for InMemory<'_> {
+    ghost may_be = { λ s files. files ≡ file_in s.files.now };
+
+    ghost knows = { λ _ _ _. Unit {0} };
+
+    /// Asks the judge under the target's path.
+    fn check<J: Judge>(
+        &self,
+        consistent: bool,
+        target: &Target,
+        judge: &mut J,
+    ) -> Result<(), Stop> {
+        let found = target_file(self.alloc, self.files, consistent, target)?;
+        let bytes = found.ok_or(Fault::Missing)?;
+        target.check(target.path.as_str(), bytes, None, judge)
+    }
+}

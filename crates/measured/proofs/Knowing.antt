@@ -1,0 +1,82 @@
+-- Names and measures that are stored one after the other.
+use Rattle.std.proofs.Common.{◌≡◌, ℕ, List, [], ◌∷◌, ◌++◌, Bool, true, false, ◌||◌, Option, None, Some, is_some, IfSome, String, string_bytes, map, refl, sym, ◌∙◌, ap, subst}
+use Rattle.std.specs.BTreeMap.{get_by_text}
+use Rattle.std.specs.Str.{bytes_eq}
+use Rattle.std.proofs.lemmas.Slice.Eq.{bytes_eq-Decides}
+use Rattle.std.proofs.lemmas.List.{map-append}
+use Rattle.std.proofs.lemmas.List.Folds.{list_any-append}
+use Rattle.measured.specs.Known.{IsKnown, IsSame, IsWanted, Puts}
+use Rattle.measured.specs.declared.known.Known.{Known}
+use Rattle.measured.specs.declared.known.Wanted.{Wanted}
+
+-- a name is there if it was added or was there before
+is_there : (is_added : Bool) (old new : Option (Option Wanted)) (value : Option Wanted) (was_there : Bool)
+    → (is_added ≡ true → new ≡ Some value) → (is_added ≡ false → new ≡ old) → is_some old ≡ was_there
+    → is_some new ≡ (was_there || (is_added || false))
+is_there true old new value true added kept e = ap is_some (added refl)
+is_there true old new value false added kept e = ap is_some (added refl)
+is_there false old new value true added kept e = ap is_some (kept refl) ∙ e
+is_there false old new value false added kept e = ap is_some (kept refl) ∙ e
+
+-- what holds of the value added and of the value before holds of the value after
+holds_still : (is_added : Bool) (old new : Option (Option Wanted)) (value : Option Wanted) (P : Option Wanted → Type 0)
+    → (is_added ≡ true → new ≡ Some value) → (is_added ≡ false → new ≡ old) → (is_added ≡ true → P value) → IfSome old P → IfSome new P
+holds_still true old new value P added kept here h = subst (λ o. IfSome o P) (sym (added refl)) (here refl)
+holds_still false old new value P added kept here h = subst (λ o. IfSome o P) (sym (kept refl)) h
+
+-- the value of an equal name
+pub at_name : (name other : List ℕ) (value : Option Wanted) (old new : Known) → Puts name value old new → bytes_eq name other ≡ true → get_by_text new.files other ≡ Some value
+at_name name other value old new puts same = subst (λ n. get_by_text new.files n ≡ Some value) ((bytes_eq-Decides name other).0 same) puts.there
+
+module _ (holds : List ℕ → List ℕ → Bool) (found : List ℕ → Bool) where
+  -- one name more
+  more : (names : List (List ℕ)) (name : List ℕ) (old new : Known)
+      → IsKnown names holds found old → Puts name None old new → IsKnown (names ++ name ∷ []) holds found new
+  more names name old new known puts = record {
+    named = λ q.
+        is_there (bytes_eq name q) (get_by_text old.files q) (get_by_text new.files q) None _ (at_name name q None old new puts) (puts.others q) (known.named q)
+        ∙ sym (list_any-append (λ other. bytes_eq other q) names (name ∷ []));
+    wanted = λ q.
+        holds_still (bytes_eq name q) (get_by_text old.files q) (get_by_text new.files q) None (λ o. IfSome o (IsWanted (found q) (holds q))) (at_name name q None old new puts) (puts.others q) (λ same. tt) (known.wanted q);
+  }
+
+  pub one_more : {Y : Type 0} (yielded : List (String Y)) (name : String Y) (old new : Known)
+      → IsKnown (map string_bytes yielded) holds found old → Puts (string_bytes name) None old new → IsKnown (map string_bytes (yielded ++ name ∷ [])) holds found new
+  one_more yielded name old new known puts = rw (map-append string_bytes yielded (name ∷ [])) (more _ _ old new known puts)
+
+-- ---- a value more
+
+is_there_still : (is_added : Bool) (old new : Option (Option Wanted)) (value : Option Wanted)
+    → (is_added ≡ true → new ≡ Some value) → (is_added ≡ false → new ≡ old) → (is_added ≡ true → is_some old ≡ true) → is_some new ≡ is_some old
+is_there_still true old new value added kept was = ap is_some (added refl) ∙ sym (was refl)
+is_there_still false old new value added kept was = ap is_some (kept refl)
+
+was_there : (name other : List ℕ) (old : Known) → is_some (get_by_text old.files name) ≡ true → bytes_eq name other ≡ true → is_some (get_by_text old.files other) ≡ true
+was_there name other old there same = subst (λ n. is_some (get_by_text old.files n) ≡ true) ((bytes_eq-Decides name other).0 same) there
+
+pub names_still : (name : List ℕ) (value : Option Wanted) (old new : Known) → Puts name value old new → is_some (get_by_text old.files name) ≡ true
+    → (q : List ℕ) → is_some (get_by_text new.files q) ≡ is_some (get_by_text old.files q)
+names_still name value old new puts there q =
+    is_there_still (bytes_eq name q) (get_by_text old.files q) (get_by_text new.files q) value (at_name name q value old new puts) (puts.others q) (was_there name q old there)
+
+pub wanted_more : (names : List (List ℕ)) (holds : List ℕ → List ℕ → Bool) (found : List ℕ → Bool) (name : List ℕ) (w : Wanted) (old new : Known)
+    → IsKnown names holds found old → Puts name (Some w) old new → is_some (get_by_text old.files name) ≡ true → IsWanted (found name) (holds name) w
+    → IsKnown names holds found new
+wanted_more names holds found name w old new known puts there is = record {
+  named = λ q. names_still name (Some w) old new puts there q ∙ known.named q;
+  wanted = λ q.
+      holds_still (bytes_eq name q) (get_by_text old.files q) (get_by_text new.files q) (Some w) (λ o. IfSome o (IsWanted (found q) (holds q))) (at_name name q (Some w) old new puts) (puts.others q)
+      (λ same. subst (λ n. IsWanted (found n) (holds n) w) ((bytes_eq-Decides name q).0 same) is)
+      (known.wanted q);
+}
+
+pub same_known : (names : List (List ℕ)) (holds : List ℕ → List ℕ → Bool) (found : List ℕ → Bool) (old new : Known) → IsKnown names holds found old → IsSame old new → IsKnown names holds found new
+same_known names holds found old new known same = record {
+  named = λ q. ap is_some (same q) ∙ known.named q;
+  wanted = λ q. subst (λ o. IfSome o (λ v. IfSome v (IsWanted (found q) (holds q)))) (sym (same q)) (known.wanted q);
+}
+
+-- what was found of a file that is wanted
+pub was_found : (names : List (List ℕ)) (holds : List ℕ → List ℕ → Bool) (found : List ℕ → Bool) (k : Known) (name : List ℕ) (w : Wanted)
+    → IsKnown names holds found k → get_by_text k.files name ≡ Some (Some w) → found name ≡ true
+was_found names holds found k name w known is = (subst (λ o. IfSome o (λ v. IfSome v (IsWanted (found name) (holds name)))) is (known.wanted name)).is_found

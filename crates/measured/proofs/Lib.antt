@@ -1,0 +1,4 @@
+pub mod Knowing
+pub mod Covering
+pub mod Checking
+pub mod SeenFiles

@@ -1,0 +1,4 @@
+pub use Rattle.cycle.specs.Workflow
+pub use Rattle.folder.specs.Seen
+pub mod Closed
+pub mod Known

@@ -1,0 +1,105 @@
+//! What is known of the files of a folder.
+
+ghost use Rattle.std.specs.Prelude.{◌≡◌, ◌∷◌, [], ℕ, List, Bool, Some, IfOk, OnOk, OnErr};
+ghost use Rattle.std.specs.Prelude.{find, is_some, map, option_map, string_bytes};
+ghost use Rattle.std.specs.BTreeMap.{get_by_text};
+ghost use Rattle.meta.specs.Content.{hashed_name};
+ghost use Rattle.measured.specs.Known as spec;
+ghost use Rattle.measured.specs.Known.{IsKnown, IsSame, Puts};
+
+use folder::{Measure, Need};
+use meta::Target;
+use meta::names::digest_name;
+use std::alloc::{AllocError, Global};
+use std::collections::BTreeMap;
+
+/// What is needed of a file, and its measure once it was read.
+#[derive(Clone, Copy)]
+pub struct Wanted {
+    pub need: Need,
+    pub measure: Option<Measure>,
+}
+
+/// The names of the files, and what is known of those that are wanted.
+#[derive(Drop)]
+pub struct Known {
+    pub files: BTreeMap<String, Option<Wanted>>,
+}
+
+/// The names, of which none is wanted yet.
+pub(crate) fn named(alloc: Global, names: Vec<String>) -> Result<Known, AllocError>
+    ensures { IfOk result (λ k. (holds : List ℕ → List ℕ → Bool) (found : List ℕ → Bool)
+        → IsKnown (map string_bytes names.items) holds found k) }
+{
+    let mut known = Known {
+        files: BTreeMap::new(alloc),
+    };
+    for name in names {
+        put(&mut known, name, None)?;
+    }
+    Ok(known)
+}
+
+/// Stores the value under the name.
+#[tactic(auto, using(std::proofs::lemmas::Map::Text::text_keys))]
+pub(crate) fn put(known: &mut Known, name: String, value: Option<Wanted>) -> Result<(), AllocError>
+    ensures put { OnOk result (Puts (string_bytes name) value known.old known.new) }
+    ensures refused { OnErr result (IsSame known.old known.new) }
+{
+    known.files.insert(name, value)?;
+    Ok(())
+}
+
+/// What is known of the file of that name, if it is there.
+pub(crate) fn entry_of(known: &Known, name: &str) -> Option<Option<Wanted>>
+    ensures { result ≡ get_by_text known.now.files name.now }
+{
+    Some(*known.files.get(name)?)
+}
+
+/// The first of the target's names that is there: its path, or under consistent snapshots the names
+/// under its sha256 and its sha512 digest, each where it is listed (TUF 1.0 section 5.7).
+pub(crate) fn place(
+    alloc: Global,
+    known: &Known,
+    consistent: bool,
+    target: &Target,
+) -> Result<Option<String>, AllocError>
+    ensures { IfOk result (λ o. option_map string_bytes o
+        ≡ spec.place known.now consistent target.now) }
+{
+    if !consistent {
+        let path = String::from_str(alloc, target.path.as_str())?;
+        return Ok(if_there(known, path));
+    }
+    if let Some(digest) = &target.hashes.sha256 {
+        let name = name_under(alloc, digest, target)?;
+        if known.files.get(name.as_str()).is_some() {
+            return Ok(Some(name));
+        }
+    }
+    let Some(digest) = &target.hashes.sha512 else {
+        return Ok(None);
+    };
+    let name = name_under(alloc, digest, target)?;
+    Ok(if_there(known, name))
+}
+
+/// The name of the target's file under that digest.
+fn name_under(alloc: Global, digest: &[u8], target: &Target) -> Result<String, AllocError>
+    ensures { IfOk result (λ s. string_bytes s ∷ []
+        ≡ hashed_name target.now.path (Some digest.now)) }
+{
+    digest_name(alloc, digest, target.path.as_str())
+}
+
+fn if_there(known: &Known, name: String) -> Option<String>
+    ensures { option_map string_bytes result
+        ≡ find (λ name. is_some (get_by_text known.now.files name)) (string_bytes name ∷ []) }
+{
+    if known.files.get(name.as_str()).is_some() {
+        Some(name)
+    } else {
+        None
+    }
+}

@@ -1,0 +1,183 @@
+//! The files that searches found, each read once.
+
+ghost use Rattle.std.specs.Prelude.{◌≡◌, ◌≤◌, ◌⊎◌, true, false, ℕ, List, Bool, All, IfErr, OnOk};
+ghost use Rattle.std.specs.Prelude.{is_some, option_map, string_bytes};
+ghost use Rattle.std.specs.BTreeMap.{get_by_text};
+ghost use Rattle.std.specs.Option.{option_map_or};
+ghost use Rattle.folder.specs.Folders.{HasFailed};
+ghost use Rattle.cycle.specs.Workflow.{Target, target_of};
+ghost use Rattle.measured.specs.Closed.{is_found_by, is_found};
+ghost use Rattle.measured.specs.Known as spec;
+ghost use Rattle.measured.specs.Known.{Grows, IsCovered, IsKnown};
+
+use crate::known::{Known, Wanted, entry_of, place, put};
+use crate::need::{NOTHING, covers, widened};
+use cycle::{Found, Searched, Target};
+use failure::Failure;
+use folder::{Folder, Need};
+use std::alloc::{AllocError, Global};
+
+/// The target that the search found.
+pub(crate) fn target_of(search: &Option<Searched>) -> Option<&Target>
+    ensures { option_map (λ t. t.now) result ≡ target_of search.now }
+{
+    match &search.as_ref()?.found {
+        Found::Listed { target, .. } => Some(target),
+        _ => None,
+    }
+}
+
+/// Notes what the searches need of each file that they found.
+pub(crate) fn note_all(
+    alloc: Global,
+    searches: &[Option<Searched>],
+    consistent: bool,
+    known: &mut Known,
+) -> Result<(), AllocError>
+    ensures known { (names : List (List ℕ)) (holds : List ℕ → List ℕ → Bool)
+        → IsKnown names holds (is_found consistent searches.now) known.old
+        → IsKnown names holds (is_found consistent searches.now) known.new }
+{
+    for search in searches {
+        note(alloc, search, consistent, known)?;
+    }
+    Ok(())
+}
+
+/// Notes what one search needs of the file that it found.
+fn note(
+    alloc: Global,
+    search: &Option<Searched>,
+    consistent: bool,
+    known: &mut Known,
+) -> Result<(), AllocError>
+    ensures known { (names : List (List ℕ)) (holds : List ℕ → List ℕ → Bool)
+        (found : List ℕ → Bool)
+        → ((name : List ℕ) → is_found_by consistent name search.now ≡ true → found name ≡ true)
+        → IsKnown names holds found known.old → IsKnown names holds found known.new }
+{
+    let Some(target) = target_of(search) else {
+        return Ok(());
+    };
+    let Some(name) = place(alloc, known, consistent, target)? else {
+        return Ok(());
+    };
+    let need = widened(need_of(entry_of(known, name.as_str())), target);
+    put(
+        known,
+        name,
+        Some(Wanted {
+            need,
+            measure: None,
+        }),
+    )
+}
+
+/// What has been needed of the file so far.
+fn need_of(entry: Option<Option<Wanted>>) -> Need
+    ensures { (t : Target)
+        → option_map_or (λ o. spec.is_measured o t) entry false ≡ true
+        → spec.covers result t ≡ true }
+{
+    match entry {
+        Some(Some(wanted)) => wanted.need,
+        _ => NOTHING,
+    }
+}
+
+/// Reads each file that a search found and that hasn't been read as far as it is needed.
+pub(crate) fn read_all<F: Folder>(
+    alloc: Global,
+    folder: &mut F,
+    searches: &[Option<Searched>],
+    consistent: bool,
+    known: &mut Known,
+) -> Result<(), Failure>
+    ensures known { (names : List (List ℕ))
+        → IsKnown names (F.holds folder.old) (is_found consistent searches.now) known.old
+        → IsKnown names (F.holds folder.old) (is_found consistent searches.now) known.new }
+    ensures covered { OnOk result (All (IsCovered known.new consistent) searches.now) }
+    ensures failed { IfErr result (λ f. f ≡ Failure.Folder
+        → HasFailed (F.failures folder.old) (F.failures folder.new)) }
+    ensures refused { IfErr result (λ f. (f ≡ Failure.Memory) ⊎ (f ≡ Failure.Folder)) }
+    ensures counts { F.failures folder.old ≤ F.failures folder.new }
+    ensures same_lists { F.lists folder.new ≡ F.lists folder.old }
+    ensures same_bytes { F.holds folder.new ≡ F.holds folder.old }
+{
+    for search in searches {
+        read(alloc, folder, search, consistent, known)?;
+    }
+    Ok(())
+}
+
+/// Reads the file that the search found.
+fn read<F: Folder>(
+    alloc: Global,
+    folder: &mut F,
+    search: &Option<Searched>,
+    consistent: bool,
+    known: &mut Known,
+) -> Result<(), Failure>
+    ensures known { (names : List (List ℕ)) (found : List ℕ → Bool)
+        → ((name : List ℕ) → is_found_by consistent name search.now ≡ true → found name ≡ true)
+        → IsKnown names (F.holds folder.old) found known.old
+        → IsKnown names (F.holds folder.old) found known.new }
+    ensures covered { OnOk result (IsCovered known.new consistent search.now) }
+    ensures grows { Grows known.old known.new }
+    ensures failed { IfErr result (λ f. f ≡ Failure.Folder
+        → HasFailed (F.failures folder.old) (F.failures folder.new)) }
+    ensures refused { IfErr result (λ f. (f ≡ Failure.Memory) ⊎ (f ≡ Failure.Folder)) }
+    ensures counts { F.failures folder.old ≤ F.failures folder.new }
+    ensures same_lists { F.lists folder.new ≡ F.lists folder.old }
+    ensures same_bytes { F.holds folder.new ≡ F.holds folder.old }
+{
+    let Some(target) = target_of(search) else {
+        return Ok(());
+    };
+    let Some(name) = place(alloc, known, consistent, target)? else {
+        return Ok(());
+    };
+    read_file(alloc, folder, name, target, known)
+}
+
+/// Reads the file of that name, which is there, as far as the target needs it.
+fn read_file<F: Folder>(
+    alloc: Global,
+    folder: &mut F,
+    name: String,
+    target: &Target,
+    known: &mut Known,
+) -> Result<(), Failure>
+    requires there { is_some (get_by_text known.old.files (string_bytes name)) ≡ true }
+    ensures known { (names : List (List ℕ)) (found : List ℕ → Bool)
+        → found (string_bytes name) ≡ true → IsKnown names (F.holds folder.old) found known.old
+        → IsKnown names (F.holds folder.old) found known.new }
+    ensures measured { OnOk result (option_map_or (λ o. spec.is_measured o target.now)
+        (get_by_text known.new.files (string_bytes name)) false ≡ true) }
+    ensures grows { Grows known.old known.new }
+    ensures failed { IfErr result (λ f. f ≡ Failure.Folder
+        → HasFailed (F.failures folder.old) (F.failures folder.new)) }
+    ensures refused { IfErr result (λ f. (f ≡ Failure.Memory) ⊎ (f ≡ Failure.Folder)) }
+    ensures counts { F.failures folder.old ≤ F.failures folder.new }
+    ensures same_lists { F.lists folder.new ≡ F.lists folder.old }
+    ensures same_bytes { F.holds folder.new ≡ F.holds folder.old }
+{
+    let entry = entry_of(known, name.as_str());
+    if is_measured(entry, target) {
+        return Ok(());
+    }
+    let need = widened(need_of(entry), target);
+    let measure = Some(folder.measure(alloc, name.as_str(), need)?);
+    put(known, name, Some(Wanted { need, measure }))?;
+    Ok(())
+}
+
+/// Whether the file was measured as far as the target needs it.
+fn is_measured(entry: Option<Option<Wanted>>, target: &Target) -> bool
+    ensures { result ≡ option_map_or (λ o. spec.is_measured o target.now) entry false }
+{
+    match entry {
+        Some(Some(wanted)) => wanted.measure.is_some() && covers(wanted.need, target),
+        _ => false,
+    }
+}

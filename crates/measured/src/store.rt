@@ -1,0 +1,44 @@
+//! The target files of a folder, as far as they were measured.
+
+ghost use Rattle.std.specs.Prelude.{◌≡◌, true};
+ghost use Rattle.measured.specs.Known as spec;
+
+use crate::check::check_measure;
+use crate::known::{Known, entry_of, place};
+use cycle::Store;
+use keys::Judge;
+use meta::{Fault, Stop, Target};
+use std::alloc::Global;
+
+/// Files by name, some of which were measured.
+#[derive(Clone, Copy)]
+pub(crate) struct Measured<'a> {
+    pub alloc: Global,
+    pub known: &'a Known,
+}
+
+impl Store for Measured<'_> {
+    ghost may_be = { λ s files. spec.MayBe s.known.now files };
+
+    ghost knows = { λ s consistent t. spec.knows s.known.now consistent t ≡ true };
+
+    /// Doesn't ask the judge, which would need the bytes.
+    #[tactic(auto, using(crate::proofs::Checking::checked, crate::proofs::Checking::missing))]
+    fn check<J: Judge>(
+        &self,
+        consistent: bool,
+        target: &Target,
+        _judge: &mut J,
+    ) -> Result<(), Stop> {
+        let Some(name) = place(self.alloc, self.known, consistent, target)? else {
+            return Err(Stop::Refused(Fault::Missing));
+        };
+        let Some(Some(wanted)) = entry_of(self.known, name.as_str()) else {
+            unreachable!();
+        };
+        let Some(measure) = &wanted.measure else {
+            unreachable!();
+        };
+        Ok(check_measure(target, measure)?)
+    }
+}
