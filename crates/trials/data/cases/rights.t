@@ -30,7 +30,7 @@ Of the folder of targets only the files are opened that a path leads to, once th
   root 1
   end ready
   ok "abc.txt" 3 "targets"
-  no "other" NotListed
+  no "other" NotFound
   [1]
   $ remove new
   $ by 0,1,4 old new d
