@@ -1,7 +1,7 @@
 //! Folders on the disk and in memory.
 
 use crate::stored::Memory;
-use folder::{Depth, Disk, Folder, LoadFault, load, path_below};
+use folder::{Depth, Disk, Folder, LoadFault, load, load_starts, path_below};
 use std::collections::BTreeMap;
 use std::os::unix::fs::symlink;
 use std::rt::Files;
@@ -111,4 +111,53 @@ fn a_folder_in_memory_is_loaded(rt: HostRuntime) -> Result<(), Fail> {
     assert!(rt; has(&loaded, "b/c", "22"));
     assert_eq!(rt; folder.failure_count(), 0);
     Ok(())
+}
+
+/// Files of which two have the ending `.json`.
+const STARTS: [(&str, &str); 4] = [
+    ("a.json", "1234"),
+    ("b.txt", "56"),
+    ("c.json", "7"),
+    ("json", "8"),
+];
+
+/// The list and the two files take all calls that succeed, so no other file is read.
+#[test]
+fn starts_of_files_with_an_ending_are_loaded(rt: HostRuntime) -> Result<(), Fail> {
+    let alloc = rt.alloc();
+    let mut folder = Memory::of(alloc, &STARTS, 3)?;
+    let loaded = load_starts(alloc, &mut folder, ".json", 3)?;
+    assert_eq!(rt; loaded.len(), 2);
+    assert!(rt; has(&loaded, "a.json", "123"));
+    assert!(rt; has(&loaded, "c.json", "7"));
+    assert_eq!(rt; folder.failure_count(), 0);
+    Ok(())
+}
+
+#[test]
+fn a_load_of_starts_fails_at_each_call(rt: HostRuntime) -> Result<(), Fail> {
+    let alloc = rt.alloc();
+    for calls in 0..3 {
+        let mut folder = Memory::of(alloc, &STARTS, calls)?;
+        assert!(rt;
+            matches!(
+                load_starts(alloc, &mut folder, ".json", 3),
+                Err(LoadFault::Folder)
+            ),
+            "{calls}"
+        );
+        assert_eq!(rt; folder.failure_count(), 1);
+    }
+    Ok(())
+}
+
+#[test]
+fn starts_are_loaded_from_disk(rt: HostRuntime) -> Result<(), Fail> {
+    tree(&rt, "starts_are_loaded_from_disk")?;
+    let path = String::from_str(rt.alloc(), "starts_are_loaded_from_disk/top")?;
+    let mut below = Disk::new(&rt, path, Depth::Below);
+    let starts = load_starts(rt.alloc(), &mut below, "e/f", 1)?;
+    assert_eq!(rt; starts.len(), 1);
+    assert!(rt; has(&starts, "d/e/f", "2"));
+    Ok(fs::remove_dir_all(&rt, "starts_are_loaded_from_disk")?)
 }

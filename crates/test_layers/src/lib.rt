@@ -7,9 +7,13 @@ mod folders;
 #[cfg(test)]
 mod forms;
 #[cfg(test)]
+mod found;
+#[cfg(test)]
 mod judges;
 #[cfg(test)]
 mod keepers;
+#[cfg(test)]
+mod measures;
 #[cfg(test)]
 mod outputs;
 #[cfg(test)]

@@ -1,0 +1,221 @@
+//! Measures of what a reader gives, a piece at a time.
+
+use folder::{Measure, Need};
+use std::alloc::{AllocError, Global};
+use std::io::{self, ErrorKind, Read};
+use std::test::Fail;
+
+/// Lengths, and what `sha256sum` and `sha512sum` print of so many first bytes of the pattern, which
+/// another program wrote.
+const DIGESTS: [(usize, &str, &str); 4] = [
+    (
+        0,
+        "e3b0c44298fc1c149afbf4c8996fb92427ae41e4649b934ca495991b7852b855",
+        "cf83e1357eefb8bdf1542850d66d8007d620e4050b5715dc83f4a921d36ce9ce\
+47d0d13c5d85f2b0ff8318d2877eec2f63b931bd47417a81a538327af927da3e",
+    ),
+    (
+        1,
+        "6e340b9cffb37a989ca544e6bb780a2c78901d3fb33738768511a30617afa01d",
+        "b8244d028981d693af7b456af8efa4cad63d282e19ff14942c246e50d9351d22\
+704a802a71c3580b6370de4ceb293c324a8423342557d4e5c38438f0e36910ee",
+    ),
+    (
+        65_536,
+        "4b640d85ab3ba30fd02c9fc9db4a8928f416322ad27022ea58a65aaee68a4df2",
+        "ca073ef2daf10b6e3b761d5db007b8f609c7de85419ed2319fdfd35cc4c4e1f7\
+feb61e5618d9d574552b7e2788d674d7144ea2062b1500173528afb3352e55a4",
+    ),
+    (
+        65_537,
+        "237356e18b503616912abb8ffaed3a72591e397d4ac294c4637917d48a3f529d",
+        "40224346b91b835ee1ed51d2c849bc6701ea8d969c8038bea206d19118ef30ec\
+5a37d52330d38ef3c8938fc86319dc9869fc65935223753c54535abc8980bac3",
+    ),
+];
+
+/// A reader of bytes in memory that gives at most so many at once. Its first calls succeed, and all
+/// later ones fail.
+struct Pieces {
+    bytes: Vec<u8>,
+    at: usize,
+    piece: usize,
+    calls: u64,
+}
+
+impl Drop for Pieces {
+    fn drop(self) {
+        let Pieces {
+            bytes,
+            at,
+            piece,
+            calls,
+        } = self;
+    }
+}
+
+impl Read for Pieces {
+    fn read(&mut self, room: &mut [u8]) -> io::Result<usize> {
+        if self.calls == 0 {
+            return Err(io::Error::from(ErrorKind::ConnectionReset));
+        }
+        self.calls -= 1;
+        let rest = self.bytes.get(self.at..).unwrap_or(&[]);
+        let count = rest.len().min(room.len()).min(self.piece);
+        room[..count].copy_from_slice(&rest[..count]);
+        self.at = self.at.saturating_add(count);
+        Ok(count)
+    }
+}
+
+/// The reader of so many bytes of the pattern, which goes through 0 to 250 again and again.
+fn reader_of(alloc: Global, count: usize, piece: usize, calls: u64) -> Result<Pieces, AllocError> {
+    let mut bytes = Vec::with_capacity(alloc, count)?;
+    for place in 0..count {
+        bytes.push((place % 251) as u8)?;
+    }
+    Ok(Pieces {
+        bytes,
+        at: 0,
+        piece,
+        calls,
+    })
+}
+
+/// Both digests of at most so many bytes.
+fn both(up_to: u64) -> Need {
+    Need {
+        up_to,
+        sha256: true,
+        sha512: true,
+    }
+}
+
+/// Whether the measure has this length and both digests, in lower case.
+fn is(
+    alloc: Global,
+    measure: &Measure,
+    length: usize,
+    digests: (&str, &str),
+) -> Result<bool, AllocError> {
+    let (Some(sha256), Some(sha512)) = (measure.sha256, measure.sha512) else {
+        return Ok(false);
+    };
+    let sha256 = hex::encode(alloc, sha256.as_slice())?;
+    let sha512 = hex::encode(alloc, sha512.as_slice())?;
+    Ok(
+        measure.length == length as u64
+            && sha256.as_str() == digests.0
+            && sha512.as_str() == digests.1,
+    )
+}
+
+/// Whether all lengths are measured right by pieces of that size, where `more` bytes than there are
+/// may be read.
+fn are_right(alloc: Global, piece: usize, more: u64) -> Result<bool, Fail> {
+    for (count, sha256, sha512) in DIGESTS {
+        let mut reader = reader_of(alloc, count, piece, u64::MAX)?;
+        let need = both((count as u64).saturating_add(more));
+        let measure = Measure::of_reader(alloc, need, &mut reader)?;
+        if !is(alloc, &measure, count, (sha256, sha512))? {
+            return Ok(false);
+        }
+    }
+    Ok(true)
+}
+
+#[test]
+fn pieces_of_any_size_are_measured(rt: HostRuntime) -> Result<(), Fail> {
+    for piece in [1_000, 32_768, 65_535, 65_536, 65_537, 100_000] {
+        assert!(rt; are_right(rt.alloc(), piece, 0)?, "{piece}");
+        assert!(rt; are_right(rt.alloc(), piece, 1)?, "{piece}");
+        assert!(rt; are_right(rt.alloc(), piece, 100_000)?, "{piece}");
+    }
+    Ok(())
+}
+
+/// Whether no more than `up_to` bytes of 65,537 are read and measured, as the row of that number
+/// says.
+fn is_cut(alloc: Global, row: usize) -> Result<bool, Fail> {
+    let Some((up_to, sha256, sha512)) = DIGESTS.get(row) else {
+        return Ok(false);
+    };
+    let mut reader = reader_of(alloc, 65_537, 100_000, u64::MAX)?;
+    let measure = Measure::of_reader(alloc, both(*up_to as u64), &mut reader)?;
+    Ok(is(alloc, &measure, *up_to, (sha256, sha512))? && reader.at == *up_to)
+}
+
+#[test]
+fn no_more_is_read_than_is_needed(rt: HostRuntime) -> Result<(), Fail> {
+    for row in 0..4 {
+        assert!(rt; is_cut(rt.alloc(), row)?, "{row}");
+    }
+    Ok(())
+}
+
+/// The length that is measured of so many bytes where the first calls of the reader succeed, or the
+/// kind of its failure.
+fn length_after(
+    alloc: Global,
+    (count, piece, up_to): (usize, usize, u64),
+    calls: u64,
+) -> Result<Result<u64, ErrorKind>, Fail> {
+    let mut reader = reader_of(alloc, count, piece, calls)?;
+    Ok(match Measure::of_reader(alloc, both(up_to), &mut reader) {
+        Ok(measure) => Ok(measure.length),
+        Err(error) => Err(error.kind()),
+    })
+}
+
+/// Whether a measure needs exactly so many calls of the reader, and fails at each of them.
+fn takes(alloc: Global, row: (usize, usize, u64), calls: u64, length: u64) -> Result<bool, Fail> {
+    for fewer in 0..calls {
+        if length_after(alloc, row, fewer)? != Err(ErrorKind::ConnectionReset) {
+            return Ok(false);
+        }
+    }
+    Ok(length_after(alloc, row, calls)? == Ok(length))
+}
+
+/// Rows of how many bytes there are, how many the reader gives at once, and how many are read at
+/// most; and then of how many calls that takes, and how many bytes are measured. One call more finds
+/// the end, unless all is read that may be. No more than 65,536 bytes are taken at once.
+#[test]
+fn measures_fail_at_each_read(rt: HostRuntime) -> Result<(), Fail> {
+    let rows = [
+        ((0, 100_000, 0), 0, 0),
+        ((0, 100_000, 1), 1, 0),
+        ((1, 100_000, 0), 0, 0),
+        ((1, 100_000, 1), 1, 1),
+        ((1, 100_000, 2), 2, 1),
+        ((1, 100_000, u64::MAX), 2, 1),
+        ((65_536, 100_000, 65_536), 1, 65_536),
+        ((65_536, 100_000, 65_537), 2, 65_536),
+        ((65_536, 40_000, 65_537), 3, 65_536),
+        ((65_537, 100_000, 65_536), 1, 65_536),
+        ((65_537, 100_000, 65_537), 2, 65_537),
+        ((65_537, 100_000, 65_538), 3, 65_537),
+        ((65_537, 65_535, 65_538), 3, 65_537),
+    ];
+    for (row, calls, length) in rows {
+        assert!(rt; takes(rt.alloc(), row, calls, length)?, "{calls} {length}");
+    }
+    Ok(())
+}
+
+#[test]
+fn only_wanted_digests_are_made(rt: HostRuntime) -> Result<(), Fail> {
+    for (sha256, sha512) in [(false, false), (true, false), (false, true), (true, true)] {
+        let need = Need {
+            up_to: 2,
+            sha256,
+            sha512,
+        };
+        let mut reader = reader_of(rt.alloc(), 1, 1, 2)?;
+        let measure = Measure::of_reader(rt.alloc(), need, &mut reader)?;
+        assert_eq!(rt; measure.length, 1);
+        assert_eq!(rt; measure.sha256.is_some(), sha256);
+        assert_eq!(rt; measure.sha512.is_some(), sha512);
+    }
+    Ok(())
+}
