@@ -217,7 +217,7 @@ end ready
 ok \"a\" 1 \"targets\"
 ok \"b\" 2 \"targets\"
 ok \"a\" 1 \"targets\"
-no \"d\" NotListed
+no \"d\" NotFound
 ";
 
 /// Whether so many threads read the files of these names once, once and never.
