@@ -104,7 +104,7 @@ Nothing is read of the targets without a path, for one that isn't listed, or whe
   $ failing 5 1 new d
   root 1
   end ready
-  no "d" NotListed
+  no "d" NotFound
   [1]
   $ remove targets/b
   $ failing 5 1 new b
