@@ -178,8 +178,8 @@ fn takes(alloc: Global, row: (usize, usize, u64), calls: u64, length: u64) -> Re
 }
 
 /// Rows of how many bytes there are, how many the reader gives at once, and how many are read at
-/// most; and then of how many calls that takes, and how many bytes are measured. One call more finds
-/// the end, unless all is read that may be. No more than 65,536 bytes are taken at once.
+/// most; and then of how many calls that takes, and how many bytes are measured. One more call
+/// finds the end, unless all is read that may be. No more than 65,536 bytes are taken at once.
 #[test]
 fn measures_fail_at_each_read(rt: HostRuntime) -> Result<(), Fail> {
     let rows = [

@@ -33,8 +33,8 @@ pub struct Cycles<'a> {
 }
 
 /// Replays what the words name: reads the moment, then the state file, and then the folders, as
-/// [`replay_from`] does. If one of them fails, nothing was stored or printed. If out of memory or by
-/// an output error, that holds too, or the last state was stored whole. What is stored for other
+/// [`replay_from`] does. If one of them fails, nothing was stored or printed. If out of memory or
+/// by an output error, that holds too, or the last state was stored whole. What is stored for other
 /// paths stays.
 pub fn replay<
     R: Threads + Wait + Sync,
