@@ -67,8 +67,8 @@ pub fn verify<R: Threads + Wait + Sync, S: System, M: Folder, T: Folder + Sync, 
 /// Of the metadata folder, files whose names end in `.json` are loaded, at most 5,000,001 bytes of
 /// each. Of the target folder the names are listed. After the searches each target file that they
 /// found is read once, in pieces, no further than the greatest length that is listed of it and one
-/// byte, by `start.workers` threads. Status, lines and state are those of the workflow for all files
-/// of which the same was seen, whatever else they have.
+/// byte, by `start.workers` threads. Status, lines and state are those of the workflow for all
+/// files of which the same was seen, whatever else they have.
 ///
 /// On failure either nothing was stored or printed, or the new state was stored whole; the latter
 /// only if out of memory or by an output error. What is stored for other paths stays. Waits for its
