@@ -6,7 +6,7 @@ use Rattle.examine.specs.Checks.{Files}
 use Rattle.ahead.specs.Bound.{bytes_of, bytes_read}
 use Rattle.ahead.specs.declared.document.Document.{Document}
 
--- one more document, whose file has that many bytes, or none where there is no memory for it
+-- one more document, whose file has that many bytes, or none if there is no memory for it
 pub pushed : (done : Bool) (files : Files) (ds es : List Document) (d : Document) (name bytes : List ℕ) (read left most : ℕ) → es ≡ (if done then ds ++ d ∷ [] else ds)
     → d.file ≡ name → files name ≡ Some bytes → read ≡ length bytes → read ≤ left → bytes_read files ds + left ≤ most → bytes_read files es + (left - read) ≤ most
 pushed true files ds es d name bytes read left most is named there size fits bound =

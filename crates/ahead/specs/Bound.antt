@@ -1,11 +1,11 @@
--- How much of a repository is read ahead.
+-- The bound on what is read in advance.
 use Rattle.std.specs.Prelude.{ℕ, List, length}
 use Rattle.std.specs.List.{sum_by}
 use Rattle.std.specs.Option.{option_map_or}
 use Rattle.examine.specs.Checks.{Files}
 use Rattle.ahead.specs.declared.document.Document.{Document}
 
--- the bytes of the file that a document is of
+-- number of bytes of a document's file
 abbrev pub bytes_of : Files → Document → ℕ
 bytes_of files document = option_map_or length (files document.file) 0
 

@@ -20,14 +20,18 @@ const MOST_BYTES: u64 = 4_000_000;
 /// A file that was read, and the number of its document.
 #[derive(Drop)]
 pub(crate) struct ReadFile<A: Reading> {
+    /// The number of the document.
     pub document: usize,
+    /// What was read.
     pub reading: A,
 }
 
 /// A role's targets file.
 #[derive(Drop)]
 pub(crate) struct RoleFile {
+    /// The number of the document.
     pub document: usize,
+    /// What was read.
     pub targets: Targets,
     /// The delegations that are followed for some wanted path: the place of each in the file, and
     /// the name of its bin if the file has bins.
@@ -36,10 +40,12 @@ pub(crate) struct RoleFile {
     pub visitor: Option<usize>,
 }
 
-/// Where a wanted path is listed: the place of the file, and the target's place in it.
+/// Where a wanted path is listed.
 #[derive(Clone, Copy)]
 pub(crate) struct ListedAt {
+    /// The place of the file.
     pub file: usize,
+    /// The place of the target in the file.
     pub target: usize,
 }
 
@@ -47,8 +53,11 @@ pub(crate) struct ListedAt {
 /// are listed. The place of a role whose file wasn't read is None.
 #[derive(Drop)]
 pub(crate) struct RoleFiles {
+    /// The files.
     pub files: Vec<RoleFile>,
+    /// The place of each file by its role's name, or None if the file wasn't read.
     pub places: BTreeMap<String, Option<usize>>,
+    /// Where wanted paths are listed.
     pub listed: Vec<ListedAt>,
 }
 
@@ -65,18 +74,26 @@ pub struct Ahead {
 /// that a search may visit, and the most checks that a plan may have.
 #[derive(Clone, Copy)]
 pub struct Scope<'a> {
+    /// The allocator.
     pub alloc: Global,
+    /// The trusted state of the run.
     pub trusted: &'a Trusted,
+    /// The repository.
     pub repo: &'a Repo,
+    /// The wanted paths.
     pub wanted: &'a [String],
+    /// Maximum number of roles that a search visits.
     pub roles: usize,
+    /// Maximum number of checks of the plan.
     pub most: usize,
 }
 
 /// The files that determine the name of a role's file: the last root and the snapshot.
 #[derive(Clone, Copy)]
 pub(crate) struct TopLevel<'a> {
+    /// The last root.
     pub root: &'a Root,
+    /// The snapshot.
     pub snapshot: &'a Snapshot,
 }
 
@@ -101,7 +118,7 @@ pub fn read_ahead(scope: &Scope) -> Result<(Ahead, Vec<Document>), NoMemory>
     Ok((ahead, reader.documents))
 }
 
-/// The last of the roots.
+/// Returns the last of the roots.
 pub(crate) fn last_root<'b>(trusted: &'b Trusted, roots: &'b [ReadFile<Root>]) -> &'b Root {
     match roots.last() {
         Some(read) => &read.reading,
@@ -112,9 +129,13 @@ pub(crate) fn last_root<'b>(trusted: &'b Trusted, roots: &'b [ReadFile<Root>]) -
 /// Reads files within the bound, and keeps the document of each.
 #[derive(Drop)]
 pub(crate) struct Reader<'a> {
+    /// What to read for.
     pub scope: Scope<'a>,
+    /// The documents of the files that were read.
     pub documents: Vec<Document>,
+    /// Number of bytes that may still be read.
     pub bytes_left: u64,
+    /// The steps that are left.
     pub steps: Steps,
     ghost bound: { bytes_read (file_in scope.repo.now.metadata) documents.items + bytes_left
         ≤ 4000000 },
@@ -168,7 +189,7 @@ impl<'a> Reader<'a> {
         Ok(roots)
     }
 
-    /// Reads the snapshot under the name that the timestamp's listing gives it.
+    /// Reads the snapshot under the name that follows from the timestamp's listing.
     fn read_snapshot(
         &mut self,
         root: &Root,
@@ -182,7 +203,7 @@ impl<'a> Reader<'a> {
         self.read_file(name.as_str())
     }
 
-    /// The place of a role's file. Reads the file unless that was tried before.
+    /// Returns the place of a role's file. Reads the file unless that was tried before.
     pub(crate) fn place_of_role(
         &mut self,
         top: &TopLevel,

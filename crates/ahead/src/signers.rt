@@ -16,7 +16,9 @@ const MOST_IDS: usize = 262_144;
 pub struct Signers<'a> {
     /// The number of the document.
     pub document: usize,
+    /// The keys of the file that lists the role.
     pub ring: &'a KeyRing,
+    /// The listed key ids, and the threshold.
     pub role: &'a RoleKeys,
 }
 
@@ -43,7 +45,7 @@ pub fn signers_of<'b>(scope: &Scope<'b>, ahead: &'b Ahead) -> Result<Vec<Signers
     Ok(all)
 }
 
-/// How many of the first signers list no more ids together than may be looked up.
+/// Returns how many of the first signers list no more ids together than may be looked up.
 fn count_within(all: &[Signers]) -> usize {
     let mut ids: usize = 0;
     for (place, signers) in all.iter().enumerate() {
@@ -127,7 +129,7 @@ fn add_delegated<'b>(
     Ok(())
 }
 
-/// The document of a role's file, if it was read.
+/// Returns the document of a role's file, if it was read.
 fn document_of(roles: &RoleFiles, role: &str) -> Option<usize> {
     let place = (*roles.places.get(role)?)?;
     Some(roles.files.get(place)?.document)

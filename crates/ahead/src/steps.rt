@@ -1,4 +1,4 @@
-//! The bound of the time that is spent on reading files and matching wanted paths in advance.
+//! The bound on the time for reading files and matching wanted paths in advance.
 
 use deleg::{Edge, HashedPath, matches};
 use meta::{HashPrefix, PathPattern, Paths};
@@ -6,32 +6,32 @@ use meta::{HashPrefix, PathPattern, Paths};
 /// Maximum number of steps of a run, each of about a nanosecond.
 const MOST_STEPS: u64 = 100_000_000;
 
-/// The steps of a JSON value that is read. A value of few bytes costs far more than its bytes.
+/// The steps to read a JSON value. A value of few bytes costs far more than its bytes.
 const VALUE: u64 = 200;
 
-/// The steps of a delegation that is looked at.
+/// The steps to look at a delegation.
 const LOOK: u64 = 50;
 
-/// The steps of a delegation that is followed.
+/// The steps to follow a delegation.
 const FOLLOW: u64 = 500;
 
-/// The steps of a prefix that is compared.
+/// The steps to compare a prefix.
 const PREFIX: u64 = 10;
 
-/// The steps that are left. Nobody has verified the files that are read ahead, so they must not
-/// decide how long that takes.
+/// The steps that are left. The files that are read in advance are unverified, so they must not
+/// determine how long that takes.
 #[derive(Drop)]
 pub(crate) struct Steps {
     left: u64,
 }
 
 impl Steps {
-    /// The steps of a run.
+    /// Returns the steps of a run.
     pub fn new() -> Steps {
         Steps { left: MOST_STEPS }
     }
 
-    /// Whether no steps are left.
+    /// Returns whether no steps are left.
     pub fn are_spent(&self) -> bool {
         self.left == 0
     }
@@ -50,12 +50,12 @@ impl Steps {
         self.spend((values as u64).saturating_mul(VALUE))
     }
 
-    /// Spends the steps of a delegation that is followed.
+    /// Spends the steps to follow a delegation.
     pub fn follow(&mut self) {
         self.spend(FOLLOW);
     }
 
-    /// Whether the delegation is for the path. False if too few steps are left.
+    /// Returns whether the delegation is for the path. Returns false if too few steps are left.
     pub fn is_for(&mut self, edge: &Edge, path: &HashedPath) -> bool {
         if !self.spend(LOOK) {
             return false;
@@ -92,13 +92,13 @@ impl Steps {
     }
 }
 
-/// Whether a value may begin after this byte.
+/// Returns whether a value may begin after this byte.
 fn begins_value(byte: u8) -> bool {
     matches!(byte, b'[' | b'{' | b',')
 }
 
-/// The steps of a pattern: the characters before its first `*` are compared once, and those after
-/// it at most once at each place of the path.
+/// Returns the steps of a pattern: the characters before its first `*` are compared once, and those
+/// after it at most once at each place of the path.
 fn steps_of(pattern: &str, path: &str) -> u64 {
     let whole = pattern.len() as u64;
     let after = match pattern.find('*') {

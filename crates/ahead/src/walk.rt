@@ -98,7 +98,7 @@ impl Reader<'_> {
         Ok(())
     }
 
-    /// The name of the role to visit next, if any.
+    /// Returns the name of the role to visit next, if any.
     fn next_role(
         &mut self,
         walk: &mut Walk,
@@ -117,8 +117,8 @@ impl Reader<'_> {
         Ok(None)
     }
 
-    /// The name of the next role to which this file leads, if any. Puts the file back on the
-    /// stack, or clears the stack if the delegation to the role is terminating.
+    /// Returns the name of the next role to which this file leads, if any. Puts the file back on
+    /// the stack, or clears the stack if the delegation to the role is terminating.
     fn next_in(
         &mut self,
         walk: &mut Walk,
@@ -177,7 +177,7 @@ impl Reader<'_> {
     }
 }
 
-/// A delegation that is passed, unless the walk ends there.
+/// Returns the outcome of a delegation that is skipped, unless the walk ends there.
 fn passed_unless(ends: bool) -> Tried {
     if ends { Tried::Ends } else { Tried::Passed }
 }
@@ -194,7 +194,7 @@ fn put_back(walk: &mut Walk, frame: Frame, next: usize, terminating: bool) -> Re
     Ok(())
 }
 
-/// The number of the file's delegations.
+/// Returns the number of the file's delegations.
 fn edge_count_of(frame: &Frame, roles: &RoleFiles) -> usize {
     match roles.files.get(frame.file) {
         Some(file) => edge_count(&file.targets, frame.bin.as_str()),
@@ -247,7 +247,7 @@ fn enter(
     Ok(true)
 }
 
-/// Whether the file has bins whose names are too long.
+/// Returns whether the file has bins whose names are too long.
 fn has_long_names(targets: &Targets) -> bool {
     match targets.delegations() {
         Some(delegations) => match &delegations.roles {
@@ -258,7 +258,8 @@ fn has_long_names(targets: &Targets) -> bool {
     }
 }
 
-/// The place of the path among the targets of a file, which are in the order of their paths.
+/// Returns the place of the path among the targets of a file, which are in the order of their
+/// paths.
 fn listed_at(targets: &Targets, path: &str) -> Option<usize> {
     targets
         .targets()
@@ -266,7 +267,7 @@ fn listed_at(targets: &Targets, path: &str) -> Option<usize> {
         .ok()
 }
 
-/// Whether the walk has visited the role.
+/// Returns whether the walk has visited the role.
 fn is_visited(walk: &Walk, role: &str, roles: &RoleFiles) -> bool {
     match roles.places.get(role) {
         Some(Some(place)) => roles

@@ -13,7 +13,7 @@ use std::alloc::Global;
 /// only, so a run waits at most for the digest of this many bytes.
 const MOST_DIGESTED: u64 = 16_000_000;
 
-/// The delegations of a file that are followed.
+/// Returns the delegations of a file that are followed.
 pub(crate) fn edges_in<'a>(alloc: Global, file: &'a RoleFile) -> Result<Vec<Edge<'a>>, NoMemory> {
     let mut edges = Vec::new(alloc);
     for (place, bin) in file.followed.iter() {
@@ -29,13 +29,16 @@ pub(crate) fn edges_in<'a>(alloc: Global, file: &'a RoleFile) -> Result<Vec<Edge
 pub struct Digest<'a> {
     /// The target's path.
     pub file: Text,
+    /// The algorithm of the digest.
     pub algorithm: Algorithm,
+    /// The bytes of the target's file.
     pub bytes: &'a [u8],
+    /// The listed digest, as bytes.
     pub digest: Vec<u8>,
 }
 
-/// The listed digests of the wanted targets whose files are there with the listed length, up to
-/// 16,000,000 bytes each. Stops once there are `scope.most`. Fails only if out of memory.
+/// Returns the listed digests of the wanted targets whose files are there with the listed length,
+/// up to 16,000,000 bytes each. Stops once there are `scope.most`. Fails only if out of memory.
 pub fn digests<'a>(scope: &Scope<'a>, ahead: &Ahead) -> Result<Vec<Digest<'a>>, NoMemory> {
     let consistent = last_root(scope.trusted, ahead.roots.as_slice()).consistent();
     let mut found = Vec::new(scope.alloc);

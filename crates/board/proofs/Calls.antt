@@ -76,7 +76,7 @@ same_seat t t' v v' s at table view = cc
 pub keeps_seat : (t t' : TableId) (v w : View) (s : SeatValue) → ◌≡◌ {A = SeatValue} (record { board = t; view = v }) s → t' ≡ t → HasAll v w → Keeps s (record { board = t'; view = w })
 keeps_seat t t' v w s at table all = keeps_all _ _ (table ∙ ap (λ (z : SeatValue). z.board) at) (subst (λ (z : SeatValue). HasAll z.view w) at all)
 
--- the answer of a look and the word
+-- the result of a look and the word
 pub verdict_word : (l : Look) → IsVerdict l → IsDecided (word_of_look l)
 verdict_word l v = ⊎_elim (λ (e : l ≡ Valid). inl (ap word_of_look e)) (λ (e : l ≡ Invalid). inr (ap word_of_look e)) v
 
@@ -110,11 +110,11 @@ kept_looked me me' held published j l seen same k = by_word l seen same
     by_word Valid seen same = after (seen (inl refl))
     by_word Invalid seen same = after (seen (inr refl))
 
--- the verdict of the check that the seat has the right to
+-- the verdict of the check that the seat has claimed
 pub told_of : (truths : List Bool) (right : Option ℕ) (verdict : Bool) (j : ℕ) → IfSome right (λ i. verdict ≡ truth truths i) → right ≡ Some j → verdict ≡ truth truths j
 told_of truths right verdict j told e = subst (λ o. IfSome o (λ i. verdict ≡ truth truths i)) e told
 
--- what a seat is known to keep after a look, a claim and a publication
+-- what a seat keeps after a look, a claim and a publication
 pub ruleset looks = (kept_looked, keeps_all)
 
 pub ruleset claims = (kept_same, kept_holding, keeps_all)

@@ -1,4 +1,4 @@
--- Each step keeps the board lawful.
+-- Each step keeps the board's invariant.
 use Rattle.std.proofs.Common.{◌≡◌, ◌≢◌, ◌⊎◌, ℕ, zero, suc, ◌+◌, ◌≤◌, ◌<◌, Bool, true, false, eqb, List, [], ◌∷◌, ◌++◌, length, set, refl, sym, ap, ◌∙◌, subst, inl, inr, ⊎_elim, arith, true≢false, length-set, get_or-set_same}
 use Rattle.std.specs.Prelude.{Some, None, slice_index, ◌↔◌, ◌||◌}
 use Rattle.std.specs.List.{Contains, IsDistinct}
@@ -36,7 +36,7 @@ not_open d = ⊎_elim (λ (e : 0 ≡ 2). absurd (omega arith)) (λ (e : 0 ≡ 3)
 pub not_taken : IsDecided 1 → ⊥
 not_taken d = ⊎_elim (λ (e : 1 ≡ 2). absurd (omega arith)) (λ (e : 1 ≡ 3). absurd (omega arith)) d
 
--- the right after a write to a view
+-- the claim after a write to a view
 holds_set : (views : List View) (id : ℕ) (w : View) (j seat : ℕ) → Holds (set views id w) j seat → ((seat ≡ id) × (w.right ≡ Some j)) ⊎ ((seat ≢ id) × Holds views j seat)
 holds_set views id w j seat (u, at, r) = ⊎_elim (λ (x : (seat ≡ id) × (w ≡ u)). inl (x.0, ap (λ (y : View). y.right) x.1 ∙ r))
     (λ (x : (seat ≢ id) × (get_elem? views seat ≡ some u)). inr (x.0, (u, x.1, r))) (at_set views id seat w u at)
@@ -70,7 +70,7 @@ module _ (truths : List Bool) (words : List ℕ) (views : List View) (l : IsLawf
   pub mine_fits : length v.done ≤ length truths
   mine_fits = at_most v.done (length truths) mine_distinct (λ j c. inside j (λ z. not_open (subst IsDecided z (mine_decided j (inr c)))))
 
-  -- the words stay, and so does the right
+  -- the words stay, and so does the claim
   pub turns : (w : View) → w.right ≡ v.right → ((j : ℕ) → Knows w j → IsDecided (check_word words j)) → ((j : ℕ) → times_done j (set views id w) ≤ 1) → (w.halted ≡ true → stop_word words ≡ 1)
       → IsLawful truths words (set views id w)
   turns w right knows once halted = record {
@@ -122,7 +122,7 @@ each_word F words j n h mine others i = dite (ℕ_discrete i j)
     (λ ne. subst (F i) (sym (words_else words (j + 1) (i + 1) n (λ e. ne (omega arith)))) (others i ne))
 
 module _ (truths : List Bool) (words : List ℕ) (views : List View) (l : IsLawful truths words views) (id : ℕ) (v : View) (at : get_elem? views id ≡ some v) where
-  -- the word of one check changes, which was open or taken by this seat alone
+  -- the word of one check changes, which was open or claimed by this seat
   pub changes : (j : ℕ) → j < length truths → (open_yet : IsDecided (check_word words j) → ⊥) → ((seat : ℕ) → seat ≢ id → Holds views j seat → ⊥)
       → (n : ℕ) → n ≤ 3 → (n ≡ 2 → truth truths j ≡ true) → (n ≡ 3 → truth truths j ≡ false)
       → (w : View) → (n ≡ 1 ↔ (w.right ≡ Some j)) → ((i : ℕ) → i ≢ j → (v.right ≡ Some i → ⊥) × (w.right ≡ Some i → ⊥))
@@ -224,7 +224,7 @@ loads truths s i id me w l = subst (λ (ws : List ℕ). IsLawful truths ws (set 
 unmoved : (truths : List Bool) (s : St) (i id : ℕ) (me : Sat) → get_elem? s.views id ≡ some me.0 → Rule truths s → Rule truths (stepped s i (slice_index s.words i) id me.1 me.0 keeps)
 unmoved truths s i id me at l = loads truths s i id me me.0 (subst (λ (vs : List View). IsLawful truths s.words vs) (sym (set_again s.views id me.0 at)) l)
 
--- what `Allows` asks at one state, where the word i becomes n
+-- what `Allows` requires at one state, if the word i becomes n
 abbrev Next : List Bool → St → ℕ → Sat → ℕ → ℕ → (ℕ → Sat → Type 0) → Type 0
 Next truths s id me i n then = (w : View) × (a : Act (Unit {0})) × Valid s.homes me.1 a × Rule truths (stepped s i n id me.1 w a) × then (slice_index s.words i) (w, carried_after me.1 a)
 

@@ -65,7 +65,7 @@ all_looked v w j Invalid seen same = all_seen v w j (seen (inr refl))
 pub keeps_all : (s t : SeatValue) → t.board ≡ s.board → HasAll s.view t.view → Keeps s t
 keeps_all s t of h = record { board = of; view = h }
 
--- a seat that keeps all is free, or one of the board, as it was
+-- a seat that keeps all is free, or one of the board, unchanged
 pub ruleset frees = (keeps_trans, free_kept)
 
 pub ruleset sits = (keeps_trans, sits_kept)

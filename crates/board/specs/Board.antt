@@ -1,4 +1,4 @@
--- A board at one moment, its seats, and what one step on it tells.
+-- A board at one moment, its seats, and what a seat learns from one step on it.
 use mathlib.Core.Option.{some}
 use lib.ListN.{get_elem?}
 use Rattle.std.specs.Prelude.{Contains, ◌≡◌, ◌↔◌, ◌⊎◌, ℕ, ◌+◌, ◌==◌, ◌≤◌, Bool, true, false, if◌then◌else◌, List, [], ◌∷◌, length, slice_index, slice_index_or, Some, ◌≢◌, ◌++◌, None, ◌||◌, nat_eq, ◌<◌, Option}
@@ -23,21 +23,21 @@ stop_word words = slice_index words 0
 abbrev pub check_word : List ℕ → ℕ → ℕ
 check_word words j = slice_index words (j + 1)
 
--- the word of a check tells a verdict
+-- the word of a check is a verdict
 abbrev pub IsDecided : ℕ → Type 0
 IsDecided word = (word ≡ 2) ⊎ (word ≡ 3)
 
--- how often the check stands in a list
+-- how often the check is in a list
 abbrev pub times : ℕ → List ℕ → ℕ
 times j [] = 0
 times j (i ∷ is) = (if i == j then 1 else 0) + times j is
 
--- how often the check stands in the lists of what the seats did
+-- how often the check is in the lists of what the seats did
 abbrev pub times_done : ℕ → List View → ℕ
 times_done j [] = 0
 times_done j (v ∷ vs) = times j v.done + times_done j vs
 
--- the seat of this number has the right to check j
+-- the seat of this number has claimed check j
 abbrev pub Holds : List View → ℕ → ℕ → Type 0
 Holds views j seat = (v : View) × (get_elem? views seat ≡ some v) × (v.right ≡ Some j)
 
@@ -54,7 +54,7 @@ pub record IsLawful (truths : List Bool) (words : List ℕ) (views : List View) 
   -- a verdict is the truth
   pub valid : (j : ℕ) → check_word words j ≡ 2 → truth truths j ≡ true
   pub invalid : (j : ℕ) → check_word words j ≡ 3 → truth truths j ≡ false
-  -- a check is taken exactly where a seat has the right to it, and one seat alone has it
+  -- a check is taken exactly if a seat has claimed it, and one seat alone has
   pub taken : (j : ℕ) → check_word words j ≡ 1 ↔ ((seat : ℕ) × Holds views j seat)
   pub alone : (j a b : ℕ) → Holds views j a → Holds views j b → a ≡ b
   -- what a seat knows is decided
@@ -66,7 +66,7 @@ pub record IsLawful (truths : List Bool) (words : List ℕ) (views : List View) 
   pub halted : (seat : ℕ) (v : View)
       → get_elem? views seat ≡ some v → v.halted ≡ true → stop_word words ≡ 1
 
--- # What one step on one word of a board tells the seat that takes it.
+-- # What the seat learns that takes one step on one word of a board.
 
 -- ---- what a seat knows after a step
 
@@ -74,11 +74,11 @@ pub record IsLawful (truths : List Bool) (words : List ℕ) (views : List View) 
 abbrev pub newcomer : List Bool → View
 newcomer truths = record { truths = truths; right = None; seen = []; done = []; halted = false }
 
--- it has the right to check j
+-- it has claimed check j
 abbrev pub holding : View → ℕ → View
 holding v j = record v { right = Some j }
 
--- it has no right
+-- it has no claim
 abbrev pub released : View → View
 released v = record v { right = None }
 
@@ -86,7 +86,7 @@ released v = record v { right = None }
 abbrev pub having_seen : View → ℕ → View
 having_seen v j = record v { seen = v.seen ++ j ∷ [] }
 
--- it gave the verdict of check j, and spent its right
+-- it published the verdict of check j, which ends its claim
 abbrev pub having_done : View → ℕ → View
 having_done v j = record v { right = None; seen = v.seen ++ j ∷ []; done = v.done ++ j ∷ [] }
 
@@ -94,12 +94,12 @@ having_done v j = record v { right = None; seen = v.seen ++ j ∷ []; done = v.d
 abbrev pub halting : View → View
 halting v = record v { halted = true }
 
--- it has its own right, and what both have seen and done
+-- it has its own claim, and what both have seen and done
 abbrev pub joined : View → View → View
 joined v w =
     record v { seen = v.seen ++ w.seen; done = v.done ++ w.done; halted = v.halted || w.halted }
 
--- ---- what a step tells
+-- ---- what a step shows
 
 -- a seat of a table that has words alone: what it knows, and no slot
 abbrev pub Sat : Type 0
@@ -113,22 +113,22 @@ AtCheck st P = (j : ℕ) → st.word ≡ j + 1 → P j
 abbrev pub IsCounted : View → Type 0
 IsCounted v = IsDistinct nat_eq v.done × (length v.done ≤ length v.truths)
 
--- a claim gives the right to an open check, which the seat can't have known, and nothing where
+-- a claim succeeds on an open check, which the seat can't have known, and changes nothing if
 -- another word is found
 abbrev pub Claims : Step (Unit {0}) → Sat → ℕ → Sat → Type 0
 Claims st me found me' = AtCheck st (λ j.
     (found ≡ 0 → (me' ≡ (holding me.0 j, me.1)) × ¬ Knows me.0 j) × (found ≢ 0 → me' ≡ me))
 
--- a verdict is given
+-- a verdict is published
 abbrev pub Publishes : Step (Unit {0}) → Sat → ℕ → Sat → Type 0
 Publishes st me stored me' = AtCheck st (λ j. (me' ≡ (having_done me.0 j, me.1)) × IsCounted me'.0)
 
--- the right is given back
+-- the claim is released
 abbrev pub GivesBack : Step (Unit {0}) → Sat → ℕ → Sat → Type 0
 GivesBack st me stored me' = me' ≡ (released me.0, me.1)
 
--- a look at check j: a verdict is the truth, what the seat has the right to is taken, and what it
--- knows is decided
+-- a look at check j: a verdict is the truth, what the seat has claimed is taken, and what it knows
+-- is decided
 pub record Sees (me : Sat) (found : ℕ) (me' : Sat) (j : ℕ) : Type 0 where
   pub word : found ≤ 3
   pub valid : found ≡ 2 → truth me.0.truths j ≡ true
@@ -141,7 +141,7 @@ pub record Sees (me : Sat) (found : ℕ) (me' : Sat) (j : ℕ) : Type 0 where
 abbrev pub Looks : Step (Unit {0}) → Sat → ℕ → Sat → Type 0
 Looks st me found me' = AtCheck st (Sees me found me')
 
--- a stop is told
+-- the work is stopped
 abbrev pub Stops : Step (Unit {0}) → Sat → ℕ → Sat → Type 0
 Stops st me stored me' = me' ≡ (halting me.0, me.1)
 
@@ -172,7 +172,7 @@ pub record SeatValue : Type 0 where
 abbrev pub IsSeatOf : BoardValue → SeatValue → Type 0
 IsSeatOf b s = (s.board ≡ b.id) × (s.view.truths ≡ b.truths)
 
--- the seat is one of this board, and has no right
+-- the seat is one of this board, and has no claim
 pub record IsFree (b : BoardValue) (s : SeatValue) : Type 0 where
   pub seat : IsSeatOf b s
   pub right : s.view.right ≡ None
@@ -181,7 +181,7 @@ pub record IsFree (b : BoardValue) (s : SeatValue) : Type 0 where
 abbrev pub GoesOn : List ℕ → List ℕ → Type 0
 GoesOn xs ys = (more : List ℕ) × (ys ≡ xs ++ more)
 
--- the later view has all that the earlier one had, but for its right
+-- the later view has all that the earlier one had, but for its claim
 pub record HasAll (v w : View) : Type 0 where
   pub truths : w.truths ≡ v.truths
   pub seen : GoesOn v.seen w.seen
@@ -194,7 +194,7 @@ pub record Keeps (s t : SeatValue) : Type 0 where
   pub view : HasAll s.view t.view
 
 -- what holds of each seat's fields: it has no slot, the check that it holds is the one that it has
--- the right to, and its count is the length of its list
+-- claimed, and its count is the length of its list
 pub record IsKept (me : Sat) (held : Option ℕ) (published : ℕ) : Type 0 where
   pub no_slot : me.1 ≡ []
   pub holds : held ≡ me.0.right
@@ -212,13 +212,13 @@ no_table =
 abbrev pub no_seat : SeatValue
 no_seat = record { view = newcomer []; board = no_table }
 
--- # What a look answers.
+-- # The result of a look.
 
--- the look tells a verdict
+-- the look shows a verdict
 abbrev pub IsVerdict : Look → Type 0
 IsVerdict l = (l ≡ Valid) ⊎ (l ≡ Invalid)
 
--- the word of a check that is seen so
+-- the word of a check that a look shows like this
 abbrev pub word_of_look : Look → ℕ
 word_of_look Open = 0
 word_of_look Taken = 1

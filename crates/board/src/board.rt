@@ -18,7 +18,7 @@ use cjson::NoMemory;
 use std::alloc::Global;
 use std::marker::Model;
 
-/// What a seat is to the table.
+/// The table's part of a seat.
 type Inner = atomic_table::Seat<(), View>;
 
 /// The word that says whether the work was stopped. Word `j + 1` is that of check `j`.
@@ -46,9 +46,9 @@ impl Model for Board {
 }
 
 impl Board {
-    /// A board of these checks, all open, and its first seat, which knows nothing and has no right.
-    /// No check is decided here, and the board borrows none. It refuses only for want of memory, of
-    /// which it takes one word of 8 bytes for each check and one more.
+    /// Returns a board of these checks, all open, and its first seat, which knows nothing and has
+    /// no claim. Decides no check, and doesn't borrow the checks. Allocates one word of 8 bytes for
+    /// each check and one more. Fails only if out of memory.
     pub fn new<C: Checks>(alloc: Global, checks: &C) -> Result<(Board, Seat), NoMemory>
         ensures truths { IfOk result (λ r. r.0.truths ≡ C.truths checks.now) }
         ensures seat { IfOk result (λ r. IsSeatOf r.0 r.1) }
@@ -64,9 +64,9 @@ impl Board {
         Ok((Board { table }, seat))
     }
 
-    /// What stands at check `j`. A verdict is the truth of the check, and the seat remembers that
-    /// it saw one. It finds `Taken` where it has the right itself, and a verdict where it saw or
-    /// gave one before.
+    /// Returns what the board has for check `j`. A verdict is the truth of the check, and the seat
+    /// records that it saw one. The result is `Taken` if the seat itself has claimed the check, and
+    /// a verdict if the seat saw or gave one before.
     #[tactic(auto, using(crate::proofs::Calls::looks))]
     pub fn look(&self, seat: &mut Seat, j: usize) -> Look
         requires seat { IsSeatOf self.now seat.old }
@@ -85,9 +85,8 @@ impl Board {
         Look::of_word(found)
     }
 
-    /// Takes check `j` where it is open, and tells whether it did. Then the seat has the right to
-    /// the check, and no other seat has until it is given back. It is tried once, by a seat that
-    /// has no right.
+    /// Claims check `j` if it is open, and returns whether it did. Then no other seat can claim the
+    /// check until it is released. The seat must have no claim. Tries only once.
     #[tactic(auto, using(crate::proofs::Calls::claims))]
     pub fn claim(&self, seat: &mut Seat, j: usize) -> bool
         requires seat { IsSeatOf self.now seat.old }
@@ -108,8 +107,8 @@ impl Board {
         true
     }
 
-    /// Gives the verdict of the check that the seat has the right to, and spends the right. The
-    /// verdict has to be the truth. From then on every look finds it.
+    /// Publishes the verdict of the check that the seat has claimed, and ends the claim. The
+    /// verdict must be the truth. From then on every look finds it.
     #[tactic(auto, using(crate::proofs::Calls::publishes))]
     pub fn publish(&self, seat: &mut Seat, verdict: bool)
         requires seat { IsSeatOf self.now seat.old }
@@ -128,7 +127,7 @@ impl Board {
         seat.published += 1;
     }
 
-    /// Opens the check again that the seat has the right to, undecided, and spends the right.
+    /// Releases the check that the seat has claimed, which is open again.
     #[tactic(auto, using(crate::proofs::Calls::kept_released))]
     pub fn give_back(&self, seat: &mut Seat)
         requires seat { IsSeatOf self.now seat.old }
@@ -143,7 +142,7 @@ impl Board {
         seat.held = None;
     }
 
-    /// Tells all seats to stop, for good. No check is changed by it.
+    /// Stops the work of all seats, for good. Changes no check.
     pub fn stop(&self, seat: &mut Seat)
         requires seat { IsSeatOf self.now seat.old }
         ensures board { seat.new.board ≡ seat.old.board }
@@ -154,7 +153,7 @@ impl Board {
         shared.store::<Stop>(&mut seat.inner, STOP, 1);
     }
 
-    /// Whether some seat said to stop. It stays true once a seat has found it so.
+    /// Returns whether some seat stopped the work. Stays true once the seat has found it so.
     #[tactic(auto, using(crate::proofs::Keeps::notices))]
     pub fn is_stopped(&self, seat: &mut Seat) -> bool
         requires seat { IsSeatOf self.now seat.old }
@@ -168,8 +167,8 @@ impl Board {
         shared.load::<Notice>(&mut seat.inner, STOP) == 1
     }
 
-    /// A second seat of the board, which knows nothing and has no right. The first one is given
-    /// back as it was.
+    /// Returns the seat unchanged, and a second seat of the board, which knows nothing and has no
+    /// claim.
     pub fn split(&self, seat: Seat) -> (Seat, Seat)
         requires free { IsFree self.now seat }
         ensures first { result.0 ≡ seat }
@@ -196,8 +195,8 @@ impl Board {
         (first, second)
     }
 
-    /// One seat that has seen and done what both had, the first one's before the second one's. It
-    /// knows of a stop where either did.
+    /// Returns one seat that has seen and done what both had, the first one's before the second
+    /// one's. It knows of a stop if either did.
     pub fn join(&self, first: Seat, second: Seat) -> Seat
         requires first { IsFree self.now first }
         requires second { IsFree self.now second }

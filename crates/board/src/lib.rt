@@ -1,6 +1,6 @@
 //! A board of checks that several threads decide, each check once. Each thread has a seat. A seat
 //! claims a check and publishes its verdict, or looks at what other seats published, and a verdict
-//! that is seen is the truth. No call waits, and none after [`Board::new`] takes memory.
+//! that is seen is the truth. No call waits, and none after [`Board::new`] allocates.
 #![tactic(auto)]
 
 mod board;

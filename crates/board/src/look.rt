@@ -1,9 +1,9 @@
-//! What a seat finds at a check.
+//! The result of a look at a check.
 
 ghost use Rattle.std.specs.Prelude.{◌≡◌, ◌≤◌};
 ghost use Rattle.board.specs.Board.{word_of_look};
 
-/// What the word of a check says.
+/// The values of a check's word.
 pub(crate) const OPEN: u64 = 0;
 
 pub(crate) const TAKEN: u64 = 1;
@@ -12,13 +12,13 @@ pub(crate) const VALID: u64 = 2;
 
 pub(crate) const INVALID: u64 = 3;
 
-/// What a seat finds at a check. Only a verdict stays what it is: an open check may be taken, and a
-/// taken one opened or decided, before the caller reads the answer.
+/// The result of a look at a check. Only a verdict is final: an open check may be claimed, and a
+/// taken one released or decided, before the caller reads the result.
 #[derive(Clone, Copy, PartialEq, Eq, Debug)]
 pub enum Look {
-    /// No seat has the right to the check, and it has no verdict.
+    /// No seat has claimed the check, and it has no verdict.
     Open,
-    /// Some seat has the right to the check.
+    /// Some seat has claimed the check.
     Taken,
     /// The check is true.
     Valid,
@@ -27,7 +27,7 @@ pub enum Look {
 }
 
 impl Look {
-    /// What a word of a check says.
+    /// Returns the meaning of a check's word.
     pub(crate) fn of_word(word: u64) -> Look
         requires { word ≤ 3 }
         ensures { word_of_look result ≡ word }

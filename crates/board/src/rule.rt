@@ -1,10 +1,10 @@
-//! The rule of a board's words, and what each step tells.
+//! The rule of a board's words, and what each step shows.
 
 use crate::truths::Truths;
 use crate::view::View;
 use atomic_table::{Join, Play, Split, TableRule};
 
-/// What holds of a board's words and seats between any two steps.
+/// The invariant of a board's words and seats between any two steps.
 pub struct Rule;
 
 impl TableRule<(), View, Truths> for Rule {
@@ -79,7 +79,7 @@ impl Play<(), View> for Count {
     ghost then = { Counts };
 }
 
-/// A seat leaves all to the first of two, and the second knows nothing; or two seats become one.
+/// A seat is split into itself and one that knows nothing, or two seats become one.
 pub struct Seats;
 
 impl Split<View> for Seats {

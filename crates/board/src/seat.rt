@@ -6,11 +6,11 @@ ghost use Rattle.std.specs.List.{IsDistinct};
 use crate::view::View;
 use std::marker::Model;
 
-/// A thread's part in the work on one board. It remembers which check it has the right to, and how
-/// many verdicts it gave.
+/// A thread's part in the work on one board. It records which check it has claimed, and how many
+/// verdicts it gave.
 ///
-/// A seat ends by [`Board::join`](crate::Board::join) or by [`retire`]. One that is let go with a
-/// right to a check keeps that check taken for good.
+/// A seat ends by [`Board::join`](crate::Board::join) or by [`retire`]. A seat that is dropped with
+/// a claim leaves that check taken for good.
 #[derive(Drop)]
 pub struct Seat {
     pub(crate) inner: atomic_table::Seat<(), View>,
@@ -28,8 +28,8 @@ impl Model for Seat {
     ghost invariant = { λ s. IsKept s.inner.me s.held s.published };
 }
 
-/// How many verdicts the seat gave, with those of the seats that joined it. No check is counted
-/// twice.
+/// Returns the number of verdicts that the seat gave, with those of the seats that joined it. No
+/// check is counted twice.
 pub fn done(seat: &Seat) -> usize
     ensures count { result ≡ length seat.now.view.done }
     ensures once { IsDistinct nat_eq seat.now.view.done }
@@ -37,7 +37,7 @@ pub fn done(seat: &Seat) -> usize
     seat.published
 }
 
-/// Ends a seat that has no right.
+/// Ends a seat that has no claim.
 pub fn retire(seat: Seat)
     requires free { seat.view.right ≡ None }
 {

@@ -7,9 +7,10 @@ ghost use base.Fml.{ftrue};
 use crate::checks::Checks;
 use std::marker::{Model, PhantomData};
 
-/// The truths of some checks, as clauses see them. It has no bytes, and borrows no check.
+/// The truths of some checks, as contracts see them. It has no bytes, and borrows no check.
 pub struct Truths {
     marker: PhantomData<()>,
+    /// The truths, in the order of the checks.
     pub ghost list: { List Bool } by { coded_list coded_bool },
 }
 
@@ -18,7 +19,7 @@ impl Model for Truths {
 }
 
 impl Truths {
-    /// The truths of these checks. Nothing is decided.
+    /// Returns the truths of these checks. Decides nothing.
     pub fn of<C: Checks>(_checks: &C) -> Truths
         ensures { result.list ≡ C.truths _checks.now }
     {

@@ -1,13 +1,13 @@
-//! What a seat knows, for contracts alone.
+//! What a seat knows, for contracts only.
 
 use std::collections::LinkedList;
 
-/// What a seat knows. No value of it is made: contracts speak of it, and they read the lists as
-/// plain lists.
+/// What a seat knows. No value of this type is made: it is for contracts only, which read the lists
+/// as plain lists.
 pub struct View {
     /// The truths of the board's checks, in order.
     pub truths: LinkedList<bool>,
-    /// The check that the seat has the right to decide.
+    /// The check that the seat has claimed.
     pub right: Option<usize>,
     /// The checks whose verdicts the seat has seen.
     pub seen: LinkedList<usize>,

@@ -1,4 +1,4 @@
--- What a loop has read, before what is left to read.
+-- The part that a loop has read, before the part that is left.
 use Rattle.std.proofs.Common.{List, ◌++◌, Option, option_map}
 
 abbrev pub before : {A : Type 0} → List A → Option (List A) → Option (List A)

@@ -1,4 +1,4 @@
--- Of every tree that is read, the keys of each object ascend.
+-- The keys of each object of a tree that is read ascend.
 use Rattle.std.proofs.Common.{◌≡◌, ℕ, ◌&&◌, List, Bool, true, false, Option, Some, None, option_map, option_and_then, nat_cmp, Ordering, Less, Equal, Greater, refl, ap, ◌∙◌, subst}
 use Rattle.std.specs.Prelude.{⊤, if◌then◌else◌}
 use Rattle.std.specs.Cmp.Lexicographic.{slice_cmp}
@@ -12,7 +12,7 @@ use Rattle.serde_json.specs.Read.{number_of, of_json, of_items, of_members, max_
 use Rattle.cjson.specs.Document.{tree_of}
 use Rattle.cjson.specs.Canon.{comes_before, has_whole_numbers, is_ordered, items_are_ordered, members_are_ordered, text, canon}
 
--- ---- a member put in
+-- ---- a member added
 
 comes_before-put_at : (o : Ordering) (l k m : List ℕ) (d e : Data) (ms : Members) → slice_cmp nat_cmp l k ≡ Less → comes_before l (member m e ms) ≡ true
     → comes_before l (match_ordering o (member k d (member m e ms)) (member m d ms) (member m e (put k d ms))) ≡ true
@@ -20,7 +20,7 @@ comes_before-put_at Less l k m d e ms below before = ap (λ c. match_ordering c 
 comes_before-put_at Equal l k m d e ms below before = before
 comes_before-put_at Greater l k m d e ms below before = before
 
--- what stood before all members stands before them still, where it stands before the new key
+-- what was before all members still is, if it is before the new key
 comes_before-put : (l k : List ℕ) (d : Data) (ms : Members) → slice_cmp nat_cmp l k ≡ Less → comes_before l ms ≡ true → comes_before l (put k d ms) ≡ true
 comes_before-put l k d no_members below before = ap (λ c. match_ordering c true false false) below
 comes_before-put l k d (member m e ms) below before = comes_before-put_at _ l k m d e ms below before

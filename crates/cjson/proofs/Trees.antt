@@ -1,4 +1,4 @@
--- What a file is, and what is found in it.
+-- The tree of a file, and what is found in it.
 use Rattle.std.proofs.Common.{◌≡◌, ℕ, List, Bool, true, false, Option, Some, None, option_map, option_and_then, string_bytes, nat_cmp, is_some, codes, refl, sym, ap, ◌∙◌, true≢false}
 use Rattle.std.specs.Prelude.{if◌then◌else◌}
 use Rattle.std.specs.BTreeMap.{is_at}
@@ -24,7 +24,7 @@ no_tree_at file false utf8 none = refl
 pub tree_of-none : (file : List ℕ) → (IsUtf8 file → read file ≡ None) → tree_of file ≡ None
 tree_of-none file none = no_tree_at file _ refl none
 
--- what the map's `get` and `remove` give is the tree's member
+-- what the map's `get` and `remove` return is the tree's member
 pub found_at : (name : List ℕ) (es : List Entry) (r : Option Value) → r ≡ lookup (is_at (λ k. slice_cmp nat_cmp name (string_bytes k))) es → get_member name (members_view es) ≡ option_map view r
 found_at name es r e = sym (ap (option_map view) e ∙ view-lookup name es)
 

@@ -12,13 +12,13 @@ is_whole (negative (pos n)) = false
 is_whole (negative (negsuc n)) = nat_lt n (2 ^ 63)
 is_whole (float x) = false
 
--- decimal digits, after a minus where the number is below zero; a float has no text
+-- decimal digits, after a minus if the number is below zero; a float has no text
 abbrev pub number_text : Num → List ℕ
 number_text (unsigned n) = decimal n
 number_text (negative z) = signed_decimal z
 number_text (float x) = []
 
--- a backslash stands before a quote and a backslash, and all else stands as it is
+-- a backslash before each quote and each backslash; all other characters unchanged
 abbrev pub escaped : List ℕ → List ℕ
 escaped [] = []
 escaped (x ∷ xs) = if x == 34 || x == 92 then 92 ∷ x ∷ escaped xs else x ∷ escaped xs
@@ -27,11 +27,11 @@ escaped (x ∷ xs) = if x == 34 || x == 92 then 92 ∷ x ∷ escaped xs else x �
 abbrev pub quoted : List ℕ → List ℕ
 quoted s = 34 ∷ (escaped s ++ 34 ∷ [])
 
--- a comma, where something stands before
+-- a comma, if something is before it
 abbrev pub comma_if : Bool → List ℕ
 comma_if later = if later then 44 ∷ [] else []
 
--- the text, which counts where each number is whole
+-- the text, which counts if each number is whole
 abbrev mutual
   pub text : Data → List ℕ
   text null = codes "null"
@@ -70,7 +70,7 @@ abbrev mutual
   members_are_whole no_members = true
   members_are_whole (member k d ms) = has_whole_numbers d && members_are_whole ms
 
--- whether the key stands before the first key of the members, byte for byte
+-- whether the key is before the first key of the members, byte for byte
 abbrev pub comes_before : List ℕ → Members → Bool
 comes_before k no_members = true
 comes_before k (member l d ms) = match_ordering (slice_cmp nat_cmp k l) true false false
@@ -94,8 +94,8 @@ abbrev mutual
   members_are_ordered (member k d ms) =
       comes_before k ms && (is_ordered d && members_are_ordered ms)
 
--- The canonical text, where the tree has one. A tree whose keys don't ascend has none here: no
--- `Value` is such a tree, and none that is read, so of these only a number that isn't whole leaves
--- one without a text.
+-- The canonical text, if the tree has one. A tree whose keys don't ascend has none here. No `Value`
+-- is such a tree, and none is read, so in practice only a number that isn't whole leaves a tree
+-- without a text.
 abbrev pub canon : Data → Option (List ℕ)
 canon d = if has_whole_numbers d && is_ordered d then Some (text d) else None

@@ -12,19 +12,19 @@ use Rattle.cjson.specs.declared.doc.Doc.{Doc}
 use Rattle.cjson.specs.declared.fault.DocFault.{DocFault}
 use Rattle.cjson.specs.declared.fault.DocFault.TheVariants.{NotJson, NotObject, Float, BadSignatures}
 
--- # Checks in order: the first that fails is the answer.
+-- # Checks in order: the result is that of the first that fails.
 
--- the next check, where none has failed
+-- the next check, if none has failed
 infixl 10 ◌>>=◌
 abbrev pub ◌>>=◌ : {A B E : Type 0} → Result A E → (A → Result B E) → Result B E
 Err e >>= f = Err e
 Ok x >>= f = f x
 
--- the fault, where the check fails
+-- the fault, if the check fails
 abbrev pub refuse_if : {E : Type 0} → Bool → E → Result ⊤ E
 refuse_if fails fault = if fails then Err fault else Ok tt
 
--- the value, or the fault where there is none
+-- the value, or the fault if there is none
 abbrev pub or_refuse : {A E : Type 0} → Option A → E → Result A E
 or_refuse None fault = Err fault
 or_refuse (Some x) fault = Ok x
@@ -37,11 +37,11 @@ pub record Document : Type 0 where
   pub text : List ℕ
   pub entries : List Entry
 
--- the tree of a file's bytes, where they are JSON in UTF-8
+-- the tree of a file's bytes, if they are JSON in UTF-8
 abbrev pub tree_of : List ℕ → Option Data
 tree_of file = if is_utf8 file then read file else None
 
--- the member `signed`, where it is an object
+-- the member `signed`, if it is an object
 abbrev pub signed_of : Data → Option Data
 signed_of tree = option_and_then (λ d. option_map object (as_object d)) (get (codes "signed") tree)
 

@@ -1,5 +1,4 @@
--- The forms of a JSON member. A form reads a tree, or gives nothing where the tree hasn't that
--- form.
+-- The forms of a JSON member. A form reads a tree, or is None if the tree is malformed.
 use Rattle.std.specs.Prelude.{Option, Some, None, ℕ, ◌&&◌, nat_le, if◌then◌else◌, List, [], ◌∷◌, Bool, true, false, option_map, option_and_then, Result, Ok, Err, ⊤, codes, ◌≡◌}
 pub use Rattle.serde_json.specs.Data.{Data, Items, no_items, item, Members, no_members, member}
 use Rattle.serde_json.specs.Find.{get, as_str, as_number, as_u64, as_array, as_object}
@@ -8,7 +7,7 @@ pub use Rattle.cjson.specs.declared.doc.Entry.{Entry}
 use Rattle.cjson.specs.declared.fault.ReadFault.{ReadFault}
 use Rattle.cjson.specs.declared.fault.ReadFault.TheVariants.{Malformed, NoMemory}
 
--- # The `?` of the definitions: the next step, where there is a value.
+-- # The `?` of the definitions: the next step, if there is a value.
 
 infixl 10 ◌>>=◌
 abbrev pub ◌>>=◌ : {A B : Type 0} → Option A → (A → Option B) → Option B
@@ -26,7 +25,7 @@ needed name form d = do
   value ← get name d
   form value
 
--- nothing where the member is absent, or else what it is read as
+-- None if the member is absent, or else what it is read as
 abbrev pub absent_or : {A : Type 0} → Form A → Option Data → Option (Option A)
 absent_or form None = Some None
 absent_or form (Some d) = option_map Some (form d)
@@ -49,7 +48,7 @@ list form d = do
   items ← as_array d
   each form items
 
--- each of an object's members has the form that its name gives
+-- each of an object's members has the form of its name
 abbrev pub each_member : {A : Type 0} → (List ℕ → Form A) → Members → Option (List A)
 each_member form no_members = Some []
 each_member form (member k d ms) = do
@@ -63,7 +62,7 @@ members form d = do
   found ← as_object d
   each_member form found
 
--- nothing more, where the test passes
+-- None if the test fails
 abbrev pub guard : Bool → Option ⊤
 guard true = Some tt
 guard false = None
@@ -96,7 +95,7 @@ whole least most d = do
   n ← as_u64 number
   if nat_le least n && nat_le n most then Some n else None
 
--- the value, where there is one
+-- the value, if there is one
 abbrev pub ok : {A E : Type 0} → Result A E → Option A
 ok (Ok x) = Some x
 ok (Err e) = None
@@ -115,9 +114,9 @@ entry d = do
   sig ← needed (codes "sig") text d
   Some (record { keyid = keyid; sig = sig })
 
--- # What a reader answers. Want of memory says nothing.
+-- # What a reader returns. If it is out of memory, nothing is known.
 
--- the value, as `seen` sees it, or `Malformed` where there is none
+-- the value, as `seen` sees it, or `Malformed` if there is none
 abbrev pub ReadsAs : {A B : Type 0} → Option A → Result B ReadFault → (B → A) → Type 0
 ReadsAs o (Ok x) seen = o ≡ Some (seen x)
 ReadsAs o (Err Malformed) seen = o ≡ None

@@ -14,11 +14,11 @@ pub use read::signed_bytes;
 use serde_json::Value;
 use std::alloc::Global;
 
-/// An entry of `signatures`: the id of a key and a signature, as the file spells them (TUF 1.0
+/// An entry of `signatures`: the id of a key and a signature, as the file writes them (TUF 1.0
 /// section 4.2). Both are texts of any length, and are compared with nothing here.
 #[derive(Drop)]
 pub struct Entry {
-    /// The id of the key that is said to have signed.
+    /// The id of the key that should have signed.
     pub keyid: Text,
     /// The signature, which should be hexadecimal text.
     pub sig: Text,
@@ -37,7 +37,7 @@ impl FromJson for Entry {
 }
 
 /// A metadata file as a document: what is signed, its canonical text, and the entries of its
-/// signatures (TUF 1.0 section 4.2). Whoever has one knows that the text is the tree's.
+/// signatures (TUF 1.0 section 4.2). The text is always that of the tree.
 pub struct Doc {
     tree: Value,
     canonical: Vec<u8>,
@@ -58,14 +58,14 @@ impl Drop for Doc {
 impl Doc {
     ghost use Rattle.cjson.specs.Document.{doc_of};
 
-    /// The tree of `signed`.
+    /// Returns the tree of `signed`.
     pub fn tree(&self) -> &Value
         ensures value { view result.now ≡ (doc_of self.now).signed }
     {
         &self.tree
     }
 
-    /// The canonical text of `signed`, which signatures cover, however the file spells it.
+    /// Returns the canonical text of `signed`, which signatures cover, however the file writes it.
     pub fn bytes(&self) -> &[u8]
         ensures value { result.now ≡ (doc_of self.now).text }
         ensures canonical { canon (doc_of self.now).signed ≡ Some result.now }
@@ -73,7 +73,7 @@ impl Doc {
         &self.canonical
     }
 
-    /// The entries of `signatures`, in the file's order.
+    /// Returns the entries of `signatures`, in the file's order.
     pub fn entries(&self) -> &[Entry]
         ensures value { result.now ≡ (doc_of self.now).entries }
     {

@@ -1,4 +1,4 @@
-//! Want of memory, and the faults of readers and documents.
+//! The errors of readers and documents.
 
 ghost use Rattle.std.specs.Prelude.{◌≡◌};
 ghost use Rattle.cjson.specs.declared.fault.CanonicalFault.TheVariants as canon;
@@ -8,23 +8,23 @@ ghost use Rattle.cjson.specs.declared.fault.ReadFault.TheVariants as read;
 use std::alloc::{AllocError, AllocFailed};
 use thiserror::Error;
 
-/// Memory was refused.
+/// Out of memory.
 #[derive(Clone, Copy, Debug, PartialEq, Eq, Error)]
 #[error("out of memory")]
 pub struct NoMemory;
 
-/// Why no canonical text of a tree was made.
+/// Why a tree has no canonical text.
 #[derive(Clone, Copy, Debug, PartialEq, Eq, Error)]
 pub enum CanonicalFault {
     /// A number in the tree isn't whole, or is below -2^63 or above 2^64 - 1.
     #[error("a number is not whole")]
     Float,
-    /// Memory was refused.
+    /// Out of memory.
     #[error("out of memory")]
     NoMemory,
 }
 
-/// Why a file is no document, in the order in which the faults are asked.
+/// Why a file isn't a document, in the order of the checks.
 #[derive(Clone, Copy, Debug, PartialEq, Eq, Error)]
 pub enum DocFault {
     /// The bytes aren't JSON in UTF-8, of at most 127 levels.
@@ -39,18 +39,18 @@ pub enum DocFault {
     /// `signatures` isn't a list of objects with the texts `keyid` and `sig`.
     #[error("`signatures` is not a list of entries")]
     BadSignatures,
-    /// Memory was refused.
+    /// Out of memory.
     #[error("out of memory")]
     NoMemory,
 }
 
-/// Why a tree or a document was not read as a value of some form.
+/// Why a tree or a document can't be read as a value of some form.
 #[derive(Clone, Copy, Debug, PartialEq, Eq, Error)]
 pub enum ReadFault {
-    /// It hasn't the form.
+    /// It is malformed.
     #[error("not of the form")]
     Malformed,
-    /// Memory was refused.
+    /// Out of memory.
     #[error("out of memory")]
     NoMemory,
 }

@@ -13,15 +13,15 @@ use std::alloc::Global;
 pub trait FromJson: Sized {
     ghost form: { Data → Option Self };
 
-    /// What `value` is read as; `Malformed` where it hasn't the form.
+    /// Reads `value`. Fails with `Malformed` if it hasn't the form, or with `NoMemory`.
     fn from_json(alloc: Global, value: &Value) -> Result<Self, ReadFault>
         ensures read { form_of.Reads (form (view value.now)) result };
 }
 
-/// A member that has to be there.
+/// Reads a required member.
 ///
-/// `Malformed` is answered where `value` is no object, has no member of that name, or has one of
-/// another form.
+/// Fails with `Malformed` if `value` isn't an object, has no member of that name, or has a
+/// malformed one, or with `NoMemory`.
 pub fn needed_member<T: FromJson>(alloc: Global, value: &Value, name: &str) -> Result<T, ReadFault>
     ensures read { form_of.Reads (form_of.needed name.now T.form (view value.now)) result }
 {
@@ -29,10 +29,10 @@ pub fn needed_member<T: FromJson>(alloc: Global, value: &Value, name: &str) -> R
     T::from_json(alloc, member)
 }
 
-/// A member that may be absent.
+/// Reads a member that may be absent. Returns None if `value` has no member of that name or isn't
+/// an object. A member that is `null` isn't absent.
 ///
-/// `None` is answered where `value` has no member of that name, also where it is no object, and
-/// `Malformed` where the member has another form. A member that is `null` isn't absent.
+/// Fails with `Malformed` if the member is malformed, or with `NoMemory`.
 pub fn optional_member<T: FromJson>(
     alloc: Global,
     value: &Value,
@@ -46,8 +46,8 @@ pub fn optional_member<T: FromJson>(
     }
 }
 
-/// What was read, or None where the value hasn't the form. Only where memory was refused to the
-/// reader, it is refused here.
+/// Returns what was read, or None if the value is malformed. Fails only if the reader was out of
+/// memory.
 pub fn if_formed<T>(read: Result<T, ReadFault>) -> Result<Option<T>, NoMemory>
     ensures value { (o : Option T) → form_of.Reads o read → IfOk result (λ x. x ≡ o) }
     ensures memory { IfErr result (λ _. read ≡ Err ReadFault.NoMemory) }

@@ -1,10 +1,10 @@
 //! Canonical JSON, metadata files as documents, and readers of JSON forms.
 //!
-//! - [`canonical`] writes the canonical text of a tree (OLPC Canonical JSON, which TUF 1.0
-//!   section 4.1 takes for what is digested and signed).
+//! - [`canonical`] writes the canonical text of a tree (OLPC Canonical JSON), which is what is
+//!   hashed and signed (TUF 1.0 section 4.1).
 //! - [`signed_bytes`] reads a metadata file as a [`Doc`] (TUF 1.0 section 4.2).
-//! - [`form::needed`], [`form::optional`] and [`members::read_members`] read the members of an
-//!   object as values of Rust types.
+//! - [`form::needed_member`], [`form::optional_member`] and [`members::read_members`] read the
+//!   members of an object as values of Rust types.
 //!
 //! Trees are read with `serde_json`; what it reads from a file's bytes is the file's tree.
 #![tactic(auto)]

@@ -10,8 +10,7 @@ use serde_json::Value;
 use std::alloc::Global;
 use std::marker::Model;
 
-/// The items of a list, in order; read from a JSON list, `Malformed` where some item hasn't the
-/// form.
+/// The items of a list, in order. Read from a JSON list, which is `Malformed` if some item is.
 #[derive(Drop)]
 pub struct Items<T> {
     items: Vec<T>,
@@ -26,14 +25,14 @@ impl<T> Model for Items<T> {
 }
 
 impl<T> Items<T> {
-    /// The items of a vector.
+    /// Returns a list of the items of a vector.
     pub fn new(items: Vec<T>) -> Items<T>
         ensures value { result ≡ items.items }
     {
         Items { items }
     }
 
-    /// The items, taken out.
+    /// Returns the items as a vector.
     pub fn into_vec(self) -> Vec<T>
         ensures value { result.items ≡ self }
     {
@@ -41,7 +40,7 @@ impl<T> Items<T> {
         items
     }
 
-    /// The items, lent.
+    /// Returns the items as a slice.
     pub fn as_slice(&self) -> &[T]
         ensures value { result.now ≡ self.now }
     {

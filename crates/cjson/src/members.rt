@@ -15,14 +15,16 @@ use std::alloc::Global;
 pub trait FromMember: Sized {
     ghost member_form: { List ℕ → Data → Option Self };
 
-    /// What the member `name` with this value is read as; `Malformed` where it hasn't the form.
+    /// Reads the member `name` with this value. Fails with `Malformed` if it hasn't the form, or
+    /// with `NoMemory`.
     fn from_member(alloc: Global, name: &str, value: &Value) -> Result<Self, ReadFault>
         ensures read { Reads (member_form name.now (view value.now)) result };
 }
 
-/// What the members of an object are read as, in the order of their names' bytes.
+/// Reads all members of an object, in the order of their names' bytes.
 ///
-/// `Malformed` is answered where `value` is no object, or some member hasn't the form.
+/// Fails with `Malformed` if `value` isn't an object or some member is malformed, or with
+/// `NoMemory`.
 pub fn read_members<T: FromMember + Drop>(
     alloc: Global,
     value: &Value,

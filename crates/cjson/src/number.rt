@@ -11,7 +11,7 @@ use serde_json::Value;
 use std::alloc::Global;
 use std::marker::Model;
 
-/// A whole number from `least` to `most`.
+/// Returns the whole number, if it is from `least` to `most`.
 fn whole(value: &Value, least: u64, most: u64) -> Option<u64>
     ensures value { result ≡ form_of.whole least most (view value.now) }
     ensures range { IfSome result (λ n. (least ≤ n) × (n ≤ most)) }
@@ -44,7 +44,7 @@ impl<const LEAST: u64, const MOST: u64> Model for Within<LEAST, MOST> {
 }
 
 impl<const LEAST: u64, const MOST: u64> Within<LEAST, MOST> {
-    /// The number, where it is from `LEAST` to `MOST`.
+    /// Returns the number, if it is from `LEAST` to `MOST`.
     pub fn new(number: u64) -> Option<Within<LEAST, MOST>>
         ensures some { IsSome result ↔ (LEAST ≤ number) × (number ≤ MOST) }
         ensures value { IfSome result (λ n. n ≡ number) }
@@ -56,7 +56,7 @@ impl<const LEAST: u64, const MOST: u64> Within<LEAST, MOST> {
         }
     }
 
-    /// The number, from `LEAST` to `MOST`.
+    /// Returns the number, from `LEAST` to `MOST`.
     pub fn get(&self) -> u64
         ensures value { result ≡ self.now }
         ensures least { LEAST ≤ result }

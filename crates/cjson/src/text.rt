@@ -25,21 +25,21 @@ impl Model for Text {
 }
 
 impl Text {
-    /// The text of a `String`.
+    /// Returns the text of a `String`.
     pub fn new(text: String) -> Text
         ensures value { result ≡ string_bytes text }
     {
         Text { text }
     }
 
-    /// The text, lent.
+    /// Returns the text as a `&str`.
     pub fn as_str(&self) -> &str
         ensures value { result.now ≡ self.now }
     {
         self.text.as_str()
     }
 
-    /// The text, given away without taking memory.
+    /// Returns the text as a `String`. Does not allocate.
     pub fn into_string(self) -> String
         ensures value { string_bytes result ≡ self }
     {
@@ -57,7 +57,7 @@ impl FromJson for Text {
     }
 }
 
-/// Whether a member is this text.
+/// Returns whether a member is this text.
 pub fn is_text(value: &Value, name: &str, text: &str) -> bool
     ensures test { result ≡ form_of.has_text name.now (bytes_eq text.now) (view value.now) }
 {

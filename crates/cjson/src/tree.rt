@@ -8,8 +8,8 @@ use crate::fault::ReadFault;
 use serde_json::Value;
 use std::alloc::Global;
 
-/// The tree of bytes that are JSON in UTF-8, of at most 127 levels; `Malformed` where they aren't.
-/// Of members named twice the last one counts.
+/// Reads bytes that are JSON in UTF-8, of at most 127 levels. If two members of an object have one
+/// name, the last one counts. Fails with `Malformed` for other bytes, or with `NoMemory`.
 pub fn read_tree(alloc: Global, bytes: &[u8]) -> Result<Value, ReadFault>
     ensures tree { ReadsAs (tree_of bytes.now) result view }
 {

@@ -14,14 +14,14 @@ use crate::fault::CanonicalFault;
 use serde_json::{Map, Number, Value};
 use std::alloc::{AllocError, Global};
 
-/// The canonical text of a tree (OLPC Canonical JSON; TUF 1.0 section 4.1).
+/// Returns the canonical text of a tree (OLPC Canonical JSON; TUF 1.0 section 4.1).
 ///
-/// There is no white space, and members stand in the order of their keys' bytes. In a text only
-/// `"` and `\` are escaped, each by a `\`; all else stands raw, control characters too. The text
-/// is UTF-8 of any length, and no other tree has the same.
+/// There is no white space, and members are in the order of their keys' bytes. In a text only `"`
+/// and `\` are escaped, each by a `\`; all other characters are written as they are, control
+/// characters too. The result is UTF-8 of any length, and no other tree has the same.
 ///
-/// `Float` is answered exactly where a number of the tree isn't whole, or is below -2^63 or above
-/// 2^64 - 1. What is spelled `1.0`, `1e2` or `-0` is read as no whole number.
+/// Fails with `Float` if a number of the tree isn't whole, or is below -2^63 or above 2^64 -
+/// 1, or with `NoMemory`. A number written as `1.0`, `1e2` or `-0` isn't read as a whole number.
 #[tactic(auto, using(crate::proofs::Unique::canon_unique))]
 pub fn canonical(alloc: Global, v: &Value) -> Result<Vec<u8>, CanonicalFault>
     ensures ok { IfOk result (λ bytes. canon (view v.now) ≡ Some bytes.items) }
@@ -102,7 +102,7 @@ fn write_members(members: &Map<String, Value>, out: &mut Vec<u8>) -> Result<(), 
     Ok(())
 }
 
-/// What stands before a member's value.
+/// Writes what comes before a member's value.
 fn write_key(later: bool, key: &str, out: &mut Vec<u8>) -> Result<(), AllocError>
     ensures { OnOk result
         (out.new.items ≡ out.old.items ++ (comma_if later ++ (quoted key.now ++ 58 ∷ []))) }

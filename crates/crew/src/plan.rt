@@ -1,4 +1,4 @@
-//! The questions that are likely to be asked.
+//! The checks that a run probably makes.
 
 ghost use Rattle.std.specs.Prelude.{◌≡◌, ◌≢◌, ◌≤◌, ◌<◌, ℕ, IfOk, IfSome, IfNone, All, Some, length};
 ghost use Rattle.std.specs.Prelude.{slice_get, vec_len};
@@ -17,7 +17,7 @@ use std::alloc::Global;
 use std::collections::BTreeMap;
 use std::marker::Model;
 
-/// A question, whose parts lie in a document or in the repository.
+/// A check, whose parts are in a document or in the repository.
 #[derive(Drop)]
 pub(crate) enum Planned<'a> {
     Signature {
@@ -28,9 +28,8 @@ pub(crate) enum Planned<'a> {
     Digest(Digest<'a>),
 }
 
-/// Questions that a run is likely to ask, at most 4,096, each once. Contracts see the list of
-/// questions. An index finds a question by a digest of its names, and so at the price of one
-/// digest.
+/// Checks that a run probably makes, at most 4,096, each once. Contracts see the list of checks. An
+/// index finds a check by a digest of its names, so a look-up costs one digest.
 pub struct Plan<'a> {
     documents: Vec<Document>,
     questions: Vec<Planned<'a>>,
@@ -62,21 +61,21 @@ impl<'a> Model for Plan<'a> {
 }
 
 impl<'a> Plan<'a> {
-    /// The questions that a run from this state probably asks about the repository and the wanted
-    /// paths: at most `most`, none of them twice. Reads the files that the searches for the wanted
-    /// paths visit if every role is accepted, each at most once and without verifying it; `roles`
-    /// is the most roles that a search may visit.
+    /// Plans the checks that a run from this state probably makes for the repository and the wanted
+    /// paths: at most `most`, each once. Reads the files that the searches for the wanted paths
+    /// visit if every role is accepted, each at most once and without verifying it; `roles` is the
+    /// maximum number of roles that a search visits.
     ///
     /// Reads at most 4,000,000 bytes of files, and matches paths within a bound of steps, so that
-    /// whoever wrote the files doesn't decide what a plan costs. A file that is missing, malformed
-    /// or too long for what is left is skipped, together with all that it would lead to. Fails only
-    /// if out of memory.
+    /// the files' author doesn't determine what a plan costs. A file that is missing, malformed or
+    /// too long for what is left is skipped, together with all that it would lead to. Fails only if
+    /// out of memory.
     ///
     /// First come the signatures: of each successive root, by the keys of the root before it and by
     /// its own; of timestamp, snapshot and top-level targets, by the last root's keys; of each
     /// delegated role, by the keys of each delegation that is followed to it. For each key that the
-    /// role lists, each entry under its id is a question, whatever its text looks like. Then come
-    /// the listed digests of the wanted targets whose files are there with the listed length, up to
+    /// role lists, each entry under its id is a check, whatever its text looks like. Then come the
+    /// listed digests of the wanted targets whose files are there with the listed length, up to
     /// 16,000,000 bytes each. If `most` is 0, nothing is read.
     pub fn of(
         alloc: Global,
@@ -104,7 +103,7 @@ impl<'a> Plan<'a> {
         Ok(Plan::of_draft(draft_of(&scope)?))
     }
 
-    /// The plan of a draft.
+    /// Returns the plan of a draft.
     fn of_draft(draft: Draft<'a>) -> Plan<'a>
         requires draft { spec.IsDraft draft }
         requires most { draft.most ≤ 4096 }
@@ -124,7 +123,7 @@ impl<'a> Plan<'a> {
         }
     }
 
-    /// How many questions it has, at most 4,096.
+    /// Returns the number of checks, at most 4,096.
     pub fn len(&self) -> usize
         ensures count { result ≡ length self.now }
         ensures most { result ≤ 4096 }
@@ -132,7 +131,7 @@ impl<'a> Plan<'a> {
         self.questions.len()
     }
 
-    /// The question of that number, from 0.
+    /// Returns the check of that number, from 0.
     pub fn ask(&self, j: usize) -> Ask<'_>
         requires below { j < length self.now }
         ensures question { slice_get self.now j ≡ Some (spec.question_of result) }
@@ -140,7 +139,7 @@ impl<'a> Plan<'a> {
         ask_of(self.documents.as_slice(), &self.questions[j])
     }
 
-    /// The answer to the question of that number. It takes no memory, so it never refuses.
+    /// Computes the check of that number. Fails only if out of memory.
     pub fn answer(&self, j: usize) -> Result<bool, NoMemory>
         requires below { j < length self.now }
         ensures truth { IfOk result (λ b. slice_get (spec.truths_of self.now) j ≡ Some b) }
@@ -148,9 +147,8 @@ impl<'a> Plan<'a> {
         Direct.valid(&self.ask(j))
     }
 
-    /// The number of the question all of whose parts are equal, and None exactly where the plan
-    /// hasn't it. It costs one digest of the question's names, and the comparison with one question
-    /// at most.
+    /// Returns the number of the check all of whose parts are equal, or None if the plan hasn't it.
+    /// Costs one digest of the check's names, and at most one comparison of checks.
     pub fn place_of(&self, ask: &Ask) -> Option<usize>
         ensures some { IfSome result (λ j. slice_get self.now j ≡ Some (spec.question_of ask.now)) }
         ensures none { IfNone result
@@ -162,7 +160,7 @@ impl<'a> Plan<'a> {
     }
 }
 
-/// The questions that are likely to be asked.
+/// Drafts the checks that a run probably makes.
 fn draft_of<'a>(scope: &Scope<'a>) -> Result<Draft<'a>, NoMemory>
     ensures draft { IfOk result (λ d. spec.IsDraft d) }
     ensures most { IfOk result (λ d. d.most ≡ scope.now.most) }
@@ -173,7 +171,7 @@ fn draft_of<'a>(scope: &Scope<'a>) -> Result<Draft<'a>, NoMemory>
     Ok(draft)
 }
 
-/// Adds the questions about what was read: the signatures, and then the digests.
+/// Adds the checks of what was read: the signatures, and then the digests.
 #[tactic(auto, using(crate::proofs::Drafting::grows_none, crate::proofs::Drafting::grows_on))]
 fn ask_all<'a>(draft: &mut Draft<'a>, scope: &Scope<'a>, ahead: &Ahead) -> Result<(), NoMemory>
     requires { spec.IsDraft draft.old }
@@ -184,7 +182,7 @@ fn ask_all<'a>(draft: &mut Draft<'a>, scope: &Scope<'a>, ahead: &Ahead) -> Resul
     put_all(draft, digests(scope, ahead)?)
 }
 
-/// Adds questions about digests.
+/// Adds the checks of digests.
 #[tactic(auto, using(crate::proofs::Drafting::grows_none, crate::proofs::Drafting::grows_on))]
 fn put_all<'a>(draft: &mut Draft<'a>, all: Vec<Digest<'a>>) -> Result<(), NoMemory>
     requires { spec.IsDraft draft.old }
@@ -196,7 +194,7 @@ fn put_all<'a>(draft: &mut Draft<'a>, all: Vec<Digest<'a>>) -> Result<(), NoMemo
     Ok(())
 }
 
-/// The question with its parts.
+/// Returns the check with its parts.
 pub(crate) fn ask_of<'b>(documents: &'b [Document], planned: &'b Planned<'_>) -> Ask<'b>
     requires { spec.IsWhole documents.now planned.now }
     ensures { spec.question_of result ≡ spec.question_in documents.now planned.now }

@@ -1,4 +1,4 @@
--- Two repositories have the same outcome where the same of their metadata files is looked at.
+-- Two repositories have the same outcome if the same part of their metadata files is looked at.
 use Rattle.std.proofs.Common.{◌≡◌, ℕ, zero, suc, ◌+◌, ◌≤◌, ◌<◌, min, Bool, true, false, cond, nat_le, nat_lt, List, [], ◌∷◌, ◌++◌, length, take, map, decimal, codes, Option, Some, None, option_map, option_and_then, Result, Ok, Err, refl, sym, ap, ◌∙◌, ⊎_elim, true≢false, arith, append_assoc, length-take, take_all, if◌then◌else◌}
 use Rattle.std.specs.Bool.{⊤}
 use Rattle.std.specs.Option.{option_map_or}
@@ -107,7 +107,7 @@ map-same (x ∷ xs) k l h = ap (λ y. y ∷ map k xs) (h x) ∙ ap (λ ys. l x �
 
 -- ---- one file
 
--- what is chosen agrees where it is
+-- what is chosen agrees if it is chosen
 chosen : {A : Type 0} (b : Bool) (x y z : A) → b ≡ true → (if b then x else z) ≡ (if b then y else z) → x ≡ y
 chosen true x y z is h = h
 chosen false x y z is h = absurd (true≢false (sym is))
@@ -120,7 +120,7 @@ module _ (A : Type 0) (form : Form A) (limit : ℕ) (size : Option ℕ) (hashes 
   too_long : (bytes : List ℕ) → nat_lt limit (length bytes) ≡ true → intact bytes ≡ Err TooLong
   too_long bytes h = rw h refl
 
-  -- nothing counts that lies further behind the limit than one byte
+  -- only the first `up_to` bytes matter, if that is more than the limit
   intact-same : (up_to : ℕ) (a b : List ℕ) → limit < up_to → take up_to a ≡ take up_to b → intact a ≡ intact b
   intact-same up_to a b within same =
       let lengths : min up_to (length a) ≡ min up_to (length b) = sym (length-take up_to a) ∙ ap length same ∙ length-take up_to b in
@@ -205,7 +205,7 @@ module _ (f g : Files) (same : (name : List ℕ) → looked_at f name ≡ looked
   module _ (now : Moment) where
     -- ---- the roots
 
-    -- only whether there is a file counts before it is examined
+    -- before a file is examined, only its presence matters
     following-same : (r : Root) (a b : Option (List ℕ)) → option_map (take most_looked_at) a ≡ option_map (take most_looked_at) b → following f now r a ≡ following g now r b
     following-same r None None h = refl
     following-same r None (Some b) h = absurd cc

@@ -8,7 +8,7 @@ use Rattle.examine.specs.Checks.{Files}
 abbrev pub is_metadata_name : List ℕ → Bool
 is_metadata_name name = ends_with eqb name (codes ".json")
 
--- so many bytes of a file at most: the greatest limit of any kind, and one byte
+-- maximum number of bytes of a file: the greatest limit of any kind, and one byte
 abbrev pub most_looked_at : ℕ
 most_looked_at = targets_limit + 1
 

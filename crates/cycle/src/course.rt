@@ -17,7 +17,7 @@ use std::marker::Model;
 
 /// The workflow up to the searches: the new trusted state, how the cycle ended, and the search for
 /// each wanted path, by position. No target file has been looked at. Contracts see these three
-/// parts; the counts beside them have no influence on an outcome.
+/// parts; the counts have no influence on an outcome.
 #[derive(Drop)]
 pub struct Course {
     trusted: Trusted,
@@ -54,7 +54,7 @@ impl Course {
         }
     }
 
-    /// The same course with these counts.
+    /// Returns the same course with these counts.
     pub(crate) fn with_stats(mut self, stats: Stats) -> Course
         ensures { result ≡ self }
     {
@@ -62,35 +62,36 @@ impl Course {
         self
     }
 
-    /// The new trusted state.
+    /// Returns the new trusted state.
     pub fn trusted(&self) -> &Trusted
         ensures value { result.now ≡ self.now.trusted }
     {
         &self.trusted
     }
 
-    /// How the cycle ended.
+    /// Returns how the cycle ended.
     pub fn end(&self) -> End
         ensures value { result ≡ self.now.end }
     {
         self.end
     }
 
-    /// Whether target files have consistent names, by the trusted root (TUF 1.0 section 7.1).
+    /// Returns whether target files have consistent names, by the trusted root (TUF 1.0 section
+    /// 7.1).
     pub fn has_consistent_names(&self) -> bool
         ensures value { result ≡ self.now.trusted.root.reading.consistent }
     {
         self.trusted.root().reading().consistent()
     }
 
-    /// The search for each wanted path, by position, or None where the cycle stopped.
+    /// Returns the search for each wanted path, by position, or None if the cycle stopped.
     pub fn searches(&self) -> &[Option<Searched>]
         ensures value { result.now ≡ self.now.searches }
     {
         self.searches.as_slice()
     }
 
-    /// How the run came by its answers.
+    /// Returns how many checks were planned, taken from elsewhere and computed.
     pub fn stats(&self) -> Stats {
         self.stats
     }

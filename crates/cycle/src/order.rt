@@ -1,4 +1,4 @@
-//! The workflow, done in order by whatever judge.
+//! The workflow, done sequentially by any judge.
 
 ghost use Rattle.std.specs.Prelude.{◌≡◌, All, IfOk, IfSome, map, string_bytes, true};
 ghost use Rattle.examine.specs.Checks.{Files, file_in};
@@ -18,27 +18,33 @@ use meta::{Moment, Repo};
 use rolechain::{End, Trusted, advance};
 use std::alloc::Global;
 
-/// Work that is done in order, by any judge, with one result.
+/// Sequential work by any judge, with one result.
 pub(crate) trait Ordered {
     type Gives: Drop;
 
     /// The result, on which no judge has any influence.
     ghost gives: { Self → Self.Gives };
 
-    /// Does the work.
+    /// Does the work. Fails only if out of memory.
     fn in_order<J: Judge>(&self, judge: &mut J) -> Result<Self::Gives, NoMemory>
         ensures { IfOk result (λ o. o ≡ gives self.now) };
 }
 
-/// What a run begins with and looks at. Its own work is the workflow up to the searches, which
-/// looks at no target file.
+/// The input of a run. Its own work is the workflow up to the searches, which looks at no target
+/// file.
 #[derive(Clone, Copy)]
 pub(crate) struct Cycle<'a> {
+    /// The allocator.
     pub alloc: Global,
+    /// The trusted state at the start.
     pub trusted: &'a Trusted,
+    /// The repository.
     pub repo: &'a Repo,
+    /// The moment, in UTC.
     pub moment: Moment,
+    /// The wanted paths.
     pub wanted: &'a [String],
+    /// The limits.
     pub limits: &'a Limits,
 }
 
@@ -48,7 +54,7 @@ impl Ordered for Cycle<'_> {
     ghost gives = { λ c. spec.course (file_in c.repo.now.metadata) c.moment c.trusted.now
         (map string_bytes c.wanted.now) c.limits.now.roles };
 
-    /// Each file is judged when its turn comes, and each wanted path is searched on its own, in
+    /// Examines each file when its turn comes, and searches for each wanted path on its own, in
     /// order.
     fn in_order<J: Judge>(&self, judge: &mut J) -> Result<Course, NoMemory> {
         let (trusted, end) = advance(self.alloc, self.trusted, self.repo, self.moment, judge)?;
@@ -60,6 +66,7 @@ impl Ordered for Cycle<'_> {
 /// The whole workflow, on the target files of the repository.
 #[derive(Clone, Copy)]
 pub(crate) struct Whole<'a> {
+    /// The input.
     pub cycle: &'a Cycle<'a>,
 }
 
@@ -113,7 +120,7 @@ pub(crate) fn close<S: Store, J: Judge>(
     Ok(Outcome::new(trusted, end, verdicts, accepted))
 }
 
-/// The search for each wanted path, in order. All of them share the searcher's cache.
+/// Searches for each wanted path, in order. All searches share the searcher's cache.
 fn searches<J: Judge>(
     cycle: &Cycle,
     trusted: &Trusted,

@@ -11,8 +11,8 @@ use meta::{Fault, Stop, Target};
 use std::alloc::Global;
 use std::collections::BTreeMap;
 
-/// The target files of a repository, or as much of them as has been found out. So several maps of
-/// files may be the store's; what it returns holds of each of them.
+/// The target files of a repository, or as much of them as is known. So several maps of files may
+/// be the store's; what it returns holds for each of them.
 pub trait Store {
     /// Whether these may be the files.
     ghost may_be: { Self → Files → Type 0 };
@@ -21,7 +21,8 @@ pub trait Store {
     ghost knows: { Self → Bool → Target → Type 0 };
 
     /// Checks that the target's file is there and has the listed length and digests (TUF 1.0
-    /// section 5.7). May ask `judge` for the digests.
+    /// section 5.7). May use `judge` for the digests. Fails with the first fault, or if out of
+    /// memory.
     fn check<J: Judge>(&self, consistent: bool, target: &Target, judge: &mut J) -> Result<(), Stop>
         requires known { knows self.now consistent target.now }
         ensures checked { (files : Files) → may_be self.now files
@@ -31,7 +32,9 @@ pub trait Store {
 /// Target files in memory, by name.
 #[derive(Clone, Copy)]
 pub struct InMemory<'a> {
+    /// The allocator.
     pub alloc: Global,
+    /// The files, by name.
     pub files: &'a BTreeMap<String, Vec<u8>>,
 }
 
@@ -40,7 +43,7 @@ impl Store for InMemory<'_> {
 
     ghost knows = { λ _ _ _. Unit {0} };
 
-    /// Asks the judge under the target's path.
+    /// Passes the target's path to the judge as the name of the file.
     fn check<J: Judge>(
         &self,
         consistent: bool,

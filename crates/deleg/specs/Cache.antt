@@ -7,7 +7,7 @@ use Rattle.deleg.specs.Search.{Edge}
 use Rattle.deleg.specs.declared.query.Query.{Query}
 use Rattle.deleg.specs.declared.cache.RoleCache.{RoleCache}
 
--- the outcome for a role of that name, where a delegation requires these of these keys
+-- the outcome for a role of that name, if a delegation requires these of these keys
 abbrev pub Examination : Type 0
 Examination = List ℕ → List Key → RoleKeys → Result (Part Targets) Fault
 

@@ -39,7 +39,7 @@ pub data Matches : List ℕ → List ℕ → Type 0 where
 abbrev pub stands_for : ℕ → ℕ → Bool
 stands_for c d = if c == 63 then not (d == 47) else c == d
 
--- whether the rest matches behind some run without `/`
+-- whether the rest matches after some run without `/`
 abbrev pub behind_run : (List ℕ → Bool) → List ℕ → Bool
 behind_run rest [] = rest []
 behind_run rest (d ∷ ds) = rest (d ∷ ds) || (not (d == 47) && behind_run rest ds)
@@ -83,23 +83,23 @@ remainder_of (compared.AtRun pattern path) = at_run (chars pattern.now) (chars p
 remainder_of compared.Whole = whole
 remainder_of compared.Fails = fails
 
--- the path behind one more character of a run, where the run may go on
+-- the path after one more character of a run, if the run may go on
 abbrev pub past_one : List ℕ → Option (List ℕ)
 past_one [] = None
 past_one (d ∷ ds) = if d == 47 then None else Some ds
 
 -- # The hash bin of a path (this project's profile).
 
--- the number that the first bits of a digest are
+-- the first bits of a digest, as a number
 abbrev pub first_bits : ℕ → List ℕ → ℕ
 first_bits bits digest = from_be_bytes w32 digest / 2 ^ (32 - bits)
 
--- so many hexadecimal digits of a number, the last ones
+-- the last `left` hexadecimal digits of a number
 abbrev pub hexadecimal : ℕ → ℕ → List ℕ
 hexadecimal zero n = []
 hexadecimal (suc left) n = digit_char (n / 2 ^ (4 * left) % 16) ∷ hexadecimal left n
 
--- how many hexadecimal digits the greatest number of so many bits has
+-- number of hexadecimal digits of the greatest number of `bits` bits
 abbrev pub width : ℕ → ℕ
 width bits = (bits + 3) / 4
 
@@ -118,7 +118,7 @@ abbrev pub is_matched : Paths → List ℕ → Bool
 is_matched (Patterns ps) path = list_any (λ p. is_match (chars p) (chars path)) ps
 is_matched (Prefixes ps) path = list_any (λ p. begins_with p (path_digest path)) ps
 
--- a delegation to a role, with the keys of the file that has it; none of `paths` is every path
+-- a delegation to a role, with the keys of the file that has it; no `paths` means every path
 pub record Edge : Type 0 where
   pub ring : List Key
   pub name : List ℕ
@@ -137,7 +137,7 @@ to_role ring d = edge ring d.name d.keys d.terminating (Some d.paths)
 abbrev pub to_bin : List Key → Bins → List ℕ → Edge
 to_bin ring bins name = edge ring name bins.keys true None
 
--- the name of the path's bin, where a file delegates to bins
+-- the name of the path's bin, if a file delegates to bins
 abbrev pub bin_in : List ℕ → Roles → List ℕ
 bin_in path (delegated.Listed roles) = []
 bin_in path (delegated.Binned bins) = bin_name bins path
@@ -145,7 +145,7 @@ bin_in path (delegated.Binned bins) = bin_name bins path
 abbrev pub bin_of : Targets → List ℕ → List ℕ
 bin_of m path = option_map_or (λ d. bin_in path d.roles) m.delegations []
 
--- the delegations, where the path's bin has that name: those that are listed, or the one to the bin
+-- the delegations, if the path's bin has that name: the listed ones, or the one to the bin
 abbrev pub edges_in : List Key → List ℕ → Roles → List Edge
 edges_in ring bin (delegated.Listed roles) = map (to_role ring) roles
 edges_in ring bin (delegated.Binned bins) = to_bin ring bins bin ∷ []
@@ -167,13 +167,13 @@ followed m path = filter (is_for path) (edges m path)
 
 -- # The search for a path through delegations, in preorder (TUF 1.0 section 5.6.7).
 
--- what outcome of a visit or a walk, or None where the search goes on; and the delegated roles that
--- were accepted till then
+-- the outcome of a visit or a walk, or None if the search goes on; and the delegated roles that
+-- were accepted so far
 pub record Visited : Type 0 where
   pub found : Option Found
   pub accepted : List Accepted
 
--- what comes of the visit to a delegation's role, where these roles were accepted before
+-- the outcome of the visit to a delegation's role, if these roles were accepted before
 abbrev pub Visits : Type 0
 Visits = Edge → List Accepted → Visited
 
@@ -217,7 +217,7 @@ in_file path walk role m seen =
 abbrev pub accepting : Edge → Part Targets → List Accepted → List Accepted
 accepting e p seen = seen ++ record { role = e.name; version = p.reading.header.version } ∷ []
 
--- a role is entered where its file is accepted
+-- a role is entered if its file is accepted
 abbrev pub entered : List ℕ → (List Edge → List Accepted → Visited) → Edge → List Accepted
     → Result (Part Targets) Fault → Visited
 entered path walk e seen (Err fault) = done (Some (RoleRefused e.name fault)) seen
@@ -242,7 +242,7 @@ from_top visits path m = settled (in_file path (walk_by visits) (codes "targets"
 abbrev pub search_by : Visits → State → List ℕ → Option Searched
 search_by visits s path = option_map (λ m. from_top visits path m.reading) s.targets
 
--- `most` is how many roles may be visited, the top-level role among them
+-- `most` is the maximum number of roles to visit, the top-level role included
 module _ (files : Files) (now : Moment) (top : Root) (snap : Snapshot)
     (path : List ℕ) (most : ℕ) where
   -- The equations of the visits of a search in preorder, with no depth: a role that was visited is
@@ -281,7 +281,7 @@ search_in files now s path most =
     option_and_then (λ snap. option_map (λ m.
     search_from files now s.root.reading snap.reading path most m.reading) s.targets) s.snapshot
 
--- # Delegations that ask for one file.
+-- # Delegations that require one file.
 
 -- to a role of one name, by the same of the same keys
 pub record RequireTheSame (a b : Edge) : Type 0 where
@@ -291,7 +291,7 @@ pub record RequireTheSame (a b : Edge) : Type 0 where
 
 -- # A search that is under way.
 
--- what the search gives, where these delegations are pending and these roles were accepted
+-- the outcome of the search, if these delegations are pending and these roles were accepted
 unfoldable pub outlook : Query → List Edge → List Accepted → Searched
 outlook q es seen =
     settled (walk (file_in q.files.now) q.moment q.root.now q.snapshot.now q.path.now q.limit
@@ -306,7 +306,7 @@ pending path (es ∷ files) = pending path files ++ filter (is_for path) es
 abbrev pub pending_with : List ℕ → List Edge → List (List Edge) → List Edge
 pending_with path es files = filter (is_for path) es ++ pending path files
 
--- not for the path, or to a role that was visited with others to be tried after it
+-- not for the path, or to a visited role and not terminating
 abbrev pub is_passed : List ℕ → List Accepted → Edge → Bool
 is_passed path seen e = not (is_for path e) || (is_visited seen e.name && not e.terminating)
 
@@ -314,7 +314,7 @@ abbrev pub starts_passed : List ℕ → List Accepted → List Edge → Bool
 starts_passed path seen [] = false
 starts_passed path seen (e ∷ es) = is_passed path seen e
 
--- from the first one that isn't passed over
+-- from the first one that isn't skipped
 abbrev pub after_passed : List ℕ → List Accepted → List Edge → List Edge
 after_passed path seen [] = []
 after_passed path seen (e ∷ es) =
@@ -334,7 +334,7 @@ GoesOn q es seen es' seen' =
 abbrev pub Ends : Query → List Edge → List Accepted → Found → List Accepted → Type 0
 Ends q es seen found seen' = outlook q es seen ≡ record { found = found; accepted = seen' }
 
--- # What a delegation of the program stands for.
+-- # What a delegation of the program represents.
 
 abbrev pub edge_of : program.Edge → Edge
 edge_of e =

@@ -24,8 +24,9 @@ const MOST_NAME: usize = 255;
 /// A targets file that a search enters.
 #[derive(Drop)]
 pub(crate) struct Entered {
+    /// The file.
     pub file: Part<Targets>,
-    /// Whether the cache or the trusted state has the file too, so that a copy takes no memory.
+    /// Whether the cache or the trusted state also has the file, so a copy needs no more memory.
     pub held: bool,
 }
 
@@ -46,7 +47,7 @@ pub(crate) struct RoleCache {
 }
 
 impl RoleCache {
-    /// An empty cache. Does not allocate.
+    /// Returns an empty cache. Does not allocate.
     pub(crate) fn new(alloc: Global) -> RoleCache
         ensures { (x : spec.Examination) → spec.IsCacheOf x result }
     {
@@ -56,13 +57,13 @@ impl RoleCache {
         }
     }
 
-    /// Whether nothing is cached.
+    /// Returns whether nothing is cached.
     pub(crate) fn is_empty(&self) -> bool {
         self.roles.is_empty()
     }
 
-    /// The cached outcome for the delegation's role, if it was examined for an equal name, ring,
-    /// list of ids and threshold.
+    /// Returns the cached outcome for the delegation's role, if it was examined for an equal name,
+    /// ring, list of ids and threshold.
     pub(crate) fn find(&self, edge: &Edge) -> Option<Result<Part<Targets>, Fault>>
         ensures { (x : spec.Examination) → spec.IsCacheOf x self.now
             → IfSome result (λ r. spec.by_edge x (edge_of edge.now) ≡ r) }
@@ -75,7 +76,7 @@ impl RoleCache {
         None
     }
 
-    /// The outcome at this place, if it is one for an equal delegation.
+    /// Returns the outcome at this place, if it is one for an equal delegation.
     fn find_at(&self, place: usize, edge: &Edge) -> Option<Result<Part<Targets>, Fault>>
         ensures { (x : spec.Examination) → spec.IsCacheOf x self.now
             → IfSome result (λ r. spec.by_edge x (edge_of edge.now) ≡ r) }
@@ -103,7 +104,7 @@ impl RoleCache {
         file
     }
 
-    /// The file at this place, if it has equal bytes.
+    /// Returns the file at this place, if it has equal bytes.
     fn equal_at(&self, place: usize, file: &Part<Targets>) -> Option<Part<Targets>>
         ensures { IfSome result (λ p. p ≡ file.now) }
     {
@@ -136,7 +137,7 @@ impl RoleCache {
         Ok(true)
     }
 
-    /// Whether one more examination of the role can be cached.
+    /// Returns whether one more examination of the role can be cached.
     fn has_room(&self, role: &str) -> bool {
         let of_role = self.places.get(role).map_or(0, |places| places.len());
         self.roles.len() < MOST && of_role < MOST_OF_ROLE
@@ -160,7 +161,7 @@ fn add_place(
     Ok(())
 }
 
-/// An equal outcome, which shares the file. None if it can't be copied.
+/// Returns an equal outcome, which shares the file. None if it can't be copied.
 fn copy_of(outcome: &Result<Part<Targets>, Fault>) -> Option<Result<Part<Targets>, Fault>>
     ensures { IfSome result (λ r. outcome.now ≡ r) }
 {
@@ -170,8 +171,8 @@ fn copy_of(outcome: &Result<Part<Targets>, Fault>) -> Option<Result<Part<Targets
     }
 }
 
-/// A copy of the first file, if the second has equal bytes, so an equal reading. Compares the
-/// versions first, since that is quick.
+/// Returns a copy of the first file, if the second has equal bytes, so an equal reading. Compares
+/// the versions first, since that is quick.
 fn copy_if_equal(one: &Part<Targets>, other: &Part<Targets>) -> Option<Part<Targets>>
     ensures { IfSome result (λ p. p ≡ other.now) }
 {

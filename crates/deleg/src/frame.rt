@@ -15,11 +15,11 @@ use std::alloc::Global;
 use std::marker::Model;
 
 /// A targets file, the name of the bin of the path that is searched for, and how many of the file's
-/// delegations were tried; seen as those that are left.
+/// delegations were tried. Contracts see the delegations that are left.
 #[derive(Drop)]
 pub(crate) struct Frame {
     file: Part<Targets>,
-    /// Whether the cache or the trusted state has the file too.
+    /// Whether the cache or the trusted state also has the file.
     held: bool,
     bin: Text,
     tried: usize,
@@ -35,7 +35,8 @@ impl Model for Frame {
 }
 
 impl Frame {
-    /// A file none of whose delegations were tried.
+    /// Returns the frame of a file none of whose delegations were tried. Fails only if out of
+    /// memory.
     pub(crate) fn of(alloc: Global, entered: Entered, path: &HashedPath) -> Result<Frame, NoMemory>
         ensures { IfOk result (λ f. f ≡ spec.edges entered.file.reading path.now) }
     {
@@ -49,7 +50,7 @@ impl Frame {
         })
     }
 
-    /// An equal frame, which shares its file with this one.
+    /// Returns an equal frame, which shares its file with this one. Fails only if out of memory.
     pub(crate) fn copy(&self, alloc: Global) -> Result<Frame, NoMemory>
         ensures { IfOk result (λ f. f ≡ self.now) }
     {
@@ -62,19 +63,19 @@ impl Frame {
         })
     }
 
-    /// Whether the cache or the trusted state has the file too.
+    /// Returns whether the cache or the trusted state also has the file.
     pub(crate) fn is_held(&self) -> bool {
         self.held
     }
 
-    /// The first delegation that is left.
+    /// Returns the first delegation that is left.
     pub(crate) fn next(&self) -> Option<Edge<'_>>
         ensures { option_map spec.edge_of result ≡ slice_get self.now 0 }
     {
         edge_at(self.file.reading(), self.bin.as_str(), self.tried)
     }
 
-    /// Leaves out the first delegation that is left.
+    /// Drops the first delegation that is left.
     pub(crate) fn skip(&mut self)
         ensures { self.new ≡ drop 1 self.old }
     {
@@ -83,7 +84,7 @@ impl Frame {
         }
     }
 
-    /// Leaves out the first delegations that aren't for the path or lead to visited roles, up to a
+    /// Drops the first delegations that aren't for the path or lead to visited roles, up to a
     /// terminating one that is for the path.
     pub(crate) fn pass(&mut self, path: &HashedPath, seen: &[Accepted])
         ensures { self.new ≡ spec.after_passed path.now seen.now self.old }
@@ -103,7 +104,8 @@ impl Frame {
     }
 }
 
-/// Whether the delegation isn't for the path, or leads to a visited role and isn't terminating.
+/// Returns whether the delegation isn't for the path, or leads to a visited role and isn't
+/// terminating.
 fn is_passed(edge: &Edge, path: &HashedPath, seen: &[Accepted]) -> bool
     ensures { result ≡ spec.is_passed path.now seen.now (spec.edge_of edge.now) }
 {

@@ -13,8 +13,8 @@ use crate::query::{Query, examine};
 use keys::Judge;
 use meta::{Fault, Part, Stop, Targets};
 
-/// The file of the role to which the frame's first delegation leads, or its first fault. Takes the
-/// outcome from the cache, or else examines the role and caches the outcome.
+/// Returns the file of the role to which the frame's first delegation leads, or its first fault.
+/// Takes the outcome from the cache, or else examines the role and caches the outcome.
 pub(crate) fn examine_once<J: Judge>(
     query: &Query,
     frame: &Frame,
@@ -67,7 +67,7 @@ fn remember(
         .unwrap_or(false)
 }
 
-/// The outcome of an examination, or None if it was out of memory.
+/// Returns the outcome of an examination, or None if it was out of memory.
 fn outcome_of(examined: &Result<Part<Targets>, Stop>) -> Option<Result<Part<Targets>, Fault>>
     ensures { (role : Result (spec.Part spec.Targets) spec.Fault)
         → Answers role examined.now (λ p. p) → IfSome result (λ outcome. role ≡ outcome) }

@@ -1,4 +1,4 @@
-//! Whether two delegations ask for one file by the same keys.
+//! Delegations that require one file, signed by the same keys.
 
 ghost use Rattle.std.specs.Prelude.{◌≡◌, IsTrue};
 ghost use Rattle.deleg.specs.Search as spec;
@@ -7,7 +7,8 @@ use crate::edge::Edge;
 use cjson::text::Text;
 use keys::{Key, RoleKeys};
 
-/// Whether both lead to a role of one name, have the same keys, and ask for the same of them.
+/// Returns whether both lead to a role of one name, have the same keys, and require the same of
+/// them.
 pub(crate) fn is_same(one: &Edge, other: &Edge) -> bool
     ensures { IsTrue result → spec.RequireTheSame (spec.edge_of one.now) (spec.edge_of other.now) }
 {

@@ -27,11 +27,11 @@ use std::alloc::Global;
 /// moment.
 ///
 /// Caches the outcome of each role's examination, its file or its fault. A later visit, of any
-/// search, uses it only if the delegation has an equal role name, ring, list of ids and threshold:
-/// so nothing that one delegator's keys accept is accepted for another.
+/// search, uses it only if the delegation has an equal role name, ring, list of ids and threshold.
+/// So nothing that one delegator's keys accept is accepted for another.
 ///
-/// Caches at most 16,384 examinations, and at most 16 of one role; the others are done again. Gives
-/// the cache up if a search is out of memory.
+/// Caches at most 16,384 examinations, and at most 16 of one role; the others are done again. Drops
+/// the cache if a search is out of memory.
 #[derive(Drop)]
 pub struct Searcher<'a> {
     pub alloc: Global,
@@ -43,7 +43,7 @@ pub struct Searcher<'a> {
 }
 
 impl<'a> Searcher<'a> {
-    /// A searcher with an empty cache. Does not allocate.
+    /// Returns a searcher with an empty cache. Does not allocate.
     pub fn new(alloc: Global, trusted: &'a Trusted, repo: &'a Repo, moment: Moment) -> Searcher<'a>
         ensures trusted { result.trusted.now ≡ trusted.now }
         ensures repo { result.repo.now ≡ repo.now }
@@ -132,8 +132,8 @@ pub fn search<J: Judge>(
     Searcher::new(alloc, trusted, repo, now).search(path, limit, judge)
 }
 
-/// The search from the top-level targets file, once more with an empty cache if it was out of
-/// memory.
+/// Searches from the top-level targets file. If that is out of memory, drops the cache and searches
+/// again.
 fn search_or_again<J: Judge>(
     query: &Query,
     targets: &Part<Targets>,
@@ -155,7 +155,7 @@ fn search_or_again<J: Judge>(
     }
 }
 
-/// The search from the top-level targets file.
+/// Searches from the top-level targets file.
 fn search_from<J: Judge>(
     query: &Query,
     targets: &Part<Targets>,

@@ -43,8 +43,8 @@ pub(crate) fn walk<J: Judge>(
     })
 }
 
-/// Takes the last file that has a delegation to visit, up to that delegation; None where no more is
-/// tried.
+/// Takes the last file that has a delegation to visit, up to that delegation. Returns None if no
+/// more is tried.
 fn next_frame(query: &Query, stack: &mut Vec<Frame>, seen: &[Accepted]) -> Option<Frame>
     ensures none { let q = query.now in
         IfNone result (spec.Ends q (spec.pending q.path.now stack.old.items) seen.now found.NotFound
@@ -67,8 +67,8 @@ fn next_frame(query: &Query, stack: &mut Vec<Frame>, seen: &[Accepted]) -> Optio
     None
 }
 
-/// Visits the role of the file's first delegation: what the search found, or None where it goes on
-/// with the delegations that are now on the stack.
+/// Visits the role of the file's first delegation. Returns what the search found, or None if it
+/// goes on with the delegations that are now on the stack.
 fn visit<J: Judge>(
     query: &Query,
     frame: Frame,
@@ -140,7 +140,8 @@ fn accept(
     }))
 }
 
-/// Puts the file back without its first delegation; after a terminating one nothing else is tried.
+/// Puts the file back without its first delegation. After a terminating one, clears the stack
+/// instead.
 fn put_back(mut frame: Frame, terminating: bool, stack: &mut Vec<Frame>) -> Result<(), NoMemory>
     ensures { IfOk result (λ _. stack.new.items
         ≡ (if terminating then [] else stack.old.items ++ drop 1 frame ∷ [])) }

@@ -1,4 +1,4 @@
--- Where a list of files keeps one of the trusted snapshot.
+-- The place of a file of the trusted snapshot in a list of files.
 use Rattle.std.proofs.Common.{rules, ◌≡◌, ◌∙◌, ℕ, ◌<◌, ◌+◌, Bool, true, false, cond, ◌&&◌, List, [], ◌∷◌, Option, Some, None, length, take, drop, sym, ap, refl, subst}
 use Rattle.std.proofs.lemmas.List.{take-append-drop}
 use Rattle.std.proofs.lemmas.Iterator.Adapters.{position_from-zero}
@@ -42,10 +42,10 @@ and_true : (b : Bool) → (b && true) ≡ b
 and_true true = refl
 and_true false = refl
 
--- what keeps a file stands behind the place
+-- what keeps a file is after the place
 pub kept_behind : (from place : ℕ) (files : List Named) (old : Named) → position (is_kept_by old) (drop from files) ≡ Some place → is_listed_below files old ≡ false
 kept_behind from place files old is = in_two from files old ∙ ap (λ b. is_listed_below (take from files) old && b) (sym (none_in (drop from files) old) ∙ ap is_none is) ∙ and_false _
 
--- what keeps a file stands before the place, if anywhere
+-- what keeps a file is before the place, if anywhere
 pub kept_before : (from : ℕ) (files : List Named) (old : Named) → position (is_kept_by old) (drop from files) ≡ None → is_listed_below files old ≡ is_none (position (is_kept_by old) (take from files))
 kept_before from files old is = in_two from files old ∙ ap (λ b. is_listed_below (take from files) old && b) (sym (none_in (drop from files) old) ∙ ap is_none is) ∙ and_true _ ∙ sym (none_in (take from files) old)

@@ -1,5 +1,5 @@
--- The checks of one file, in order (TUF 1.0 sections 5.3 to 5.6): the first that fails is the
--- answer.
+-- The checks of one file, in order (TUF 1.0 sections 5.3 to 5.6). The result is that of the first
+-- that fails.
 use Rattle.std.specs.Prelude.{ℕ, ◌&&◌, ◌||◌, ◌==◌, nat_lt, nat_le, not, if◌then◌else◌, List, [], ◌∷◌, Bool, true, false, Option, Some, None, option_map, option_and_then, Result, Ok, ⊤, bytes_eq, String, Vec}
 use Rattle.std.specs.BTreeMap.{BTreeMap, get_by_text}
 use Rattle.std.specs.List.{list_any, list_all}
@@ -40,7 +40,7 @@ abbrev pub is_absent : Listed → Bool
 is_absent Absent = true
 is_absent other = false
 
--- the listing, where the file is listed
+-- the listing, if the file is listed
 abbrev pub listing : Listed → Option Listing
 listing (As l) = Some l
 listing other = None
@@ -61,7 +61,7 @@ pub record Candidate (A : Type 0) : Type 0 where
   pub part : Part A
   pub doc : Document
 
--- the bytes of the file that is expected, which must be listed where that is due, and be there
+-- the bytes of the expected file, which must be listed if that is required, and be there
 abbrev pub listed_bytes : Expectation → Files → Result (List ℕ) Fault
 listed_bytes e files = do
   listed ← refuse_if (is_absent e.listed) NotListed
@@ -73,8 +73,8 @@ read_candidate form bytes = do
   reading ← formed form doc
   Ok (record { part = record { bytes = bytes; reading = reading }; doc = doc })
 
--- the file that is expected, out of the repository's, whoever signed it: its length (5.5.1, 5.6.1)
--- and its digests (5.5.2, 5.6.2) as they are listed
+-- the expected file from the repository, whoever signed it, with its listed length (5.5.1, 5.6.1)
+-- and digests (5.5.2, 5.6.2)
 abbrev pub candidate : {A : Type 0} → Form A → ℕ → Expectation → Files
     → Result (Candidate A) Fault
 candidate form limit e files = do
@@ -85,7 +85,7 @@ candidate form limit e files = do
 abbrev pub is_signed : List Key → RoleKeys → Document → Bool
 is_signed ring role doc = is_met doc.text doc.entries ring role
 
--- the file that is expected, signed as expected (5.3.4, 5.4.2, 5.5.3, 5.6.3)
+-- the expected file, signed as expected (5.3.4, 5.4.2, 5.5.3, 5.6.3)
 abbrev pub signed_candidate : {A : Type 0} → Form A → ℕ → Expectation → Files
     → Result (Candidate A) Fault
 signed_candidate form limit e files = do
@@ -99,7 +99,7 @@ abbrev pub is_version_wrong : Option ℕ → Header → Bool
 is_version_wrong None h = false
 is_version_wrong (Some due) h = not (due == h.version)
 
--- expired where it doesn't expire later than the moment
+-- it doesn't expire later than the moment
 abbrev pub is_expired : Header → Moment → Bool
 is_expired h now = not (is_before now h.expires)
 
@@ -116,7 +116,7 @@ is_earlier old new = nat_lt new.header.version old.header.version
 abbrev pub is_kept_by : Named → Named → Bool
 is_kept_by old new = bytes_eq new.name old.name && nat_le old.listing.version new.listing.version
 
--- a trusted name that is gone, or has a lower version
+-- a trusted name that is missing or has a lower version
 abbrev pub is_listed_below : List Named → Named → Bool
 is_listed_below files old = list_all (λ new. not (is_kept_by old new)) files
 
@@ -125,7 +125,7 @@ lists_less old new = list_any (is_listed_below new.files) old.files
 
 -- ---- the checks of each kind that is signed as expected
 
--- signed by its own keys, too (5.3.4), and of the version that is due (5.3.5)
+-- also signed by its own keys (5.3.4), and of the expected version (5.3.5)
 abbrev pub root_checks : Bool → ℕ → Header → Result ⊤ Fault
 root_checks is_own due h = do
   own ← refuse_if (not is_own) Unsigned
@@ -142,7 +142,7 @@ later_timestamp old new now = do
   current ← refuse_if (is_expired new.header now) Expired
   Ok true
 
--- a timestamp replaces the trusted one, but where it has that one's version again (5.4.3)
+-- a timestamp replaces the trusted one, unless it has the same version (5.4.3)
 abbrev pub is_newer : Timestamp → Timestamp → Moment → Result Bool Fault
 is_newer old new now = if is_again old new then Ok false else later_timestamp old new now
 
@@ -162,8 +162,8 @@ targets_checks due h now = do
 
 -- ---- the files of each kind
 
--- A root is signed by the keys of the root before, and by its own. Only the last root's expiry is
--- asked, when the chain has ended (5.3.6).
+-- A root is signed by the keys of the root before and by its own. Only the last root's expiry is
+-- checked, when the chain has ended (5.3.6).
 abbrev pub root_part : Expectation → ℕ → Files → Result (Part Root) Fault
 root_part e due files = do
   c ← signed_candidate form.root root_limit e files
@@ -171,14 +171,14 @@ root_part e due files = do
   checked ← root_checks (is_signed root.ring root.root c.doc) due root.header
   Ok c.part
 
--- a timestamp where none is trusted
+-- a timestamp if none is trusted
 abbrev pub first_timestamp : Expectation → Files → Moment → Result (Part Timestamp) Fault
 first_timestamp e files now = do
   c ← signed_candidate form.timestamp timestamp_limit e files
   checked ← expiry_check c.part.reading.header now
   Ok c.part
 
--- a timestamp beside the trusted one; none where it has that one's version again
+-- a timestamp if one is trusted; none if it has the same version
 abbrev pub next_timestamp : Expectation → Timestamp → Files → Moment
     → Result (Option (Part Timestamp)) Fault
 next_timestamp e old files now = do
@@ -210,7 +210,7 @@ abbrev pub target_file : Files → Bool → Target → Option (List ℕ)
 target_file files consistent t =
     first_there files (target_names consistent t.path t.hashes.sha256 t.hashes.sha512)
 
--- # What the values of the program stand for.
+-- # What the values of the program represent.
 
 abbrev pub expectation : program.Expectation → Expectation
 expectation e =
@@ -220,6 +220,6 @@ expectation e =
 abbrev pub file_in : BTreeMap (String Global) (Vec ℕ Global) → Files
 file_in files name = option_map (λ v. v.items) (get_by_text files name)
 
--- what a file that was fetched stands for
+-- the meaning of a file that was fetched
 abbrev pub candidate_of : {A : Type 0} → fetch.Candidate A → Candidate A
 candidate_of c = record { part = c.part; doc = doc_of c.doc }

@@ -14,8 +14,9 @@ use moment::Moment;
 use std::alloc::Global;
 use std::collections::BTreeMap;
 
-/// A root file that follows a trusted one, or its first fault (TUF 1.0 section 5.3): `due` is the
-/// version that is due, and the file must be signed as expected and by its own root role.
+/// Examines a root file that follows a trusted one (TUF 1.0 section 5.3). The file must be signed
+/// as expected and by its own root role, and have the version `due`. Fails with the first fault, or
+/// if out of memory.
 pub fn examine_root<J: Judge>(
     alloc: Global,
     expect: &Expectation,
@@ -40,7 +41,8 @@ pub fn examine_root<J: Judge>(
     Ok(found.part)
 }
 
-/// A timestamp file where none is trusted, or its first fault (TUF 1.0 section 5.4).
+/// Examines a timestamp file if none is trusted (TUF 1.0 section 5.4). Fails with the first fault,
+/// or if out of memory.
 pub fn examine_first_timestamp<J: Judge>(
     alloc: Global,
     expect: &Expectation,
@@ -56,8 +58,9 @@ pub fn examine_first_timestamp<J: Judge>(
     Ok(found.part)
 }
 
-/// A timestamp file beside the trusted one, `old`, or its first fault (TUF 1.0 section 5.4); None
-/// where it is signed as expected and has the version of `old` again.
+/// Examines a timestamp file against the trusted one, `old` (TUF 1.0 section 5.4). Returns None if
+/// it is signed as expected and has the version of `old`. Fails with the first fault, or if out of
+/// memory.
 pub fn examine_next_timestamp<J: Judge>(
     alloc: Global,
     expect: &Expectation,
@@ -78,8 +81,8 @@ pub fn examine_next_timestamp<J: Judge>(
     }
 }
 
-/// A snapshot file, or its first fault (TUF 1.0 section 5.5); `old` is the trusted snapshot, whose
-/// names it must list, each with no lower version.
+/// Examines a snapshot file (TUF 1.0 section 5.5). It must list each name of the trusted snapshot
+/// `old`, if there is one, with no lower version. Fails with the first fault, or if out of memory.
 pub fn examine_snapshot<J: Judge>(
     alloc: Global,
     expect: &Expectation,
@@ -97,7 +100,8 @@ pub fn examine_snapshot<J: Judge>(
     Ok(found.part)
 }
 
-/// A targets file, top-level or delegated, or its first fault (TUF 1.0 sections 5.6 and 5.7).
+/// Examines a targets file, top-level or delegated (TUF 1.0 sections 5.6 and 5.7). Fails with the
+/// first fault, or if out of memory.
 pub fn examine_targets<J: Judge>(
     alloc: Global,
     expect: &Expectation,

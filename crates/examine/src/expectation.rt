@@ -1,15 +1,16 @@
-//! What a file is examined for.
+//! What is expected of a file.
 
 use keys::{KeyRing, RoleKeys};
 use meta::Listing;
 
-/// Whether a file has to be listed by another, and how it is.
+/// Whether another file must list a file, and its listing.
 #[derive(Clone, Copy)]
 pub enum Listed {
     /// No file lists it: roots and the timestamp.
     NotDue,
-    /// It should be listed, and isn't.
+    /// It must be listed, but isn't.
     Absent,
+    /// It is listed like this.
     As(Listing),
 }
 
@@ -18,6 +19,7 @@ pub enum Listed {
 pub struct Expectation<'a> {
     /// The file's name in the repository.
     pub name: &'a str,
+    /// Its listing, if it must be listed.
     pub listed: Listed,
     /// The keys of the file that delegates to it.
     pub ring: &'a KeyRing,

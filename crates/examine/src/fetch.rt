@@ -1,4 +1,4 @@
-//! A file taken from the repository, with the checks that come before it is read.
+//! A file from the repository, with the checks before it is read.
 
 ghost use Rattle.std.specs.Prelude.{◌≡◌, ◌≤◌, length, Some};
 ghost use Rattle.std.specs.Result.{result_map_both};
@@ -13,14 +13,14 @@ use meta::{Content, Fault, Part, Reading, Stop, read_document, refuse_if};
 use std::alloc::Global;
 use std::collections::BTreeMap;
 
-/// A file that was read, and the document that it is.
+/// A file that was read, and its document.
 #[derive(Drop)]
 pub(crate) struct Candidate<A: Reading> {
     pub part: Part<A>,
     pub doc: Doc,
 }
 
-/// The file that is expected, out of the repository's, signed as expected.
+/// Returns the expected file from the repository, signed as expected.
 pub(crate) fn fetch_signed<A: Reading + Drop, J: Judge>(
     alloc: Global,
     expect: &Expectation,
@@ -44,7 +44,7 @@ pub(crate) fn fetch_signed<A: Reading + Drop, J: Judge>(
     Ok(found)
 }
 
-/// The file that is expected, out of the repository's, whoever signed it.
+/// Returns the expected file from the repository, whoever signed it.
 fn fetch<A: Reading + Drop, J: Judge>(
     alloc: Global,
     expect: &Expectation,
@@ -60,7 +60,7 @@ fn fetch<A: Reading + Drop, J: Judge>(
     read_candidate(alloc, bytes)
 }
 
-/// The bytes of the file, which must be listed where that is due, and be there.
+/// Returns the bytes of the file, which must be listed if that is required, and be there.
 fn listed_bytes<'a>(
     expect: &Expectation,
     files: &'a BTreeMap<String, Vec<u8>>,
@@ -73,7 +73,7 @@ fn listed_bytes<'a>(
     Ok(bytes.as_slice())
 }
 
-/// What the bytes of a file are read as, within the limit of its kind.
+/// Reads the bytes of a file, which are within the limit of its kind.
 fn read_candidate<A: Reading + Drop>(alloc: Global, bytes: &[u8]) -> Result<Candidate<A>, Stop>
     requires limit { length bytes.now ≤ A.limit }
     ensures { Answers (spec.read_candidate A.form bytes.now) result candidate_of }
@@ -84,7 +84,7 @@ fn read_candidate<A: Reading + Drop>(alloc: Global, bytes: &[u8]) -> Result<Cand
     Ok(Candidate { part, doc })
 }
 
-/// What the file's bytes must be: within the limit of its kind, and as they are listed.
+/// Returns what the file's bytes must meet: the limit of its kind, and its listing.
 fn content_of(listed: &Listed, limit: u64) -> Content
     ensures { result ≡ record {
       limit = Some limit;
@@ -103,7 +103,7 @@ fn content_of(listed: &Listed, limit: u64) -> Content
     }
 }
 
-/// The version that is listed of a file.
+/// Returns the listed version of a file.
 pub(crate) fn listed_version(listed: &Listed) -> Option<u64>
     ensures { result ≡ spec.listed_version listed.now }
 {

@@ -7,8 +7,8 @@ use crate::timing::{falls_short, is_again, is_earlier, is_expired, is_version_wr
 use meta::{Fault, Header, Snapshot, Timestamp, refuse_if};
 use moment::Moment;
 
-/// The checks of a root that is signed as expected: it must be signed by its own root role, too,
-/// and have the version that is due.
+/// Checks a root that is signed as expected: it must also be signed by its own root role, and have
+/// the version `due`.
 pub(crate) fn check_root(is_own: bool, due: u64, header: &Header) -> Result<(), Fault>
     ensures { result ≡ spec.root_checks is_own due header.now }
 {
@@ -16,15 +16,15 @@ pub(crate) fn check_root(is_own: bool, due: u64, header: &Header) -> Result<(), 
     refuse_if(is_version_wrong(Some(due), header), Fault::VersionWrong)
 }
 
-/// The check of a file that must not be expired.
+/// Checks that a file isn't expired.
 pub(crate) fn check_expiry(header: &Header, now: Moment) -> Result<(), Fault>
     ensures { result ≡ spec.expiry_check header.now now }
 {
     refuse_if(is_expired(header, now), Fault::Expired)
 }
 
-/// Whether a timestamp that is signed as expected replaces the trusted one. It doesn't where it has
-/// that one's version again.
+/// Returns whether a timestamp that is signed as expected replaces the trusted one. It doesn't if
+/// it has the same version.
 pub(crate) fn is_newer(old: &Timestamp, new: &Timestamp, now: Moment) -> Result<bool, Fault>
     ensures { result ≡ spec.is_newer old.now new.now now }
 {
@@ -36,7 +36,7 @@ pub(crate) fn is_newer(old: &Timestamp, new: &Timestamp, now: Moment) -> Result<
     Ok(true)
 }
 
-/// The checks of a snapshot that is signed as expected.
+/// Checks a snapshot that is signed as expected.
 pub(crate) fn check_snapshot(
     due: Option<u64>,
     old: Option<&Snapshot>,
@@ -50,7 +50,7 @@ pub(crate) fn check_snapshot(
     refuse_if(is_expired(new.header(), now), Fault::Expired)
 }
 
-/// The checks of a targets file that is signed as expected.
+/// Checks a targets file that is signed as expected.
 pub(crate) fn check_targets(due: Option<u64>, header: &Header, now: Moment) -> Result<(), Fault>
     ensures { result ≡ spec.targets_checks due header.now now }
 {

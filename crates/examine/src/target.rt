@@ -8,9 +8,9 @@ use meta::names::digest_name;
 use std::alloc::{AllocError, Global};
 use std::collections::BTreeMap;
 
-/// The file under the first of the target's names that is there: its path, or under consistent
-/// snapshots the names under its sha256 and its sha512 digest, each where it is listed (TUF 1.0
-/// section 5.7). Only memory can be refused.
+/// Returns the file under the first of the target's names that is there: its path, or under
+/// consistent snapshots the names under its sha256 and its sha512 digest, each if it is listed (TUF
+/// 1.0 section 5.7). Fails only if out of memory.
 pub fn target_file<'a>(
     alloc: Global,
     files: &'a BTreeMap<String, Vec<u8>>,
@@ -36,7 +36,7 @@ pub fn target_file<'a>(
     Ok(file_of(files, name.as_str()))
 }
 
-/// The file of that name.
+/// Returns the file of that name.
 fn file_of<'a>(files: &'a BTreeMap<String, Vec<u8>>, name: &str) -> Option<&'a [u8]>
     ensures { option_map (λ b. b.now) result ≡ spec.file_in files.now name.now }
 {

@@ -8,28 +8,28 @@ ghost use Rattle.examine.specs.Checks as spec;
 use meta::{Header, Named, Snapshot, Timestamp};
 use moment::Moment;
 
-/// Whether the file has another version than the one that is due.
+/// Returns whether the file has another version than `due`, if there is one.
 pub(crate) fn is_version_wrong(due: Option<u64>, header: &Header) -> bool
     ensures { result ≡ spec.is_version_wrong due header.now }
 {
     due.is_some_and(|due| due != header.version.get())
 }
 
-/// Whether the file expires no later than the moment (TUF 1.0 section 5).
+/// Returns whether the file expires no later than the moment (TUF 1.0 section 5).
 pub fn is_expired(header: &Header, now: Moment) -> bool
     ensures test { result ≡ spec.is_expired header.now now }
 {
     !now.is_before(header.expires)
 }
 
-/// Whether the timestamp has the version of the trusted one.
+/// Returns whether the timestamp has the version of the trusted one.
 pub(crate) fn is_again(old: &Timestamp, new: &Timestamp) -> bool
     ensures { result ≡ spec.is_again old.now new.now }
 {
     new.header().version.get() == old.header().version.get()
 }
 
-/// Whether the timestamp, or the snapshot that it lists, falls below the trusted one.
+/// Returns whether the timestamp, or the snapshot that it lists, has a lower version than before.
 pub(crate) fn is_earlier(old: &Timestamp, new: &Timestamp) -> bool
     ensures { result ≡ spec.is_earlier old.now new.now }
 {
@@ -37,7 +37,7 @@ pub(crate) fn is_earlier(old: &Timestamp, new: &Timestamp) -> bool
         || new.snapshot().version.get() < old.snapshot().version.get()
 }
 
-/// Whether the snapshot leaves out a name of the trusted one, or lowers its version.
+/// Returns whether the snapshot leaves out a name of the trusted one, or lowers its version.
 pub(crate) fn falls_short(old: Option<&Snapshot>, new: &Snapshot) -> bool
     ensures { result ≡ option_map_or (λ s. spec.lists_less s new.now)
         (option_map (λ s. s.now) old.entry) false }
@@ -45,8 +45,9 @@ pub(crate) fn falls_short(old: Option<&Snapshot>, new: &Snapshot) -> bool
     old.is_some_and(|old| lists_less(old, new))
 }
 
-/// Both snapshots list their files in byte order of their names, so what keeps a file stands close
-/// behind what keeps the file before it: each name of the new snapshot is passed once.
+/// Returns whether the new snapshot leaves out a name of the old one, or lowers its version. Both
+/// list their files in byte order of their names, so what keeps a file is close after what keeps
+/// the file before it, and each name of the new snapshot is passed once.
 fn lists_less(old: &Snapshot, new: &Snapshot) -> bool
     ensures { result ≡ spec.lists_less old.now new.now }
 {
@@ -61,7 +62,7 @@ fn lists_less(old: &Snapshot, new: &Snapshot) -> bool
     false
 }
 
-/// The place of what keeps the file: the first from `from` on, or else the first before it.
+/// Returns the place of what keeps the file: the first from `from` on, or else the first before it.
 #[tactic(auto, using(crate::proofs::Places::within))]
 fn place_kept(files: &[Named], from: usize, old: &Named) -> Option<usize>
     requires { from ≤ length files.now }
@@ -75,14 +76,14 @@ fn place_kept(files: &[Named], from: usize, old: &Named) -> Option<usize>
     }
 }
 
-/// The first place of what keeps the file.
+/// Returns the first place of what keeps the file.
 fn first_kept(files: &[Named], old: &Named) -> Option<usize>
     ensures { result ≡ position (spec.is_kept_by old.now) files.now }
 {
     files.iter().position(|new| is_kept_by(old, new))
 }
 
-/// Whether it has the same name and no lower version.
+/// Returns whether `new` has the same name and no lower version.
 fn is_kept_by(old: &Named, new: &Named) -> bool
     ensures { result ≡ spec.is_kept_by old.now new.now }
 {

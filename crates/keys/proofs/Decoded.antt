@@ -9,7 +9,7 @@ use Rattle.lms.specs.Lms.{is_valid}
 use Rattle.lms.proofs.Law.{is_valid-length}
 use Rattle.keys.specs.Keys.{is_signed_by}
 
--- bytes that are too many
+-- too many bytes
 is_valid-long : (p m s : List ℕ) (b : Bool) → is_valid p m s ≡ b → 2668 < length s → false ≡ b
 is_valid-long p m s true is long = let short = is_valid-length p m s is in absurd (omega arith)
 is_valid-long p m s false is long = refl
@@ -21,6 +21,6 @@ decoded-long p m sig (Ok bytes) is long =
     is_valid-long p m bytes _ refl (omega arith)
 decoded-long p m sig (Err e) is long = refl
 
--- a text of which half is too long is no signature
+-- a text whose half is too long is no signature
 pub long_is_unsigned : (p m sig : List ℕ) → 2668 < length sig / 2 → false ≡ is_signed_by p m sig
 long_is_unsigned p m sig long = decoded-long p m sig _ refl long

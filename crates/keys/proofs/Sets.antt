@@ -1,4 +1,4 @@
--- The set of those who signed, along a list of keys.
+-- The set of signers, along a list of keys.
 use Rattle.std.proofs.Common.{◌≡◌, ℕ, ◌+◌, ◌<◌, ◌≤◌, Bool, true, false, cond, ◌||◌, List, [], ◌∷◌, ◌++◌, length, get_or, take, drop, map, filter, nat_cmp, refl, sym, ap, ◌∙◌, subst, append_assoc, append-nil, arith, rules, tests, nat_le}
 use Rattle.std.proofs.lemmas.List.{take_more, take-append-drop, map-append}
 use Rattle.std.proofs.lemmas.List.Elements.{filter-append}
@@ -83,14 +83,14 @@ any_same (k ∷ ks) q = λ i. is_eq-slice_cmp q k i || any_same ks q i
 pub contains_values : (ks : List (List ℕ)) (q : List ℕ) → set.contains (values ks) q ≡ list_any (bytes_eq q) ks
 contains_values ks q = set.contains-from_list nat_list_cmp_total ks q ∙ any_same ks q
 
--- one more, where it was not among them
+-- one more, if it was not among them
 pub added_len : (ks : List (List ℕ)) (k : List ℕ) (n m : ℕ) → set.contains (values ks) k ≡ false → set.len (values ks) ≡ n → m ≡ n + 1 → set.len (values (ks ++ k ∷ [])) ≡ m
 added_len ks k n m new len more = ap set.len (values_push ks k) ∙ set.len-insert nat_list_cmp_total (values ks) k ∙ ap (λ b. cond b (set.len (values ks)) (set.len (values ks) + 1)) new ∙ ap (λ x. x + 1) len ∙ sym more
 
 pub leb-from_le : (m n : ℕ) → m ≤ n → true ≡ nat_le m n
 leb-from_le m n h = search (rules, tests)
 
--- enough of the keys signed before the last was asked
+-- enough keys signed before the last was checked
 pub met_early : (p : Key → Bool) (keys all : List Key) (i : ℕ) (s : Values) (len needed threshold : ℕ) → keys ≡ all → s ≡ signers_of p (take i keys) → len ≡ set.len s → needed ≡ threshold → needed ≤ len
     → true ≡ nat_le threshold (set.len (signers_of p all))
 met_early p keys all i s len needed threshold same is counted asked le =
@@ -99,7 +99,7 @@ met_early p keys all i s len needed threshold same is counted asked le =
     let every : set.len (signers_of p keys) ≡ set.len (signers_of p all) = ap (λ ks. set.len (signers_of p ks)) same in
     leb-from_le _ _ (omega arith)
 
--- a key was asked
+-- a key was checked
 pub signed_more : (p : Key → Bool) (keys : List Key) (i : ℕ) (key : Key) (b : Bool) (s t : Values) → i < length keys → key ≡ get_or keys i key → b ≡ p key → s ≡ signers_of p (take i keys)
     → t ≡ cond b (set.insert s key.public) s → t ≡ signers_of p (take (i + 1) keys)
 signed_more p keys i key b s t within is passes so_far next =

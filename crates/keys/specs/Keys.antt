@@ -37,7 +37,7 @@ is_own_id id key = is_some (do
   found ← key_id key
   guard (bytes_eq found id))
 
--- the public value, where it is one of a supported kind
+-- the public value, if it is one of a supported kind
 abbrev pub public_value : Data → Option (List ℕ)
 public_value key = do
   bytes ← needed (codes "keyval") (needed (codes "public") (hex_bytes 56)) key
@@ -49,7 +49,7 @@ is_lms key =
     has_text (codes "keytype") (bytes_eq (codes "lms")) key
     && has_text (codes "scheme") (bytes_eq (codes "lms-sha256")) key
 
--- the key, where it counts under the id
+-- the key, if it counts under the id
 abbrev pub usable : List ℕ → Data → Option Key
 usable id key = do
   public ← public_value key
@@ -97,24 +97,24 @@ abbrev pub signers : List ℕ → List Entry → List Key → RoleKeys → set.F
 signers message entries keys role =
     set.from_list (map (λ key. key.public) (filter (has_signed message entries role) keys))
 
--- as many of them signed as the role asks for
+-- at least as many of them as the role's threshold signed
 abbrev pub is_met : List ℕ → List Entry → List Key → RoleKeys → Bool
 is_met message entries keys role =
     nat_le role.threshold (set.len (signers message entries keys role))
 
--- # Questions about signatures (TUF 1.0 section 4.2) and digests (section 4.4), and their truth.
+-- # Checks of signatures (TUF 1.0 section 4.2) and digests (section 4.4), and their truth.
 
 abbrev pub digest_by : Algorithm → List ℕ → List ℕ
 digest_by Sha256 bytes = sha256 bytes
 digest_by Sha512 bytes = sha512 bytes
 
--- all parts of a question: file, place, public value, message and signature's text; or file,
+-- all parts of a check: file, place, public value, message and signature's text; or file,
 -- algorithm, bytes and digest
 pub data Question : Type 0 where
   signature_of : List ℕ → ℕ → List ℕ → List ℕ → List ℕ → Question
   digest_of : List ℕ → Algorithm → List ℕ → List ℕ → Question
 
--- the question that is asked
+-- the parts of an `Ask`
 abbrev pub question_of : Ask → Question
 question_of (Signature a) = signature_of a.file.now a.place a.public.now a.message.now a.sig.now
 question_of (Digest a) = digest_of a.file.now a.algorithm a.bytes.now a.digest.now
@@ -152,9 +152,9 @@ abbrev pub IsById : BTreeMap (Bor (List ℕ)) (Vec Placed Global) → List Entry
 IsById m entries = (id : List ℕ)
     → sigs_under m id ≡ map (λ e. e.sig) (filter (λ e. bytes_eq id e.keyid) entries)
 
--- # What a call answers that makes a text of a tree. Want of memory says nothing.
+-- # What a call returns that makes a text of a tree. If it is out of memory, nothing is known.
 
--- the text, or `Float` where there is none
+-- the text, or `Float` if there is none
 abbrev pub GivesText : {A : Type 0} → Option (List ℕ) → Result A CanonicalFault → (A → List ℕ)
     → Type 0
 GivesText o (Ok x) bytes = o ≡ Some (bytes x)

@@ -1,4 +1,4 @@
-//! The judge that decides by itself.
+//! The judge that computes every check.
 
 ghost use Rattle.std.specs.Prelude.{◌≡◌, Ok, bytes_eq};
 ghost use Rattle.keys.specs.Keys.{is_signed_by, truth, digest_by};
@@ -8,7 +8,7 @@ use cjson::NoMemory;
 use lms::{MOST_SIGNATURE, Public, verify};
 use sha2::{Digest, Sha256, Sha512};
 
-/// The plain judge: it decides each question when it is asked, takes no memory, and never refuses.
+/// The plain judge, which computes each check. Does not allocate and never fails.
 #[derive(Clone, Copy, Debug)]
 pub struct Direct;
 
@@ -23,7 +23,7 @@ impl Judge for Direct {
     }
 }
 
-/// Whether the text is the hexadecimal of a valid signature.
+/// Returns whether the text is the hexadecimal of a valid signature.
 #[tactic(auto, using(crate::proofs::Decoded::long_is_unsigned))]
 fn is_signed_by(public: &Public, message: &[u8], sig: &str) -> bool
     ensures { result ≡ is_signed_by public.now message.now sig.now }

@@ -22,7 +22,7 @@ pub struct Placed<'a> {
 }
 
 impl<'a> Entries<'a> {
-    /// The entries of the document.
+    /// Collects the entries of the document. Fails only if out of memory.
     pub fn of(alloc: Global, doc: &'a Doc) -> Result<Entries<'a>, NoMemory>
         ensures { IfOk result (λ e. IsById e.by_id (doc_of doc.now).entries) }
     {
@@ -37,7 +37,7 @@ impl<'a> Entries<'a> {
         Ok(Entries { by_id })
     }
 
-    /// The entries under the id, in the document's order, where there are any.
+    /// Returns the entries under the id, in the document's order, if there are any.
     pub fn under(&self, id: &str) -> Option<&[Placed<'a>]>
         ensures { map (λ p. p.sig.now) (placed_of result) ≡ sigs_under self.now.by_id id.now }
     {

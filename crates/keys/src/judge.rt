@@ -1,4 +1,4 @@
-//! Questions about signatures and digests, and who answers them.
+//! Checks of signatures and digests, and the judges that make them.
 
 ghost use Rattle.std.specs.Prelude.{◌≡◌, ◌↔◌, IsTrue, IfOk};
 ghost use Rattle.keys.specs.Keys.{question_of, truth};
@@ -27,11 +27,11 @@ pub struct SignatureAsk<'a> {
     pub public: &'a Public,
     /// The canonical text of the file's `signed`.
     pub message: &'a [u8],
-    /// The entry's `sig`, as the file spells it.
+    /// The entry's `sig`, as the file writes it.
     pub sig: &'a str,
 }
 
-/// Whether the digest is that of the bytes (TUF 1.0 section 4.4).
+/// Whether the digest equals that of the bytes (TUF 1.0 section 4.4).
 #[derive(Clone, Copy, PartialEq)]
 pub struct DigestAsk<'a> {
     /// The name of the file that has the bytes.
@@ -40,13 +40,13 @@ pub struct DigestAsk<'a> {
     pub algorithm: Algorithm,
     /// The file's bytes.
     pub bytes: &'a [u8],
-    /// The digest, as bytes. One of another length than the algorithm's is that of no bytes.
+    /// The digest, as bytes. One of another length than the algorithm's never matches.
     pub digest: &'a [u8],
 }
 
-/// A question about a metadata file or a target. Its answer is a matter of computing: no role,
-/// version or date bears on it. The names and the place say where the question comes from, and not
-/// what is true.
+/// A check of a metadata file or a target. Its result is a matter of computing: it depends on no
+/// role, version or date. Names and place say where the check comes from, and don't affect the
+/// result.
 #[derive(Clone, Copy, PartialEq)]
 pub enum Ask<'a> {
     Signature(SignatureAsk<'a>),
@@ -54,8 +54,8 @@ pub enum Ask<'a> {
 }
 
 impl Ask<'_> {
-    /// Whether all parts of the two questions are equal, the name of the file and the place too. It
-    /// takes no memory. Then the questions have one answer.
+    /// Returns whether all parts of the two checks are equal, the file's name and the place
+    /// included. Equal checks have one result. Does not allocate.
     pub fn same(&self, other: &Ask) -> bool
         ensures parts { IsTrue result ↔ (question_of self.now ≡ question_of other.now) }
         ensures truth { IsTrue result → truth self.now ≡ truth other.now }
@@ -64,10 +64,9 @@ impl Ask<'_> {
     }
 }
 
-/// What answers questions, and only with the truth: by computing at once, or by what it remembers.
+/// Makes checks, and returns only true results, either by computing or from a cache.
 pub trait Judge {
-    /// Whether the answer is yes. The only refusal is want of memory, after which the question may
-    /// be asked again.
+    /// Returns whether the check holds. Fails only if out of memory, and can then be called again.
     fn valid(&mut self, ask: &Ask) -> Result<bool, NoMemory>
         ensures truth { IfOk result (λ b. b ≡ truth ask.now) };
 }

@@ -22,9 +22,9 @@ pub struct Key {
     pub public: Public,
 }
 
-/// The id of a key object as it stands: the SHA-256 of its canonical text, in 64 lower-case
-/// hexadecimal digits (TUF 1.0 section 4.2). An object with a number that isn't whole has no
-/// canonical text, so no id.
+/// Returns the id of a key object: the SHA-256 of its canonical text, in 64 lower-case hexadecimal
+/// digits (TUF 1.0 section 4.2). Fails with `Float` if a number of the object isn't whole, since it
+/// then has no canonical text, or with `NoMemory`.
 pub fn key_id(alloc: Global, key: &Value) -> Result<String, CanonicalFault>
     ensures digest { spec.GivesText (spec.key_id (view key.now)) result string_bytes }
 {
@@ -33,7 +33,7 @@ pub fn key_id(alloc: Global, key: &Value) -> Result<String, CanonicalFault>
     Ok(hex::encode(alloc, digest)?)
 }
 
-/// The key, where it counts under the id.
+/// Returns the key, if it counts under the id. Fails only if out of memory.
 pub(crate) fn usable_key(alloc: Global, id: &str, key: &Value) -> Result<Option<Key>, NoMemory>
     ensures { IfOk result (λ o. o ≡ spec.usable id.now (view key.now)) }
 {

@@ -33,15 +33,15 @@ impl Model for KeyRing {
 }
 
 impl KeyRing {
-    /// The ring of an object of keys, or None where the value isn't an object or one of its members
-    /// isn't one.
+    /// Reads an object of keys. Returns None if the value or one of its members isn't an object.
+    /// Fails only if out of memory.
     pub fn read(alloc: Global, value: &Value) -> Result<Option<KeyRing>, NoMemory>
         ensures read { IfOk result (λ o. o ≡ spec.ring (view value.now)) }
     {
         if_formed(KeyRing::from_json(alloc, value))
     }
 
-    /// The keys, in the order of their ids.
+    /// Returns the keys, in the order of their ids.
     pub fn keys(&self) -> &[Key]
         ensures value { result.now ≡ self.now }
     {

@@ -1,4 +1,4 @@
-//! Which keys a role lists, and its threshold.
+//! The keys that a role lists, and its threshold.
 
 ghost use Rattle.std.specs.Prelude.{◌≡◌, ℕ, List, IfOk, bytes_eq};
 ghost use Rattle.std.specs.List.{list_any};
@@ -14,7 +14,7 @@ use serde_json::Value;
 use std::alloc::Global;
 use std::collections::BTreeSet;
 
-/// Which keys a role lists, by their ids, and how many of them must sign (TUF 1.0 section 4.3).
+/// The keys that a role lists, by their ids, and how many of them must sign (TUF 1.0 section 4.3).
 #[derive(Drop)]
 pub struct RoleKeys {
     /// The listed ids, as the file lists them: some may be repeated or unknown.
@@ -24,15 +24,17 @@ pub struct RoleKeys {
 }
 
 impl RoleKeys {
-    /// The role of an object, or None where `keyids` isn't a list of texts or `threshold` isn't a
-    /// whole number of 1 to 9223372036854775807. Other members are ignored.
+    /// Reads the object of a role. Returns None if `keyids` isn't a list of texts or `threshold`
+    /// isn't a whole number from 1 to 9223372036854775807. Ignores other members. Fails only if out
+    /// of memory.
     pub fn read(alloc: Global, value: &Value) -> Result<Option<RoleKeys>, NoMemory>
         ensures read { IfOk result (λ o. o ≡ spec.role_keys (view value.now)) }
     {
         if_formed(RoleKeys::from_json(alloc, value))
     }
 
-    /// The set of the listed ids, in which one is found at the price of a few comparisons.
+    /// Returns the set of the listed ids, in which a look-up takes a few comparisons. Fails only if
+    /// out of memory.
     pub(crate) fn id_set(&self, alloc: Global) -> Result<BTreeSet<&str>, NoMemory>
         ensures ids { IfOk result (λ s. (id : List ℕ)
             → spec.has_id s id ≡ list_any (bytes_eq id) self.now.ids) }

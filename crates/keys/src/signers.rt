@@ -32,6 +32,7 @@ impl Model for Signers {
 }
 
 impl Signers {
+    /// Returns the empty set. Does not allocate.
     pub fn new(alloc: Global) -> Signers
         ensures value { result ≡ set.empty }
     {
@@ -40,18 +41,22 @@ impl Signers {
         }
     }
 
+    /// Returns the number of public values.
     pub fn len(&self) -> usize
         ensures value { result ≡ set.len self.now }
     {
         self.publics.len()
     }
 
+    /// Returns whether the set has the public value.
     pub fn has(&self, public: &Public) -> bool
         ensures value { result ≡ set.contains self.now public.now }
     {
         is_among(&self.publics, public)
     }
 
+    /// Adds the public value if it isn't there yet. Fails only if out of memory, and leaves the set
+    /// unchanged on error.
     pub fn add(&mut self, public: &Public) -> Result<(), AllocError>
         ensures ok { OnOk result (self.new ≡ set.insert self.old public.now) }
         ensures err { OnErr result (self.new ≡ self.old) }

@@ -14,14 +14,14 @@ use cjson::{Doc, NoMemory};
 use std::alloc::Global;
 use std::collections::BTreeSet;
 
-/// Whether as many keys signed the document as the role asks for (TUF 1.0 section 4.3): keys of the
-/// ring that the role lists, each with an entry under its id that is valid on the canonical text of
-/// `signed`. Keys with one public value count once, however many ids or entries they have.
+/// Returns whether the document has at least as many signers as the role's threshold (TUF 1.0
+/// section 4.3): keys of the ring that the role lists, each with an entry under its id that is
+/// valid on the canonical text of `signed`. Keys with one public value count once, however many ids
+/// or entries they have.
 ///
-/// The judge is told `file` as the name of the document's file. It is asked no more once there are
-/// enough keys, nor about a key that has a valid entry. Listed ids and entries are looked up by id,
-/// so that many keys over many entries cost no more than their number. Want of memory is the only
-/// refusal.
+/// Passes `file` to the judge as the name of the document's file. Stops at the threshold, and stops
+/// checking a key at its first valid entry. Listed ids and entries are looked up by id, so many
+/// keys over many entries cost no more than their number. Fails only if out of memory.
 pub fn enough<J: Judge>(
     alloc: Global,
     doc: &Doc,
@@ -47,7 +47,7 @@ pub fn enough<J: Judge>(
     Ok(signers.len() as u64 >= role.threshold.get())
 }
 
-/// Whether the key's id is listed, and an entry under it has a valid signature.
+/// Returns whether the key's id is listed, and an entry under it has a valid signature.
 fn has_signed<J: Judge>(
     doc: &Doc,
     file: &str,
@@ -63,7 +63,7 @@ fn has_signed<J: Judge>(
     Ok(listed.contains(key.id.as_str()) && has_entry(doc, file, entries, key, judge)?)
 }
 
-/// Whether an entry under the key's id has a valid signature.
+/// Returns whether an entry under the key's id has a valid signature.
 fn has_entry<J: Judge>(
     doc: &Doc,
     file: &str,

@@ -1,4 +1,4 @@
-//! Verdicts on signatures, by the file that they stand in.
+//! Verdicts on signatures, by the file that contains them.
 
 ghost use Rattle.std.specs.Prelude.{◌≡◌, ◌≤◌, All, IfOk, IfSome, string_bytes};
 ghost use Rattle.std.specs.BTreeMap.{values};
@@ -22,8 +22,8 @@ struct Verdict {
 }
 
 /// A file's name and signed bytes, and verdicts by the signature's place and the key's public
-/// value. Each is the truth of what is kept with it. The name is for finding the file, and bears on
-/// no truth.
+/// value. Each verdict is the truth for the parts cached with it. The name serves look-up only, and
+/// doesn't affect the truth.
 struct Remembered {
     name: String,
     message: Vec<u8>,
@@ -43,7 +43,7 @@ impl Drop for Remembered {
 }
 
 impl Remembered {
-    /// A file with no verdict yet.
+    /// Returns a file without verdicts. Fails only if out of memory.
     fn new(alloc: Global, name: &str, message: &[u8]) -> Result<Remembered, NoMemory>
         ensures { IfOk result (λ r. r.message.items ≡ message.now) }
     {
@@ -54,7 +54,7 @@ impl Remembered {
         })
     }
 
-    /// The kept verdict, if all parts of the question are equal.
+    /// Returns the cached verdict, if all parts of the check are equal.
     fn find(&self, question: &SignatureAsk) -> Option<bool>
         ensures { IfSome result (λ b. b ≡ is_valid_in question.now) }
     {
@@ -66,7 +66,8 @@ impl Remembered {
         answer_of(verdict, question.public, question.sig)
     }
 
-    /// Keeps a verdict in place of an earlier one at its place for its key.
+    /// Caches a verdict in place of an earlier one at its place for its key. Fails only if out of
+    /// memory.
     fn learn(&mut self, place: usize, verdict: Verdict) -> Result<(), NoMemory>
         requires { verdict.valid
             ≡ is_signed_by verdict.public self.old.message.items (string_bytes verdict.sig) }
@@ -77,7 +78,7 @@ impl Remembered {
     }
 }
 
-/// The verdict, where public value and signature's text are equal.
+/// Returns the verdict, if public value and signature's text are equal.
 fn answer_of(verdict: &Verdict, public: &Public, sig: &str) -> Option<bool>
     ensures { IfSome result (λ b. (b ≡ verdict.now.valid)
         × (verdict.now.public ≡ public.now) × (string_bytes verdict.now.sig ≡ sig.now)) }
@@ -89,7 +90,7 @@ fn answer_of(verdict: &Verdict, public: &Public, sig: &str) -> Option<bool>
     }
 }
 
-/// A verdict on a signature, as it was asked for.
+/// Returns a verdict with copies of the check's parts. Fails only if out of memory.
 fn verdict_on(alloc: Global, question: &SignatureAsk, valid: bool) -> Result<Verdict, NoMemory>
     ensures { IfOk result (λ v. (v.valid ≡ valid) × (v.public ≡ question.now.public.now)
         × (string_bytes v.sig ≡ question.now.sig.now)) }
@@ -102,8 +103,7 @@ fn verdict_on(alloc: Global, question: &SignatureAsk, valid: bool) -> Result<Ver
 }
 
 /// Verdicts on the signatures of the files that were used last, found by a digest of a file's name
-/// and signed bytes. Each is the truth, and none is used unless the signed bytes themselves are
-/// equal.
+/// and signed bytes. Each is the truth, and is used only if the signed bytes themselves are equal.
 #[derive(Drop)]
 pub struct Cache {
     alloc: Global,
@@ -111,8 +111,8 @@ pub struct Cache {
 }
 
 impl Cache {
-    /// A cache for so many files, 1 to 4,096. Where one more is kept, the one that was used least
-    /// recently goes.
+    /// Returns an empty cache for `capacity` files, 1 to 4,096. The least recently used file is
+    /// dropped for one more. Fails only if out of memory.
     pub fn new(alloc: Global, capacity: usize) -> Result<Cache, NoMemory>
         requires least { 1 ≤ capacity }
         requires most { capacity ≤ 4096 }
@@ -127,7 +127,7 @@ impl Cache {
         })
     }
 
-    /// The digest by which the question's file is found. It isn't computed again where the file
+    /// Returns the digest by which the check's file is found. Doesn't compute it again if the file
     /// that was used last has this name and this very message.
     pub(crate) fn digest_of(&self, question: &SignatureAsk) -> [u8; 32] {
         if let Some((digest, file)) = self.files.peek_mru() {
@@ -138,14 +138,16 @@ impl Cache {
         digest_of_parts(question.file, question.message)
     }
 
-    /// The kept verdict in the file with this digest, if all parts of the question are equal.
+    /// Returns the cached verdict in the file with this digest, if all parts of the check are
+    /// equal.
     pub(crate) fn find(&mut self, digest: &[u8; 32], question: &SignatureAsk) -> Option<bool>
         ensures { IfSome result (λ b. b ≡ is_valid_in question.now) }
     {
         self.files.get(digest)?.find(question)
     }
 
-    /// Keeps a verdict in the file with this digest. After a refusal it may know less.
+    /// Caches a verdict in the file with this digest. Fails only if out of memory, and may then
+    /// have dropped verdicts.
     pub(crate) fn learn(
         &mut self,
         digest: [u8; 32],

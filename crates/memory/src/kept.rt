@@ -1,14 +1,15 @@
-//! A judge that remembers.
+//! A judge with a cache.
 
 use crate::cache::Cache;
 use cjson::NoMemory;
 use keys::{Ask, Judge};
 
-/// Answers questions about signatures from a cache, where message, public value and the signature's
-/// text equal the kept ones. It asks another judge what the cache hasn't, and lets the cache keep
-/// the answer. Digests are always asked of the other judge.
+/// A judge that takes verdicts on signatures from a cache, if message, public value and signature's
+/// text equal the cached ones. Passes all other checks to the inner judge, and caches its verdicts
+/// on signatures. Digests, and texts of another length than the key's signatures, are never cached.
 ///
-/// A verdict that finds no memory isn't kept, and that's no refusal: only the other judge refuses.
+/// If there is no memory to cache a verdict, continues without caching it: fails only if the inner
+/// judge does.
 #[derive(Drop)]
 pub struct Kept<'a, J: Judge> {
     cache: &'a mut Cache,
@@ -17,7 +18,7 @@ pub struct Kept<'a, J: Judge> {
 }
 
 impl<'a, J: Judge> Kept<'a, J> {
-    /// A judge over this cache and this other judge.
+    /// Returns a judge over this cache and this inner judge.
     pub fn new(cache: &'a mut Cache, inner: &'a mut J) -> Kept<'a, J> {
         Kept {
             cache,
@@ -26,7 +27,7 @@ impl<'a, J: Judge> Kept<'a, J> {
         }
     }
 
-    /// How many questions the cache answered; it stays at the greatest number.
+    /// Returns the number of cache hits. Saturates.
     pub fn taken_over_count(&self) -> u64 {
         self.taken_over
     }

@@ -1,10 +1,9 @@
-//! Verdicts on signatures that are kept from cycle to cycle.
+//! A cache of verdicts on signatures, for cycle after cycle.
 //!
-//! - [`Cache`] has the verdicts on the signatures of the files that were used last.
-//! - [`Kept`] is a judge that answers from a cache, and asks another judge where the cache has no
-//!   answer.
+//! - [`Cache`] contains the verdicts on the signatures of the files that were used last.
+//! - [`Kept`] is a judge that uses the cache, and another judge for what the cache hasn't.
 //!
-//! What is kept bears on no answer, only on how soon it is there.
+//! The cache affects no result, only the time.
 #![tactic(auto)]
 
 mod cache;

@@ -1,4 +1,4 @@
--- What a search by halves finds among items whose names ascend.
+-- What a binary search finds among items whose names ascend.
 use Rattle.std.proofs.Common.{arith, ℕ, ◌+◌, ◌<◌, ◌≡◌, ◌∙◌, ap, sym, refl, suc, zero, false, Bool, List, [], ◌∷◌, length, get_or, Some, None, Less, Equal, Greater, Ordering, bytes_eq, nat_cmp, add-one, ⊎_elim}
 use Rattle.std.specs.Prelude.{find}
 use Rattle.std.specs.Cmp.Lexicographic.{slice_cmp}
@@ -20,7 +20,7 @@ none_passes p [] fails = refl
 none_passes p (a ∷ items) fails =
     rw (fails 0 a (omega arith) (omega arith)) (none_passes p items (λ k d low high. fails (suc k) d (omega arith) (omega arith)))
 
--- texts are equal where they compare so
+-- texts are equal if they compare as equal
 equal_as : (xs ys : List ℕ) (o : Ordering) → slice_cmp nat_cmp xs ys ≡ o → bytes_eq xs ys ≡ is_eq o
 equal_as xs ys o is = sym (is_eq-slice_cmp xs ys) ∙ ap is_eq is
 
@@ -43,11 +43,11 @@ module _ {A : Type 0} (name : A → List ℕ) (items : List A) (ascends : Ascend
       ap is_lt (nat_list_cmp_total.antisymm (name_at (k + 1) d) (name_at k d) ∙ ap ordering_reverse (ascends k d high))
 
   module _ (text : List ℕ) where
-    -- how the names compare with a text is in order, as a search by halves asks
+    -- the comparisons of the names with a text are in order, as a binary search requires
     pub comparisons_rise : IsNonDecreasingBy (λ a. ordering_index (slice_cmp nat_cmp (name a) text)) items
     comparisons_rise = searchable_from_sorted nat_list_cmp_total name items text sorted
 
-    -- an item whose name is the text is the first such
+    -- an item whose name is the text is the first such item
     pub found_at : (i : ℕ) (a : A) → i < length items → HoldsAt (λ b. slice_cmp nat_cmp (name b) text ≡ Equal) items i → a ≡ get_or items i a
         → find (λ b. bytes_eq (name b) text) items ≡ Some a
     found_at i a high here is =
@@ -57,7 +57,7 @@ module _ {A : Type 0} (name : A → List ℕ) (items : List A) (ascends : Ascend
         let first = position_or_len_is test items i a (omega arith) other (λ inside. equal_as (name_at i a) text Equal (here a)) in
         find_at test items ∙ ap (slice_get items) first ∙ slice_get_read items _ i a refl high is
 
-    -- no item has the text for its name where each name is below or above it
+    -- no item has the text as its name if each name is below or above it
     pub found_none : (i : ℕ) → IsPartitionPoint (λ b. slice_cmp nat_cmp (name b) text ≡ Less) (λ b. slice_cmp nat_cmp (name b) text ≡ Greater) items i
         → find (λ b. bytes_eq (name b) text) items ≡ None
     found_none i parts = none_passes (λ b. bytes_eq (name b) text) items (λ k d low high. ⊎_elim

@@ -1,4 +1,4 @@
--- Where the hash stands in a target's name.
+-- The place of the hash in a target's name.
 use Rattle.std.proofs.Common.{arith, ℕ, ◌<◌, ◌≡◌, ◌≢◌, ◌∙◌, ap, true, false, refl, List, [], ◌∷◌, ◌++◌, length, slice_index, drop, suc, ◌==◌}
 use Rattle.std.proofs.lemmas.Bool.{ne_eqb, or_right, or_from}
 use Rattle.std.proofs.lemmas.List.{take-append-drop}
@@ -30,11 +30,11 @@ hashed-in_folder hash [] base none = ap (λ l. 47 ∷ l) (hashed-plain hash base
 hashed-in_folder hash (c ∷ dir) base none =
     rw (slash_after (c ∷ dir) base) (ap (λ l. c ∷ l) (hashed-in_folder hash dir base none))
 
--- the name where `rsplit_once` finds no `/`
+-- the name if `rsplit_once` finds no `/`
 pub no_folder : (hash path : List ℕ) → NoCharPasses (λ d. d == 47) path → hashed hash path ≡ hash ++ 46 ∷ path
 no_folder hash path none = hashed-plain hash path (λ i low. NoCharPasses-char 47 path i none (omega arith) low)
 
--- and where it cuts the path at the last one
+-- the name if it cuts the path at the last `/`
 pub in_folder : (hash path dir base : List ℕ) → SplitsAroundMatch (RFindsChar 47) path dir base
     → hashed hash path ≡ dir ++ 47 ∷ (hash ++ 46 ∷ base)
 in_folder hash path dir base (i, j, (absent, slash), front, back, _, _, _) =

@@ -1,4 +1,4 @@
--- Items that stand in the order of their names.
+-- Items in the order of their names.
 use Rattle.std.specs.Prelude.{ℕ, List, length, ◌≡◌}
 use Rattle.std.specs.List.{AllAdjacentBelow}
 use Rattle.std.specs.Cmp.Lexicographic.{slice_cmp}

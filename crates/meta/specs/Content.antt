@@ -1,5 +1,5 @@
--- What is asked of each file, whatever its kind: its name, its reading, its limit, its length and
--- its digests (TUF 1.0 sections 4 and 5).
+-- What is required of each file, whatever its kind: its name, its reading, its limit, its length
+-- and its digests (TUF 1.0 sections 4 and 5).
 use Rattle.std.specs.Prelude.{ℕ, ◌==◌, if◌then◌else◌, List, [], ◌∷◌, ◌++◌, Bool, Option, option_map, option_to_list, decimal, codes, Result, Ok, Err, nat_lt, length, ◌&&◌, ◌||◌, not, false, Some, None, is_none, bytes_eq, ⊤, ◌≡◌}
 use Rattle.std.specs.List.{list_any}
 use Rattle.std.specs.Option.{option_map_or}
@@ -15,7 +15,7 @@ use Rattle.meta.specs.declared.fault.Fault.TheVariants.{Malformed, TooLong, Leng
 use Rattle.meta.specs.declared.fault.Stop.TheVariants.{Refused, NoMemory}
 use Rattle.meta.specs.declared.hashes.Hashes.{Hashes}
 
--- # The names under which files lie in a repository (TUF 1.0, consistent snapshots).
+-- # The names of the files of a repository (TUF 1.0, consistent snapshots).
 
 -- `VERSION.root.json`
 abbrev pub root_name : ℕ → List ℕ
@@ -29,7 +29,7 @@ role_name role = role ++ codes ".json"
 abbrev pub versioned : Bool → ℕ → List ℕ → List ℕ
 versioned consistent version name = if consistent then decimal version ++ 46 ∷ name else name
 
--- a `/` stands in the path
+-- the path has a `/`
 abbrev pub has_slash : List ℕ → Bool
 has_slash path = list_any (λ c. c == 47) path
 
@@ -39,12 +39,12 @@ hashed hash [] = hash ++ 46 ∷ []
 hashed hash (c ∷ path) =
     if has_slash (c ∷ path) then c ∷ hashed hash path else hash ++ 46 ∷ c ∷ path
 
--- the name under a digest that may be listed
+-- the name under a digest, if it is listed
 abbrev pub hashed_name : List ℕ → Option (List ℕ) → List (List ℕ)
 hashed_name path digest = option_to_list (option_map (λ d. hashed (encode_lower d) path) digest)
 
--- Where a target may lie, the first name first: its path, or under consistent snapshots the names
--- under its sha256 and its sha512 digest, each where it is listed.
+-- The names of a target's file, the first one first: its path, or under consistent snapshots the
+-- names under its sha256 and its sha512 digest, each if it is listed.
 abbrev pub target_names : Bool → List ℕ → Option (List ℕ) → Option (List ℕ) → List (List ℕ)
 target_names consistent path sha256 sha512 =
     if consistent then hashed_name path sha256 ++ hashed_name path sha512 else path ∷ []
@@ -71,7 +71,7 @@ reading_of form bytes = do
 
 -- # A file with what is read from it, and the limits on files (TUF 1.0 section 5).
 
--- the most bytes of a file of each kind
+-- the maximum number of bytes of a file of each kind
 abbrev pub root_limit : ℕ
 root_limit = 512000
 
@@ -96,10 +96,10 @@ part_of form limit bytes = do
   reading ← reading_of form bytes
   Ok (record { bytes = bytes; reading = reading })
 
--- # The length and the digests of a file (TUF 1.0 sections 5.3 to 5.7): the first check that fails
--- is the answer.
+-- # The length and the digests of a file (TUF 1.0 sections 5.3 to 5.7): the result is that of the
+-- first check that fails.
 
--- a digest is listed, and it isn't that of the bytes
+-- a digest is listed that differs from that of the bytes
 abbrev pub differs : Option (List ℕ) → List ℕ → Bool
 differs None found = false
 differs (Some given) found = not (bytes_eq given found)
@@ -119,7 +119,7 @@ abbrev pub is_too_long : Option ℕ → List ℕ → Bool
 is_too_long None bytes = false
 is_too_long (Some limit) bytes = nat_lt limit (length bytes)
 
--- the limit, and the length and the digests that may be listed
+-- the limit, and the length and the digests if they are listed
 abbrev pub content : Option ℕ → Option ℕ → Option Hashes → List ℕ → Result ⊤ Fault
 content limit size hashes bytes = do
   short ← refuse_if (is_too_long limit bytes) TooLong
@@ -127,7 +127,7 @@ content limit size hashes bytes = do
   hashed ← refuse_if (option_map_or (λ h. is_hash_wrong h bytes) hashes false) HashWrong
   refuse_if (option_map_or has_no_known_hash hashes false) NoKnownHash
 
--- # What a call answers that makes checks in order. Want of memory says nothing.
+-- # What a call returns that makes checks in order. If it is out of memory, nothing is known.
 
 -- the same, as `seen` sees it
 abbrev pub Answers : {A B : Type 0} → Result A Fault → Result B Stop → (B → A) → Type 0

@@ -1,4 +1,4 @@
--- The four kinds of metadata file, and what is read from each (TUF 1.0 sections 4.3 to 4.6).
+-- The four kinds of metadata file, and their readings (TUF 1.0 sections 4.3 to 4.6).
 use Rattle.std.specs.Prelude.{ℕ, List, length, Bool, if◌then◌else◌, take, false, Option, Some, None, is_some, unwrap_or, bytes_eq, codes}
 use Rattle.serde_json.specs.Find.{as_str, as_bool, as_object}
 pub use Rattle.cjson.specs.Form.{◌>>=◌, Data, Form, guard, all_members, has_text, needed, optional, list, members, text, greatest, whole, hex_bytes}
@@ -46,7 +46,7 @@ pub record Targets : Type 0 where
   pub targets : List Target
   pub delegations : Option Delegations
 
--- the text, where the test passes
+-- the text, if it passes the test
 abbrev pub text_that : (List ℕ → Bool) → Form (List ℕ)
 text_that test d = do
   found ← as_str d
@@ -85,7 +85,7 @@ listing d = do
   found ← optional (codes "hashes") hashes d
   Some (record { version = version; length = length; hashes = found })
 
--- true or false, and false where it is absent
+-- true or false, and false if it is absent
 abbrev pub flag : List ℕ → Form Bool
 flag name d = do
   found ← optional name as_bool d
@@ -136,7 +136,7 @@ target path d = do
   hashes ← needed (codes "hashes") hashes d
   Some (record { path = path; length = length; hashes = hashes })
 
--- the value of the one of two members that is there, where the other isn't
+-- the value of the one of two members that is there, if the other isn't
 abbrev pub one_of : {A B C : Type 0} → (A → C) → (B → C) → Option A → Option B → Option C
 one_of first second (Some found) None = Some (first found)
 one_of first second None (Some found) = Some (second found)

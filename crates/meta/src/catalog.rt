@@ -10,7 +10,7 @@ use std::marker::Model;
 pub(crate) trait HasName {
     ghost name_of: { Self → List ℕ };
 
-    /// The name.
+    /// Returns the name.
     fn name(&self) -> &str
         ensures name { result.now ≡ name_of self.now };
 }
@@ -34,7 +34,7 @@ impl<T: HasName> Model for Catalog<T> {
 }
 
 impl<T: HasName> Catalog<T> {
-    /// A catalog of the items.
+    /// Returns a catalog of the items.
     pub(crate) fn new(items: Items<T>) -> Catalog<T>
         ensures value { result ≡ items }
     {
@@ -42,14 +42,14 @@ impl<T: HasName> Catalog<T> {
         Catalog { items, ascends }
     }
 
-    /// The items.
+    /// Returns the items.
     pub(crate) fn as_slice(&self) -> &[T]
         ensures value { result.now ≡ self.now }
     {
         self.items.as_slice()
     }
 
-    /// Finds the first item of this name: by halves, if the names ascend.
+    /// Finds the first item of this name: by binary search, if the names ascend.
     pub(crate) fn find(&self, name: &str) -> Option<&T>
         ensures found { option_map (λ t. t.now) result
             ≡ find (λ t. bytes_eq (T.name_of t) name.now) self.now }
@@ -63,14 +63,14 @@ impl<T: HasName> Catalog<T> {
     }
 }
 
-/// Whether each name is below the one that follows.
+/// Returns whether each name is below the one that follows.
 fn ascend<T: HasName>(items: &[T]) -> bool
     ensures { IsTrue result → Ascend T.name_of items.now }
 {
     items.is_sorted_by(|a, b| a.name().cmp(b.name()).is_lt())
 }
 
-/// Finds the item of this name by halves.
+/// Finds the item of this name by binary search.
 fn search<'a, T: HasName>(items: &'a [T], name: &str) -> Option<&'a T>
     requires { Ascend T.name_of items.now }
     ensures { option_map (λ t. t.now) result

@@ -11,20 +11,21 @@ use cjson::NoMemory;
 use cjson::number::Length;
 use keys::{Algorithm, Ask, DigestAsk, Judge};
 
-/// What may be listed of a file's content, beside the limit of its kind.
+/// The size limit, length and digests that a file must meet.
 #[derive(Clone, Copy)]
 pub struct Content {
-    /// The most bytes, where there is a limit.
+    /// Maximum number of bytes, if there is a limit.
     pub limit: Option<u64>,
-    /// The length in bytes, where it is listed.
+    /// The length in bytes, if it is listed.
     pub length: Option<Length>,
-    /// The digests, where they are listed.
+    /// The digests, if they are listed.
     pub hashes: Option<Hashes>,
 }
 
 impl Content {
-    /// Whether the bytes of a file of that name are within the limit, and have the length and the
-    /// digests that are listed: the first of these checks that fails (TUF 1.0 sections 5.3 to 5.7).
+    /// Checks that the bytes of a file of that name are within the limit and have the listed length
+    /// and digests (TUF 1.0 sections 5.3 to 5.7). Fails with the first of these checks that fails,
+    /// or if out of memory.
     pub fn check<J: Judge>(&self, file: &str, bytes: &[u8], judge: &mut J) -> Result<(), Stop>
         ensures answer { spec.Answers
             (spec.content self.now.limit self.now.length self.now.hashes bytes.now)
@@ -44,7 +45,7 @@ impl Content {
     }
 }
 
-/// The fault, where the check fails.
+/// Fails with the fault if `fails`.
 pub fn refuse_if(fails: bool, fault: Fault) -> Result<(), Fault>
     ensures refused { result ≡ refuse_if fails fault }
 {
@@ -85,7 +86,7 @@ fn is_hash_wrong<J: Judge>(
     )
 }
 
-/// Whether a digest is listed that isn't that of the bytes.
+/// Returns whether a digest is listed that differs from that of the bytes.
 fn differs<J: Judge>(
     algorithm: Algorithm,
     file: &str,

@@ -1,4 +1,4 @@
-//! A delegation, and the paths that it is for.
+//! Delegations, and the paths that they are for.
 
 ghost use Rattle.std.specs.Prelude.{◌≡◌, true};
 ghost use Rattle.std.specs.List.{list_all};
@@ -34,7 +34,7 @@ impl Model for PathPattern {
 }
 
 impl PathPattern {
-    /// The pattern's text.
+    /// Returns the pattern's text.
     pub fn as_str(&self) -> &str
         ensures value { result.now ≡ self.now }
         ensures form { rule.is_pattern result.now ≡ true }
@@ -61,7 +61,7 @@ fn is_pattern(text: &str) -> bool
     text.as_bytes().iter().all(|c| *c != b'[')
 }
 
-/// The beginning of a path's digest: 1 to 64 digits of `0` to `9` and `a` to `f`.
+/// The first digits of a path's digest: 1 to 64 digits from `0` to `9` and `a` to `f`.
 #[derive(Drop)]
 pub struct HashPrefix {
     text: Text,
@@ -79,7 +79,7 @@ impl Model for HashPrefix {
 }
 
 impl HashPrefix {
-    /// The first digits of the digest.
+    /// Returns the first digits of the digest.
     pub fn digits(&self) -> &str
         ensures value { result.now ≡ self.now }
         ensures form { rule.is_prefix result.now ≡ true }
@@ -121,9 +121,9 @@ fn is_lower_digit(c: u8) -> bool
 /// Which paths a delegation is for (TUF 1.0 section 4.5).
 #[derive(Drop)]
 pub enum Paths {
-    /// Those that one of the patterns matches.
+    /// The paths that one of the patterns matches.
     Patterns(Items<PathPattern>),
-    /// Those whose digest begins with one of the prefixes.
+    /// The paths whose digest begins with one of the prefixes.
     Prefixes(Items<HashPrefix>),
 }
 
@@ -132,11 +132,11 @@ pub enum Paths {
 pub struct Delegation {
     /// The role's name.
     pub name: Text,
-    /// Which keys must sign the role's file, and how many.
+    /// The keys that must sign the role's file, and how many.
     pub keys: RoleKeys,
-    /// Whether a search that comes to the delegation tries none that follow it.
+    /// Whether a search that reaches the delegation tries none after it.
     pub terminating: bool,
-    /// Which paths it is for.
+    /// The paths that it is for.
     pub paths: Paths,
 }
 

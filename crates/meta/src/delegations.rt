@@ -12,22 +12,22 @@ use keys::{KeyRing, RoleKeys};
 use serde_json::Value;
 use std::alloc::Global;
 
-/// Succinct roles, which are hash bins (this project's profile): a role for each beginning of so
-/// many bits that a path's SHA-256 digest may have.
+/// Succinct roles, which are hash bins (this project's profile): a role for each value of the first
+/// `bits` bits of a path's SHA-256 digest.
 #[derive(Drop)]
 pub struct Bins {
-    /// Which keys must sign a bin's file, and how many.
+    /// The keys that must sign a bin's file, and how many.
     pub keys: RoleKeys,
-    /// How many bits of a digest tell the bin, 1 to 32.
+    /// Number of bits of a digest that determine the bin, 1 to 32.
     pub bits: Within<1, 32>,
-    /// What the bins' names begin with.
+    /// The prefix of the bins' names.
     pub prefix: Text,
 }
 
 /// The roles that a targets file delegates to.
 #[derive(Drop)]
 pub enum Roles {
-    /// Those that it lists, in order.
+    /// The listed roles, in order.
     Listed(Items<Delegation>),
     /// Hash bins.
     Binned(Bins),

@@ -9,8 +9,8 @@ use cjson::{NoMemory, ReadFault};
 use std::alloc::AllocError;
 use thiserror::Error;
 
-/// Why a file is refused (TUF 1.0 section 5): the first check that it fails, in this order of
-/// the checks: listed, present, limit, length, hashes, form, signatures, version, rollback, expiry.
+/// Why a file is refused (TUF 1.0 section 5): the first check that it fails, in this order of the
+/// checks: listed, present, limit, length, hashes, form, signatures, version, rollback, expiry.
 #[derive(Clone, Copy, Debug, PartialEq, Eq, Error)]
 pub enum Fault {
     /// The snapshot has no listing for the role.
@@ -28,22 +28,22 @@ pub enum Fault {
     /// A listed digest of a known algorithm isn't the file's.
     #[error("of another digest than listed")]
     HashWrong = 5,
-    /// Digests are listed, and none of a known algorithm.
+    /// Digests are listed, but none of a known algorithm.
     #[error("listed without a known digest")]
     NoKnownHash = 6,
-    /// The file hasn't the form of its kind.
+    /// The file is malformed.
     #[error("not of the form")]
     Malformed = 7,
-    /// Fewer distinct keys signed than the role asks for.
+    /// Fewer distinct keys signed than the role's threshold.
     #[error("signed by too few keys")]
     Unsigned = 8,
-    /// The version isn't the one that is due.
+    /// The version isn't the expected one.
     #[error("of another version than due")]
     VersionWrong = 9,
     /// The file falls below what is trusted, or leaves out a name.
     #[error("below what is trusted")]
     Rollback = 10,
-    /// The file expires no later than the moment.
+    /// The file expires no later than the given moment.
     #[error("expired")]
     Expired = 11,
 }
@@ -54,7 +54,7 @@ pub enum Stop {
     /// The file is refused.
     #[error("the file is refused")]
     Refused(Fault),
-    /// Memory was refused.
+    /// Out of memory.
     #[error("out of memory")]
     NoMemory,
 }

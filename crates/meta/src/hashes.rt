@@ -14,9 +14,9 @@ use std::alloc::Global;
 /// The listed digests of the known algorithms (TUF 1.0 section 4.4).
 #[derive(Clone, Copy)]
 pub struct Hashes {
-    /// The SHA-256 digest, where it is listed.
+    /// The SHA-256 digest, if it is listed.
     pub sha256: Option<[u8; 32]>,
-    /// The SHA-512 digest, where it is listed.
+    /// The SHA-512 digest, if it is listed.
     pub sha512: Option<[u8; 64]>,
 }
 

@@ -1,4 +1,4 @@
-//! The four kinds of metadata file (TUF 1.0 section 4), names of files, and a file with what is
+//! The four kinds of metadata file (TUF 1.0 section 4), the names of files, and a file with what is
 //! read from it.
 #![tactic(auto)]
 

@@ -1,4 +1,4 @@
-//! How one file is listed by another.
+//! The listing of one file by another.
 
 ghost use Rattle.std.specs.Prelude.{◌≡◌};
 ghost use Rattle.meta.specs.Content.{Answers, content};
@@ -14,20 +14,21 @@ use keys::Judge;
 use serde_json::Value;
 use std::alloc::Global;
 
-/// How a file is listed by another (TUF 1.0 section 4.4).
+/// The listing of a file by another (TUF 1.0 section 4.4).
 #[derive(Clone, Copy)]
 pub struct Listing {
     /// The version of the file.
     pub version: Positive,
-    /// The length in bytes, where it is listed.
+    /// The length in bytes, if it is listed.
     pub length: Option<Length>,
-    /// The digests, where they are listed.
+    /// The digests, if they are listed.
     pub hashes: Option<Hashes>,
 }
 
 impl Listing {
-    /// Whether the bytes of a file of that name are within the limit, and have the listed length
-    /// and digests: the first of these checks that fails (TUF 1.0 sections 5.5 to 5.7).
+    /// Checks that the bytes of a file of that name are within the limit and have the listed length
+    /// and digests (TUF 1.0 sections 5.5 to 5.7). Fails with the first of these checks that fails,
+    /// or if out of memory.
     pub fn check<J: Judge>(
         &self,
         file: &str,

@@ -13,25 +13,25 @@ use std::alloc::Global;
 use std::marker::Model;
 use std::sync::Arc;
 
-/// What is read from a file of some kind.
+/// The reading of a file of some kind.
 pub trait Reading: Sized {
     /// What the signed tree of a document is read as.
     ghost form: { Data → Option Self };
 
-    /// The most bytes of a file.
+    /// Maximum number of bytes of a file.
     ghost limit: { ℕ };
 
-    /// Reads a document as a file of this kind.
+    /// Reads a document as a file of this kind. Fails with `Malformed`, or with `NoMemory`.
     fn read(alloc: Global, doc: &Doc) -> Result<Self, ReadFault>
         ensures read { Reads (form (doc_of doc.now).signed) result };
 
-    /// The most bytes of a file of this kind.
+    /// Returns the maximum number of bytes of a file of this kind.
     fn limit() -> u64
         ensures value { result ≡ limit };
 }
 
-/// A metadata file: its bytes, which are within its kind's limit, and what is read from them. Its
-/// copies share both.
+/// A metadata file: its bytes, which are within its kind's limit, and what is read from them.
+/// Copies share both.
 #[derive(Drop)]
 pub struct Part<A: Reading> {
     file: Arc<File<A>>,
@@ -61,7 +61,8 @@ impl<A: Reading> Model for Part<A> {
 }
 
 impl<A: Reading + Drop> Part<A> {
-    /// A file of bytes that were read, within the limit of its kind.
+    /// Returns the file of bytes that were read, within the limit of its kind. Fails only if out of
+    /// memory.
     pub fn new(alloc: Global, bytes: Vec<u8>, reading: A) -> Result<Part<A>, NoMemory>
         requires read { spec.reading_of A.form bytes.items ≡ Ok reading }
         requires limit { length bytes.items ≤ A.limit }
@@ -72,8 +73,8 @@ impl<A: Reading + Drop> Part<A> {
         Ok(Part { file })
     }
 
-    /// The file of these bytes: `TooLong` over the limit of its kind, else what its reading
-    /// answers.
+    /// Reads the file of these bytes. Fails with `TooLong` over the limit of its kind, with
+    /// `Malformed`, or if out of memory.
     pub fn read(alloc: Global, bytes: Vec<u8>) -> Result<Part<A>, Stop>
         ensures answer { spec.Answers (spec.part_of A.form A.limit bytes.items) result (λ p. p) }
     {
@@ -83,7 +84,7 @@ impl<A: Reading + Drop> Part<A> {
         Ok(Part::new(alloc, bytes, reading)?)
     }
 
-    /// An equal file, which shares what this one has. It takes no memory.
+    /// Returns an equal file, which shares the contents of this one. Fails only if out of memory.
     pub fn copy(&self) -> Result<Part<A>, NoMemory>
         ensures equal { IfOk result (λ p. p ≡ self.now) }
     {
@@ -91,7 +92,7 @@ impl<A: Reading + Drop> Part<A> {
         Ok(Part { file })
     }
 
-    /// The file's bytes, within the limit of its kind.
+    /// Returns the file's bytes, within the limit of its kind.
     pub fn bytes(&self) -> &[u8]
         ensures value { result.now ≡ self.now.bytes }
         ensures limit { length result.now ≤ A.limit }
@@ -99,7 +100,7 @@ impl<A: Reading + Drop> Part<A> {
         &self.file.bytes
     }
 
-    /// What is read from the bytes.
+    /// Returns what is read from the bytes.
     pub fn reading(&self) -> &A
         ensures value { result.now ≡ self.now.reading }
         ensures read { spec.reading_of A.form self.now.bytes ≡ Ok result.now }
@@ -108,7 +109,8 @@ impl<A: Reading + Drop> Part<A> {
     }
 }
 
-/// The document of a file's bytes, or `Malformed` where they are none.
+/// Reads the document of a file's bytes. Fails with `Malformed` if they are none, or if out of
+/// memory.
 pub fn read_document(alloc: Global, bytes: &[u8]) -> Result<Doc, Stop>
     ensures document { spec.Answers (spec.document_of bytes.now) result doc_of }
 {

@@ -2,10 +2,12 @@
 
 use std::collections::BTreeMap;
 
-/// An update repository that lies in a folder: metadata files and target files by their names.
-/// Names are looked up as they stand; none is opened as a path.
+/// An update repository from a folder: metadata files and target files by their names. A name is
+/// only compared; none is opened as a path.
 #[derive(Drop)]
 pub struct Repo {
+    /// The metadata files, by name.
     pub metadata: BTreeMap<String, Vec<u8>>,
+    /// The target files, by name.
     pub targets: BTreeMap<String, Vec<u8>>,
 }

@@ -16,7 +16,7 @@ use serde_json::Value;
 use std::alloc::Global;
 use std::marker::Model;
 
-/// What a root file says (TUF 1.0 section 4.3).
+/// The contents of a root file (TUF 1.0 section 4.3).
 #[derive(Drop)]
 pub struct Root {
     header: Header,
@@ -45,49 +45,49 @@ impl Model for Root {
 }
 
 impl Root {
-    /// The version, and when the file expires.
+    /// Returns the version and the expiry.
     pub fn header(&self) -> &Header
         ensures value { result.now ≡ self.now.header }
     {
         &self.header
     }
 
-    /// The usable keys.
+    /// Returns the usable keys.
     pub fn ring(&self) -> &KeyRing
         ensures value { result.now ≡ self.now.ring }
     {
         &self.ring
     }
 
-    /// The keys of the root role.
+    /// Returns the keys of the root role.
     pub fn root(&self) -> &RoleKeys
         ensures value { result.now ≡ self.now.root }
     {
         &self.root
     }
 
-    /// The keys of the timestamp role.
+    /// Returns the keys of the timestamp role.
     pub fn timestamp(&self) -> &RoleKeys
         ensures value { result.now ≡ self.now.timestamp }
     {
         &self.timestamp
     }
 
-    /// The keys of the snapshot role.
+    /// Returns the keys of the snapshot role.
     pub fn snapshot(&self) -> &RoleKeys
         ensures value { result.now ≡ self.now.snapshot }
     {
         &self.snapshot
     }
 
-    /// The keys of the top-level targets role.
+    /// Returns the keys of the top-level targets role.
     pub fn targets(&self) -> &RoleKeys
         ensures value { result.now ≡ self.now.targets }
     {
         &self.targets
     }
 
-    /// Whether names carry versions and digests (consistent snapshots).
+    /// Returns whether file names include versions and digests (consistent snapshots).
     pub fn consistent(&self) -> bool
         ensures value { result ≡ self.now.consistent }
     {

@@ -21,7 +21,7 @@ use std::marker::Model;
 pub struct Named {
     /// The name of the file, without its version.
     pub name: Text,
-    /// How the file is listed.
+    /// The listing of the file.
     pub listing: Listing,
 }
 
@@ -43,7 +43,7 @@ impl FromMember for Named {
     }
 }
 
-/// What a snapshot file says (TUF 1.0 section 4.4).
+/// The contents of a snapshot file (TUF 1.0 section 4.4).
 #[derive(Drop)]
 pub struct Snapshot {
     header: Header,
@@ -59,14 +59,14 @@ impl Model for Snapshot {
 }
 
 impl Snapshot {
-    /// The version, and when the file expires.
+    /// Returns the version and the expiry.
     pub fn header(&self) -> &Header
         ensures value { result.now ≡ self.now.header }
     {
         &self.header
     }
 
-    /// The listed files, in byte order of their names.
+    /// Returns the listed files, in byte order of their names.
     pub fn files(&self) -> &[Named]
         ensures value { result.now ≡ self.now.files }
     {

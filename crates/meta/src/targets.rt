@@ -33,7 +33,7 @@ pub struct Target {
 }
 
 impl Target {
-    /// An equal target.
+    /// Returns an equal target. Fails only if out of memory.
     pub fn copy(&self, alloc: Global) -> Result<Target, NoMemory>
         ensures equal { IfOk result (λ t. t ≡ self.now) }
     {
@@ -45,8 +45,9 @@ impl Target {
         })
     }
 
-    /// Whether the bytes of a file of that name are within the limit, and have the listed length
-    /// and digests: the first of these checks that fails (TUF 1.0 section 5.7).
+    /// Checks that the bytes of a file of that name are within the limit and have the listed length
+    /// and digests (TUF 1.0 section 5.7). Fails with the first of these checks that fails, or if
+    /// out of memory.
     pub fn check<J: Judge>(
         &self,
         file: &str,
@@ -87,7 +88,7 @@ impl FromMember for Target {
     }
 }
 
-/// What a targets file says (TUF 1.0 section 4.5).
+/// The contents of a targets file (TUF 1.0 section 4.5).
 #[derive(Drop)]
 pub struct Targets {
     header: Header,
@@ -108,14 +109,14 @@ impl Model for Targets {
 }
 
 impl Targets {
-    /// The version, and when the file expires.
+    /// Returns the version and the expiry.
     pub fn header(&self) -> &Header
         ensures value { result.now ≡ self.now.header }
     {
         &self.header
     }
 
-    /// The listed targets, in byte order of their paths.
+    /// Returns the listed targets, in byte order of their paths.
     pub fn targets(&self) -> &[Target]
         ensures value { result.now ≡ self.now.targets }
     {
@@ -130,7 +131,7 @@ impl Targets {
         self.targets.find(path)
     }
 
-    /// The delegations, where the file has any.
+    /// Returns the delegations, if the file has any.
     pub fn delegations(&self) -> Option<&Delegations>
         ensures value { option_map (λ d. d.now) result ≡ self.now.delegations }
     {

@@ -12,7 +12,7 @@ use cjson::{Doc, ReadFault};
 use std::alloc::Global;
 use std::marker::Model;
 
-/// What a timestamp file says (TUF 1.0 section 4.6).
+/// The contents of a timestamp file (TUF 1.0 section 4.6).
 #[derive(Drop)]
 pub struct Timestamp {
     header: Header,
@@ -28,14 +28,14 @@ impl Model for Timestamp {
 }
 
 impl Timestamp {
-    /// The version, and when the file expires.
+    /// Returns the version and the expiry.
     pub fn header(&self) -> &Header
         ensures value { result.now ≡ self.now.header }
     {
         &self.header
     }
 
-    /// How the snapshot file is listed.
+    /// Returns the listing of the snapshot file.
     pub fn snapshot(&self) -> &Listing
         ensures value { result.now ≡ self.now.snapshot }
     {

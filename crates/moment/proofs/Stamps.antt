@@ -1,4 +1,4 @@
--- The moment that a text spells is the one that is read from it.
+-- The moment that a text encodes is the one that is read from it.
 use Rattle.std.proofs.Common.{arith, sym, ◌∙◌, ap, ◌≡◌, ℕ, ◌+◌, ◌*◌, ◌-◌, ◌/◌, ◌%◌, ◌<◌, ◌≤◌, ◌&&◌, true, refl, if◌then◌else◌, List, length, Some, None, slice_index}
 use Rattle.std.proofs.lemmas.Bool.Decides.{nat_tests}
 use Rattle.std.proofs.lemmas.Bool.{and_parts, and_from, false_from_ne_true, eqb-true}
@@ -34,7 +34,7 @@ laid_out s small =
     let late : s.year % 100 < 100 = omega arith in
     simp (ones_stand, tens_stand _ early, tens_stand _ late, tens_stand _ small.1, tens_stand _ small.2, tens_stand _ small.3, tens_stand _ small.4, tens_stand _ small.5)
 
--- the moment that a text spells is given
+-- reading a text returns the moment that it encodes
 pub the_moment : (text : List ℕ) (m : Moment) → IsMomentText text m → moment_of text ≡ Some m
 unfolding moment_of
 the_moment text m (s, (is, spells, value)) =
@@ -56,7 +56,7 @@ digits_from text i h = grind (arith, nat_tests)
 mark_from : (text : List ℕ) (i c : ℕ) → has text i c ≡ true → slice_index text i ≡ c
 mark_from text i c h = grind (arith, nat_tests)
 
--- what stands where
+-- the layout of the text
 record IsLaidOut (text : List ℕ) : Type 0 where
   len : length text ≡ 20
   century : AreDigits text 0
@@ -124,7 +124,7 @@ spelled text both =
     let laid = IsLaidOut-from text parts.0 in
     (stamp_at text, (IsStamp-from text laid parts.1, read_back text laid, refl))
 
--- a text that spells none gives none
+-- a text that encodes none is read as none
 pub no_moment : (text : List ℕ) → ((m : Moment) → IsMomentText text m → ⊥) → moment_of text ≡ None
 unfolding moment_of
 no_moment text none =

@@ -46,7 +46,7 @@ moment_at s = record {
   second = 3600 * s.hour + 60 * s.minute + s.second;
 }
 
--- the text spells that moment
+-- the text encodes that moment
 abbrev pub IsMomentText : List ℕ → Moment → Type 0
 IsMomentText text m = (s : Stamp) × (IsStamp s × (text ≡ stamp_text s) × (m ≡ moment_at s))
 
@@ -59,7 +59,7 @@ is_digit c = nat_le 48 c && nat_le c 57
 abbrev pub has : List ℕ → ℕ → ℕ → Bool
 has text place c = slice_index text place == c
 
--- two digits stand there
+-- two digits are there
 abbrev pub has_digits : List ℕ → ℕ → Bool
 has_digits text place = is_digit (slice_index text place) && is_digit (slice_index text (place + 1))
 
@@ -67,7 +67,7 @@ has_digits text place = is_digit (slice_index text place) && is_digit (slice_ind
 abbrev pub number_at : List ℕ → ℕ → ℕ
 number_at text place = 10 * (slice_index text place - 48) + (slice_index text (place + 1) - 48)
 
--- the digits, dashes, colons, `T` and `Z` stand where they should
+-- the digits, dashes, colons, `T` and `Z` are in their places
 abbrev pub is_laid_out : List ℕ → Bool
 is_laid_out text =
     (length text == 20)
@@ -94,7 +94,7 @@ is_stamp s =
     && nat_le 1 s.day && nat_le s.day (days_in_month (pos s.year) s.month)
     && nat_lt s.hour 24 && nat_lt s.minute 60 && nat_lt s.second 60
 
--- the moment that the text spells, if any
+-- the moment that the text encodes, if any
 unfoldable pub moment_of : List ℕ → Option Moment
 moment_of text =
     if is_laid_out text && is_stamp (stamp_at text) then Some (moment_at (stamp_at text)) else None

@@ -44,9 +44,9 @@ struct Stamp {
 }
 
 impl Moment {
-    /// The moment that a text of the form `YYYY-MM-DDTHH:MM:SSZ` spells, for a real date from year
-    /// 0000 to 9999, hours 00 to 23, and minutes and seconds 00 to 59 (TUF 1.0 section 4.2.1).
-    /// `None` for any other text.
+    /// Returns the moment that a text of the form `YYYY-MM-DDTHH:MM:SSZ` encodes, for a real date
+    /// from year 0000 to 9999, hours 00 to 23, and minutes and seconds 00 to 59 (TUF 1.0 section
+    /// 4.2.1). Returns None for any other text.
     pub fn read(text: &str) -> Option<Moment>
         ensures value { result ≡ spec.moment_of text.now }
         ensures some { IfSome result (λ m. spec.IsMomentText text.now m) }
@@ -59,7 +59,7 @@ impl Moment {
         Some(Moment { day, second })
     }
 
-    /// The moment that many seconds after 1970-01-01T00:00:00Z. `None` past the year 9999.
+    /// Returns the moment that many seconds after 1970-01-01T00:00:00Z, or None past the year 9999.
     pub fn at(seconds: u64) -> Option<Moment>
         ensures some { IsSome result ↔ (seconds / 86_400 ≤ 2_932_896) }
         ensures day { IfSome result (λ m. m.day ≡ pos (seconds / 86_400)) }
@@ -75,21 +75,21 @@ impl Moment {
         })
     }
 
-    /// The days since 1970-01-01, negative before it.
+    /// Returns the days since 1970-01-01, negative before it.
     pub fn day(&self) -> i32
         ensures value { result ≡ self.now.day }
     {
         self.day
     }
 
-    /// The seconds since midnight.
+    /// Returns the seconds since midnight.
     pub fn second(&self) -> u32
         ensures value { result ≡ self.now.second }
     {
         self.second
     }
 
-    /// Whether this moment comes before the other; no moment comes before itself.
+    /// Returns whether this moment comes before the other; no moment comes before itself.
     pub fn is_before(self, other: Moment) -> bool
         ensures order { result ≡ spec.is_before self other }
     {
@@ -97,7 +97,7 @@ impl Moment {
     }
 }
 
-/// The date and the time of day that a text of that form spells, in the calendar or not.
+/// Returns the date and the time of day that a text of that form encodes, in the calendar or not.
 fn stamp_of(text: &str) -> Option<Stamp>
     ensures some { IfSome result (λ s. spec.FitsDigits s × (text.now ≡ spec.stamp_text s)) }
     ensures none { IsNone result → (s : Stamp) → spec.FitsDigits s
@@ -138,7 +138,7 @@ fn stamp_of(text: &str) -> Option<Stamp>
     })
 }
 
-/// The number that two decimal digits spell.
+/// Returns the number that two decimal digits encode.
 fn number(tens: u8, ones: u8) -> Option<u8>
     ensures value { IfSome result (λ n. (n < 100)
         × (spec.two_digits n ≡ tens ∷ ones ∷ [])) }
@@ -151,7 +151,7 @@ fn number(tens: u8, ones: u8) -> Option<u8>
     }
 }
 
-/// The seconds from midnight to that time of day.
+/// Returns the seconds from midnight to that time of day.
 fn second_of_day(hour: u8, minute: u8, second: u8) -> Option<u32>
     ensures value { IfSome result (λ n. (hour < 24) × (minute < 60) × (second < 60)
         × (n ≡ 3600 * hour + 60 * minute + second)) }
@@ -163,7 +163,7 @@ fn second_of_day(hour: u8, minute: u8, second: u8) -> Option<u32>
     Some(3600 * u32::from(hour) + 60 * u32::from(minute) + u32::from(second))
 }
 
-/// The day number of that date, where the calendar has it.
+/// Returns the day number of that date, if the calendar has it.
 fn day_number(year: u16, month: u8, day: u8) -> Option<i32>
     requires year_fits { year < 10_000 }
     requires month_fits { month < 100 }

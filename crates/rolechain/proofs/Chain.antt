@@ -12,11 +12,11 @@ use Rattle.rolechain.specs.declared.end.Step.TheVariants as step
 use Rattle.rolechain.specs.declared.end.Halt.{Halt}
 
 module _ (files : Files) (now : Moment) where
-  -- the state with the next root and those behind it, at most so many
+  -- the state with the next root and those after it, at most `n`
   abbrev pub onward : ℕ → State → Option (Part Root) → Result State Advanced
   onward n s next = option_map_or (λ next. followed files now n (with_root s next)) next (Ok s)
 
-  -- what follows the answer of the next root, with so many roots to go behind it
+  -- what follows the result for the next root, with `n` roots to go after it
   abbrev pub behind : ℕ → State → Result (Option (Part Root)) Fault → Result State Advanced
   behind n s next = or_stop s step.Root next >>= onward n s
 

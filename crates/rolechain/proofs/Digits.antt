@@ -1,4 +1,4 @@
--- Hexadecimal text is ASCII, and stands in JSON as it is.
+-- Hexadecimal text is ASCII, and is unescaped in JSON.
 use Rattle.std.proofs.Common.{◌≡◌, ℕ, suc, ◌/◌, ◌%◌, ◌<◌, ◌≤◌, List, [], ◌∷◌, slice_index, Some, IsUtf8, refl, arith}
 use Rattle.std.proofs.lemmas.Str.{IsUtf8-nil}
 use Rattle.json.specs.Print.{escape, escape_byte}

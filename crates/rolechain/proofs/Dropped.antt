@@ -12,7 +12,7 @@ use Rattle.rolechain.specs.declared.end.Step.TheVariants as step
 use Rattle.rolechain.proofs.Chain.{behind}
 use Rattle.rolechain.proofs.Longest.{with_root-root}
 
--- the first rotation, or one behind it
+-- the first rotation, or a later one
 either : {A : Type 0} (b c : Bool) (o : Option A) → (if c then None else (if b then None else o)) ≡ (if b || c then None else o)
 either true true o = refl
 either true false o = refl

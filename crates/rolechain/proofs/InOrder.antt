@@ -13,7 +13,7 @@ use Rattle.rolechain.specs.declared.end.End.{End}
 use Rattle.rolechain.specs.declared.end.Halt.{Halt}
 use Rattle.rolechain.specs.declared.end.Halt.TheVariants as halt
 
--- the rest of the steps, from where the first one left
+-- the rest of the steps, from the state that the first one left
 pub goes_on : (r : Result State Advanced) (f : State → Result State Advanced) (s t : State) (answer : Result ⊤ Halt) → r ≡ Ok s
     → Leaves (f s) answer t → Leaves (r >>= f) answer t
 goes_on r f s t (Ok done) e h = ap (λ x. x >>= f) e ∙ h
@@ -27,7 +27,7 @@ halts r f s halt.NoMemory h = tt
 
 -- ---- the checks of a step
 
--- what the checks give, where their answer is a value
+-- the result of the checks, if it is a value
 pub gives : {A : Type 0} (at : Step) (x : Result A Fault) (r : Result A Stop) (v : A) → Answers x r (λ p. p) → or_halt at r ≡ Ok v → x ≡ Ok v
 gives at x (Ok w) v h e = cc
 gives at x (Err why) v h e = absurd (cc)

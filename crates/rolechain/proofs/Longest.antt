@@ -80,7 +80,7 @@ module _ (files : Files) (now : Moment) where
   longer-after most a next (Ok s) first rest = longer most a next s.root first rest
   longer-after most a next (Err x) first rest = longer most a next x.state.root first rest
 
-  -- no root step leads on from a root that has no good successor
+  -- no root step leads on from a root that has no accepted successor
   no_step : (o : Result (Option (Part Root)) Fault) (a next : Part Root) → successor files now a.reading ≡ o → ((p : Part Root) → o ≡ Ok (Some p) → ⊥) → ¬ IsRootStep files now a next
   no_step o a next e none h = none next (sym e ∙ h)
 

@@ -12,7 +12,7 @@ use Rattle.rolechain.specs.declared.end.Step.TheVariants as step
 use Rattle.rolechain.specs.declared.end.End.TheVariants.{Ready}
 use Rattle.rolechain.proofs.Chain.{onward}
 
--- where a step goes on, the state passes the test; a stop isn't ready
+-- if a step goes on, the state passes the test; a stop isn't ready
 abbrev Gives : (State → Bool) → Result State Advanced → Type 0
 Gives test (Ok s) = test s ≡ true
 Gives test (Err a) = ¬ (a.end ≡ Ready)

@@ -1,4 +1,4 @@
--- A state is what its text is read as, and a text that is read is its state's own.
+-- Reading a state's text returns the state, and a text that is read is that of its state.
 use Rattle.std.proofs.Common.{◌≡◌, ℕ, Bool, true, false, ◌||◌, not, nat_lt, if◌then◌else◌, List, length, Option, Some, None, Result, Ok, Err, IfOk, IfSome, bytes_eq, refl, sym, ap, ◌∙◌}
 use Rattle.std.specs.Prelude.{⊤}
 use Rattle.std.specs.Str.{is_utf8}
@@ -62,7 +62,7 @@ document-utf8 bytes d h =
     let tree = bind_ok (or_refuse (tree_of bytes) NotJson) _ d h in
     only_if (is_utf8 bytes) (read bytes) tree.0 (found (tree_of bytes) NotJson tree.0 tree.1)
 
--- what a file that was read shows of its bytes
+-- what is known of the bytes of a file that was read
 record Shown {A : Type 0} (limit : ℕ) (bytes : List ℕ) (p : Part A) : Type 0 where
   short : nat_lt limit (length bytes) ≡ false
   utf8 : is_utf8 bytes ≡ true
@@ -118,7 +118,7 @@ has_long-kept_of s h =
     all_short _ _ _ _ (shown form.root root_limit s.root.bytes s.root h.root).short (is_over-read form.snapshot snapshot_limit s.snapshot h.snapshot)
     (is_over-read form.targets targets_limit s.targets h.targets) (is_over-read form.timestamp timestamp_limit s.timestamp h.timestamp)
 
--- the files in turn, by what each is read as
+-- the files in turn, each with its reading
 in_turn : (root : Part Root) (snapshot : Option (Part Snapshot)) (targets : Option (Part Targets)) (timestamp : Option (Part Timestamp))
     (r : Result (Part Root) StateFault) (s : Result (Option (Part Snapshot)) StateFault) (t : Result (Option (Part Targets)) StateFault) (m : Result (Option (Part Timestamp)) StateFault)
     → r ≡ Ok root → s ≡ Ok snapshot → t ≡ Ok targets → m ≡ Ok timestamp
@@ -143,7 +143,7 @@ pub state_of-kept_text : (s : State) → AreRead s → state_of (kept_text (kept
 state_of-kept_text s h =
     state_of-by (kept_text (kept_of s)) (kept_of s) s (kept_in-kept_text (kept_of s) (HasBytes-kept_of s h)) (has_long-kept_of s h) (state_in-kept_of s h)
 
--- an answer that is the text of a state
+-- a result that is the text of a state
 pub IfOk-read : {T : Type 0} (r : Result T NoMemory) (items : T → List ℕ) (s : State) → AreRead s → IfOk r (λ t. items t ≡ kept_text (kept_of s)) → IfOk r (λ t. state_of (items t) ≡ Ok s)
 IfOk-read (Ok t) items s h e = ap state_of e ∙ state_of-kept_text s h
 IfOk-read (Err n) items s h e = tt
@@ -189,7 +189,7 @@ own_text text s h =
     let short = bind_ok (refuse_if (has_long inside.0) TooLong) _ s inside.2 in
     spelled-kept_in text inside.0 inside.1 ∙ ap kept_text (sym (kept_of-state_in inside.0 s short.2))
 
--- an answer that is the state of a text
+-- a result that is the state of a text
 pub IfOk-own : (text : List ℕ) (r : Result State StateFault) → ReadsState (state_of text) r → IfOk r (λ s. text ≡ kept_text (kept_of s))
 IfOk-own text (Ok s) h = own_text text s h
 IfOk-own text (Err e) h = tt

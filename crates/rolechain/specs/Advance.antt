@@ -22,7 +22,7 @@ use Rattle.rolechain.specs.declared.end.Halt.TheVariants as halt
 
 -- # What is trusted (TUF 1.0 section 5).
 
--- the root, and each where trusted, the timestamp, snapshot and top-level targets file
+-- the root and, if trusted, the timestamp, the snapshot and the top-level targets file
 pub record State : Type 0 where
   pub root : Part Root
   pub timestamp : Option (Part Timestamp)
@@ -54,13 +54,13 @@ abbrev pub next_snapshot : Root → Listing → Expectation
 next_snapshot r l =
     expected (versioned r.consistent l.version (codes "snapshot.json")) (As l) r.ring r.snapshot
 
--- how the snapshot lists a role
+-- the listing of a role in the snapshot
 abbrev pub listing_of : List ℕ → Snapshot → Listed
 listing_of role snap =
     option_map_or (λ n. As n.listing)
     (find (λ n. bytes_eq n.name (role_name role)) snap.files) Absent
 
--- the name under which a role's file lies
+-- the name of a role's file
 abbrev pub file_name : Root → List ℕ → Listed → List ℕ
 file_name r role l =
     option_map_or (λ version. versioned r.consistent version (role_name role))
@@ -86,7 +86,7 @@ pub record Advanced : Type 0 where
 abbrev pub stops : State → Step → Fault → Advanced
 stops s at fault = record { state = s; end = Stopped at fault }
 
--- what a check gives, or the stop of its step
+-- the result of a check, or the stop of its step
 abbrev pub or_stop : {A : Type 0} → State → Step → Result A Fault → Result A Advanced
 or_stop s at (Ok x) = Ok x
 or_stop s at (Err fault) = Err (stops s at fault)
@@ -115,7 +115,7 @@ with_root s r = if is_rotated s.root.reading r.reading
 abbrev pub with_timestamp : State → Part Timestamp → State
 with_timestamp s p = record s { timestamp = Some p }
 
--- where none is newer, the trusted one stays
+-- if none is newer, the trusted one stays
 abbrev pub with_newer : State → Option (Part Timestamp) → State
 with_newer s None = s
 with_newer s (Some p) = with_timestamp s p
@@ -133,11 +133,11 @@ reading_in p = option_map (λ p. p.reading) p
 abbrev pub most_roots : ℕ
 most_roots = 256
 
--- A step gives the state that it leaves, and the cycle goes on, or it stops the cycle.
+-- A step returns the state that it leaves, and the cycle goes on, or it stops the cycle.
 module _ (files : Files) (now : Moment) where
   -- ---- roots (section 5.3)
 
-  -- the root of the next version, where there is a file of its name (5.3.3 to 5.3.5)
+  -- the root of the next version, if there is a file of its name (5.3.3 to 5.3.5)
   abbrev pub following : Root → Option (List ℕ) → Result (Option (Part Root)) Fault
   following r None = Ok None
   following r (Some bytes) = do
@@ -150,7 +150,7 @@ module _ (files : Files) (now : Moment) where
       if nat_le greatest r.header.version then Ok None
       else following r (files (root_name (r.header.version + 1)))
 
-  -- the roots that follow, at most `most`: each is trusted, and then the one behind it, if there is
+  -- the roots that follow, at most `most`: each is trusted, and then the one after it, if there is
   -- one (5.3.7 to 5.3.9)
   unfoldable pub followed : ℕ → State → Result State Advanced
   followed zero s = Ok s
@@ -171,7 +171,7 @@ module _ (files : Files) (now : Moment) where
 
   -- ---- the timestamp (section 5.4)
 
-  -- where the trusted version came again, the trusted file stays, and must not be expired
+  -- if the version is the trusted one, the trusted file stays, and must not be expired
   abbrev pub renewed : Root → Timestamp → Result (Option (Part Timestamp)) Fault
   renewed r old = do
     newer ← next_timestamp (due_timestamp r) old files now
@@ -237,7 +237,7 @@ advanced files now s = ended (steps files now s)
 
 -- # The chain of roots (TUF 1.0 section 5.3).
 
--- two neighbours of a root and those behind it list other keys for the timestamp or the snapshot
+-- two consecutive roots of the list list different keys for the timestamp or the snapshot
 abbrev pub rotates : Part Root → List (Part Root) → Bool
 rotates a [] = false
 rotates a (b ∷ more) = is_rotated a.reading b.reading || rotates b more
@@ -255,11 +255,11 @@ is_early (Stopped step.Snapshot fault) = false
 is_early (Stopped step.Targets fault) = false
 
 module _ (files : Files) (now : Moment) where
-  -- from a root to one of the next version, signed as the root before and as it itself asks
+  -- from a root to one of the next version, signed as the root before and it itself require
   abbrev pub IsRootStep : Part Root → Part Root → Type 0
   IsRootStep a b = successor files now a.reading ≡ Ok (Some b)
 
-  -- so many root steps from the one root to the other
+  -- a chain of `n` root steps from the one root to the other
   abbrev pub IsChain : ℕ → Part Root → Part Root → Type 0
   IsChain zero a b = a ≡ b
   IsChain (suc n) a b = (next : Part Root) × IsRootStep a next × IsChain n next b
@@ -275,8 +275,8 @@ module _ (files : Files) (now : Moment) where
   AreChained a [] = Unit {0}
   AreChained a (b ∷ more) = IsRootStep a b × AreChained b more
 
-  -- the roots of a chain were trusted, and the timestamp and the snapshot are gone exactly where
-  -- two neighbours of it are rotated (5.3.11)
+  -- the roots of a chain were trusted, and the timestamp and the snapshot are dropped exactly if
+  -- two consecutive ones are rotated (5.3.11)
   pub record IsDropped (old new : State) : Type 0 where
     pub roots : List (Part Root)
     pub chained : AreChained old.root roots
@@ -284,7 +284,7 @@ module _ (files : Files) (now : Moment) where
     pub timestamp : new.timestamp ≡ (if rotates old.root roots then None else old.timestamp)
     pub snapshot : new.snapshot ≡ (if rotates old.root roots then None else old.snapshot)
 
--- # What the values of the program stand for.
+-- # What the values of the program represent.
 
 abbrev pub advanced_of : State × End → Advanced
 advanced_of r = record { state = r.0; end = r.1 }
@@ -298,7 +298,8 @@ abbrev pub or_halt : {A : Type 0} → Step → Result A Stop → Result A Halt
 or_halt at (Ok x) = Ok x
 or_halt at (Err why) = Err (halt_of at why)
 
--- a step that goes on from the state, or stops the cycle with it; want of memory says nothing
+-- a step that goes on from the state, or stops the cycle with it; if it is out of memory, nothing
+-- is known
 abbrev pub Leaves : Result State Advanced → Result ⊤ Halt → State → Type 0
 Leaves r (Ok done) s = r ≡ Ok s
 Leaves r (Err (halt.Stopped at fault)) s = r ≡ Err (stops s at fault)

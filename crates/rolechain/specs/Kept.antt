@@ -54,7 +54,7 @@ kept d = do
 abbrev pub member_text : List ℕ → List ℕ → List ℕ
 member_text name bytes = 34 ∷ name ++ codes "\":\"" ++ encode_lower bytes ++ codes "\""
 
--- the same behind a comma, where the file is trusted
+-- the same after a comma, if the file is trusted
 abbrev pub later_text : List ℕ → Option (List ℕ) → List ℕ
 later_text name None = []
 later_text name (Some bytes) = 44 ∷ member_text name bytes

@@ -26,13 +26,13 @@ part_in read (Some bytes) = do
   part ← or_state_fault (read bytes)
   Ok (Some part)
 
--- the state of a root file that is trusted because it was handed in
+-- the state of a root file that the caller trusts
 abbrev pub root_state : List ℕ → Result State StateFault
 root_state bytes = do
   root ← or_state_fault (part_of form.root root_limit bytes)
   Ok (first root)
 
--- the state that the files give, each read in turn
+-- the state of these files, each read in turn
 abbrev pub state_in : Kept → Result State StateFault
 state_in k = do
   root ← or_state_fault (part_of form.root root_limit k.root)
@@ -41,7 +41,7 @@ state_in k = do
   timestamp ← part_in (part_of form.timestamp timestamp_limit) k.timestamp
   Ok (record { root = root; timestamp = timestamp; snapshot = snapshot; targets = targets })
 
--- the files of a state's text, which is spelled just so
+-- the files of a state's text, which has exactly this form
 abbrev pub kept_in : List ℕ → Result Kept StateFault
 kept_in text = do
   tree ← or_refuse (tree_of text) Malformed
@@ -49,14 +49,14 @@ kept_in text = do
   spelled ← refuse_if (not (bytes_eq text (kept_text k))) Malformed
   Ok k
 
--- the state of a text, or why it has none
+-- the state of a text, or its fault
 abbrev pub state_of : List ℕ → Result State StateFault
 state_of text = do
   k ← kept_in text
   short ← refuse_if (has_long k) TooLong
   state_in k
 
--- what the calls answer that read a state; want of memory says nothing
+-- what a call returns that reads a state; if it is out of memory, nothing is known
 abbrev pub ReadsState : {A : Type 0} → Result A StateFault → Result A StateFault → Type 0
 ReadsState r (Ok x) = r ≡ Ok x
 ReadsState r (Err e) = e ≢ NoMemory → r ≡ Err e

@@ -23,16 +23,16 @@ pub enum End {
     Stopped(Step, Fault),
 }
 
-/// Why a cycle ends before its last step is done.
+/// Why a cycle ends before its last step.
 #[derive(Clone, Copy)]
 pub(crate) enum Halt {
     /// The step's file has the fault.
     Stopped(Step, Fault),
-    /// Memory was refused.
+    /// Out of memory.
     NoMemory,
 }
 
-/// The answer of a step's checks, which end the cycle in that step where they end early.
+/// Returns the result of a step's checks. If they end early, the cycle ends in that step.
 pub(crate) fn or_halt<A: Drop>(step: Step, answer: Result<A, Stop>) -> Result<A, Halt>
     ensures { result ≡ spec.or_halt step answer }
 {

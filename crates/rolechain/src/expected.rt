@@ -1,4 +1,4 @@
-//! What each file of the workflow is expected to be.
+//! What is expected of each file of the workflow.
 
 ghost use Rattle.std.specs.Prelude.{◌≡◌, ◌+◌, IfOk, codes, string_bytes};
 ghost use Rattle.meta.specs.Content.{root_name, versioned as due_name};
@@ -10,7 +10,7 @@ use meta::names::{role_name, version_name};
 use meta::{Listing, Root, Snapshot};
 use std::alloc::{AllocError, Global};
 
-/// What the root that follows is expected to be (TUF 1.0 section 5.3).
+/// Returns what is expected of the root that follows (TUF 1.0 section 5.3).
 pub(crate) fn due_root<'a>(root: &'a Root, name: &'a str) -> Expectation<'a>
     requires { name.now ≡ root_name (root.now.header.version + 1) }
     ensures { expectation result ≡ spec.next_root root.now }
@@ -23,7 +23,7 @@ pub(crate) fn due_root<'a>(root: &'a Root, name: &'a str) -> Expectation<'a>
     }
 }
 
-/// What the timestamp is expected to be (TUF 1.0 section 5.4).
+/// Returns what is expected of the timestamp (TUF 1.0 section 5.4).
 pub(crate) fn due_timestamp(root: &Root) -> Expectation<'_>
     ensures { expectation result ≡ spec.due_timestamp root.now }
 {
@@ -35,7 +35,7 @@ pub(crate) fn due_timestamp(root: &Root) -> Expectation<'_>
     }
 }
 
-/// What the snapshot that is so listed is expected to be (TUF 1.0 section 5.5).
+/// Returns what is expected of the snapshot with this listing (TUF 1.0 section 5.5).
 pub(crate) fn due_snapshot<'a>(root: &'a Root, listing: &Listing, name: &'a str) -> Expectation<'a>
     requires { name.now
         ≡ due_name root.now.consistent listing.now.version (codes "snapshot.json") }
@@ -49,9 +49,9 @@ pub(crate) fn due_snapshot<'a>(root: &'a Root, listing: &Listing, name: &'a str)
     }
 }
 
-/// How the snapshot lists a role's targets file, and the name under which the file lies: where it
-/// is listed and the root asks for consistent snapshots, with its listed version in front (TUF 1.0
-/// sections 5.6 and 5.6.7). Only memory can be refused.
+/// Returns the listing of a role's targets file in the snapshot, and the name of the file. If it is
+/// listed and the root requires consistent snapshots, the name begins with the listed version (TUF
+/// 1.0 sections 5.6 and 5.6.7). Fails only if out of memory.
 pub fn place_of(
     alloc: Global,
     root: &Root,
@@ -73,7 +73,7 @@ pub fn place_of(
     }
 }
 
-/// What the top-level targets file that lies there is expected to be (TUF 1.0 section 5.6).
+/// Returns what is expected of the top-level targets file of this name (TUF 1.0 section 5.6).
 pub(crate) fn due_targets<'a>(root: &'a Root, listed: Listed, name: &'a str) -> Expectation<'a>
     ensures { expectation result
         ≡ spec.expected name.now listed root.now.ring root.now.targets }

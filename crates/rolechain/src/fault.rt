@@ -8,16 +8,16 @@ use cjson::{NoMemory, ReadFault};
 use std::alloc::AllocError;
 use thiserror::Error;
 
-/// Why a trusted state was not read.
+/// Why a trusted state can't be read.
 #[derive(Clone, Copy, Debug, PartialEq, Eq, Error)]
 pub enum StateFault {
     /// A file is longer than the limit of its kind.
     #[error("a file is too long")]
     TooLong,
-    /// The text isn't spelled as a state's, or a file hasn't the form of its kind.
+    /// The text isn't that of a state, or a file is malformed.
     #[error("not of the form")]
     Malformed,
-    /// Memory was refused.
+    /// Out of memory.
     #[error("out of memory")]
     NoMemory,
 }

@@ -15,13 +15,13 @@ use keys::Judge;
 use meta::names::root_name;
 use meta::{Fault, Part, Root, Stop};
 
-/// The most roots that a cycle accepts (TUF 1.0 section 5.3.3).
+/// Maximum number of roots that a cycle accepts (TUF 1.0 section 5.3.3).
 pub const MOST_ROOTS: u32 = 256;
 
 /// The greatest version: a root of this version has no successor.
 pub const LAST_VERSION: u64 = i64::MAX as u64;
 
-/// The roots that follow, the last of which must not be expired (TUF 1.0 section 5.3).
+/// Trusts the roots that follow, the last of which must not be expired (TUF 1.0 section 5.3).
 pub(crate) fn root_step<J: Judge>(
     round: &Round,
     state: &mut Trusted,
@@ -37,7 +37,7 @@ pub(crate) fn root_step<J: Judge>(
     Ok(())
 }
 
-/// The chain of roots.
+/// Follows the chain of roots.
 fn follow<J: Judge>(round: &Round, state: &mut Trusted, judge: &mut J) -> Result<(), Halt>
     ensures { Leaves (spec.followed (file_in round.now.files.now) round.now.moment 256 state.old)
         result state.new }
@@ -51,7 +51,7 @@ fn follow<J: Judge>(round: &Round, state: &mut Trusted, judge: &mut J) -> Result
     Ok(())
 }
 
-/// The root that follows, if there is one.
+/// Returns the root that follows, if there is one.
 fn successor<J: Judge>(
     round: &Round,
     root: &Root,
@@ -73,7 +73,7 @@ fn successor<J: Judge>(
     Ok(Some(next))
 }
 
-/// The version that a root's successor has (TUF 1.0 section 5.3).
+/// Returns the version that a root's successor must have (TUF 1.0 section 5.3).
 fn due_version(root: &Root) -> u64
     requires last { root.now.header.version < 2 ^ 63 - 1 }
     ensures { result ≡ root.now.header.version + 1 }

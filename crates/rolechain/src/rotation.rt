@@ -8,7 +8,8 @@ use cjson::text::Text;
 use keys::RoleKeys;
 use meta::Root;
 
-/// Whether the new root lists other keys for the timestamp or the snapshot (TUF 1.0 section 5.3).
+/// Returns whether the new root lists different keys for the timestamp or the snapshot (TUF 1.0
+/// section 5.3).
 pub(crate) fn is_rotated(old: &Root, new: &Root) -> bool
     ensures { result ≡ spec.is_rotated old.now new.now }
 {

@@ -8,9 +8,9 @@ use cjson::NoMemory;
 use meta::{Part, Reading, Root, Snapshot, Targets, Timestamp};
 use std::marker::Model;
 
-/// What is trusted: a root file and, each where trusted, a timestamp, a snapshot and a top-level
-/// targets file (TUF 1.0 section 5). Each is the reading of its bytes, which are within the limit
-/// of its kind.
+/// What is trusted: a root file and, if trusted, a timestamp, a snapshot and a top-level targets
+/// file (TUF 1.0 section 5). Each is the reading of its bytes, which are within the limit of its
+/// kind.
 pub struct Trusted {
     pub(crate) root: Part<Root>,
     pub(crate) timestamp: Option<Part<Timestamp>>,
@@ -73,42 +73,42 @@ impl Trusted {
         }
     }
 
-    /// The root file.
+    /// Returns the root file.
     pub fn root(&self) -> &Part<Root>
         ensures value { result.now ≡ self.now.root }
     {
         &self.root
     }
 
-    /// The timestamp file, where one is trusted.
+    /// Returns the timestamp file, if one is trusted.
     pub fn timestamp(&self) -> Option<&Part<Timestamp>>
         ensures value { option_map (λ p. p.now) result ≡ self.now.timestamp }
     {
         self.timestamp.as_ref()
     }
 
-    /// The snapshot file, where one is trusted.
+    /// Returns the snapshot file, if one is trusted.
     pub fn snapshot(&self) -> Option<&Part<Snapshot>>
         ensures value { option_map (λ p. p.now) result ≡ self.now.snapshot }
     {
         self.snapshot.as_ref()
     }
 
-    /// The top-level targets file, where one is trusted.
+    /// Returns the top-level targets file, if one is trusted.
     pub fn targets(&self) -> Option<&Part<Targets>>
         ensures value { option_map (λ p. p.now) result ≡ self.now.targets }
     {
         self.targets.as_ref()
     }
 
-    /// Whether all four files are there.
+    /// Returns whether all four files are there.
     pub fn is_ready(&self) -> bool
         ensures test { result ≡ spec.is_ready self.now }
     {
         self.timestamp.is_some() && self.snapshot.is_some() && self.targets.is_some()
     }
 
-    /// An equal state, which shares its files with this one. It takes no memory.
+    /// Returns an equal state, which shares its files with this one. Fails only if out of memory.
     pub fn copy(&self) -> Result<Trusted, NoMemory>
         ensures equal { IfOk result (λ t. t ≡ self.now) }
     {
@@ -120,14 +120,14 @@ impl Trusted {
         })
     }
 
-    /// The version of the root.
+    /// Returns the version of the root.
     pub fn root_version(&self) -> u64
         ensures value { result ≡ self.now.root.reading.header.version }
     {
         self.root.reading().header().version.get()
     }
 
-    /// Trusts the next root; where keys were rotated, the timestamp and the snapshot are dropped.
+    /// Trusts the next root. If keys were rotated, drops the timestamp and the snapshot.
     pub(crate) fn trust_root(&mut self, next: Part<Root>)
         ensures { self.new ≡ spec.with_root self.old next }
     {

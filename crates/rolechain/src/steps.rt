@@ -1,4 +1,4 @@
-//! The steps behind the roots: timestamp, snapshot and top-level targets.
+//! The steps after the roots: timestamp, snapshot and top-level targets.
 
 ghost use Rattle.std.specs.Prelude.{◌≡◌, Ok, option_map};
 ghost use Rattle.meta.specs.Content.{Answers};
@@ -18,7 +18,7 @@ use meta::{Fault, Moment, Part, Root, Snapshot, Stop, Targets, Timestamp};
 use std::alloc::Global;
 use std::collections::BTreeMap;
 
-/// What a cycle looks at: the repository's metadata files by their names, at a moment.
+/// The input of a cycle: the repository's metadata files by their names, and a moment.
 #[derive(Clone, Copy)]
 pub(crate) struct Round<'a> {
     pub alloc: Global,
@@ -26,7 +26,7 @@ pub(crate) struct Round<'a> {
     pub moment: Moment,
 }
 
-/// The timestamp (TUF 1.0 section 5.4).
+/// Updates the timestamp (TUF 1.0 section 5.4).
 pub(crate) fn timestamp_step<J: Judge>(
     round: &Round,
     state: &mut Trusted,
@@ -42,7 +42,7 @@ pub(crate) fn timestamp_step<J: Judge>(
     Ok(())
 }
 
-/// The snapshot (TUF 1.0 section 5.5).
+/// Updates the snapshot (TUF 1.0 section 5.5).
 pub(crate) fn snapshot_step<J: Judge>(
     round: &Round,
     state: &mut Trusted,
@@ -56,7 +56,7 @@ pub(crate) fn snapshot_step<J: Judge>(
     Ok(())
 }
 
-/// The top-level targets file (TUF 1.0 section 5.6).
+/// Updates the top-level targets file (TUF 1.0 section 5.6).
 pub(crate) fn targets_step<J: Judge>(
     round: &Round,
     state: &mut Trusted,
@@ -70,8 +70,8 @@ pub(crate) fn targets_step<J: Judge>(
     Ok(())
 }
 
-/// The timestamp that is trusted next, or none where the trusted one stays: where its version came
-/// again, and then it must not be expired.
+/// Returns the timestamp that is trusted next. Returns None if the trusted one stays, since its
+/// version is the same; it must not be expired then.
 fn newer_timestamp<J: Judge>(
     round: &Round,
     state: &Trusted,
@@ -92,7 +92,7 @@ fn newer_timestamp<J: Judge>(
     Ok(newer)
 }
 
-/// The snapshot that the trusted timestamp lists.
+/// Returns the snapshot that the trusted timestamp lists.
 fn listed_snapshot<J: Judge>(
     round: &Round,
     state: &Trusted,
@@ -111,14 +111,14 @@ fn listed_snapshot<J: Judge>(
     examine_snapshot(round.alloc, &expect, old, round.files, round.moment, judge)
 }
 
-/// What the trusted snapshot says.
+/// Returns the contents of the trusted snapshot.
 fn old_snapshot(state: &Trusted) -> Option<&Snapshot>
     ensures { option_map (λ s. s.now) result ≡ spec.reading_in state.now.snapshot }
 {
     Some(state.snapshot()?.reading())
 }
 
-/// The targets file that the trusted snapshot lists.
+/// Returns the targets file that the trusted snapshot lists.
 fn listed_targets<J: Judge>(
     round: &Round,
     state: &Trusted,

@@ -16,7 +16,7 @@ use serde_json::Value;
 use std::alloc::{AllocError, Global};
 use std::marker::Model;
 
-/// Bytes that a text spells in hexadecimal.
+/// Bytes, read from a text in hexadecimal.
 #[derive(Drop)]
 pub(crate) struct Hex {
     bytes: Vec<u8>,
@@ -43,7 +43,7 @@ impl FromJson for Hex {
     }
 }
 
-/// The files that a state's text keeps.
+/// The files that a state's text contains.
 #[derive(Drop)]
 pub(crate) struct Kept {
     pub root: Hex,
@@ -66,8 +66,9 @@ impl FromJson for Kept {
 }
 
 impl Trusted {
-    /// A root file alone, trusted because it was handed in: no signature is asked. `TooLong` over
-    /// 512,000 bytes, else `Malformed` where it isn't a root file.
+    /// Returns the state of a root file alone, which the caller trusts: no signature is checked.
+    /// Fails with `TooLong` over 512,000 bytes, with `Malformed` if it isn't a root file, or with
+    /// `NoMemory`.
     pub fn from_root(alloc: Global, bytes: &[u8]) -> Result<Trusted, StateFault>
         ensures state { ReadsState (root_state bytes.now) result }
     {
@@ -75,9 +76,10 @@ impl Trusted {
         Ok(Trusted::of(root, None, None, None))
     }
 
-    /// The state of a state file's text. `Malformed` where the text isn't spelled as `to_text`
-    /// spells it; then `TooLong` where a file is over the limit of its kind; else `Malformed`
-    /// where a file hasn't the form of its kind. No other text is read as the same state.
+    /// Reads a state from the text of a state file. Fails with `Malformed` if the text hasn't the
+    /// form that `to_text` writes, then with `TooLong` if a file is over the limit of its kind,
+    /// then with `Malformed` if a file is malformed; or with `NoMemory`. No other text is read as
+    /// the same state.
     pub fn from_text(alloc: Global, text: &[u8]) -> Result<Trusted, StateFault>
         ensures state { ReadsState (state_of text.now) result }
         ensures own { IfOk result (λ t. text.now ≡ spec.kept_text (spec.kept_of t)) }
@@ -89,9 +91,10 @@ impl Trusted {
         state_in(alloc, kept)
     }
 
-    /// The text of a state file: the canonical JSON of an object whose members `root` and, where
-    /// trusted, `snapshot`, `targets` and `timestamp` are the files in lower-case hexadecimal.
-    /// `from_text` reads it as this state, so no other state has this text.
+    /// Returns the text of a state file: the canonical JSON of an object whose members `root` and,
+    /// if trusted, `snapshot`, `targets` and `timestamp` are the files in lower-case hexadecimal.
+    /// `from_text` reads it as this state, so no other state has this text. Fails only if out of
+    /// memory.
     pub fn to_text(&self, alloc: Global) -> Result<Vec<u8>, NoMemory>
         ensures text { IfOk result (λ text. text.items
             ≡ spec.kept_text (spec.kept_of self.now)) }
@@ -107,7 +110,7 @@ impl Trusted {
     }
 }
 
-/// The files of a text that is spelled as a state's.
+/// Reads the files of a state's text.
 fn kept_in(alloc: Global, text: &[u8]) -> Result<Kept, StateFault>
     ensures { ReadsState (kept_in text.now) result }
 {
@@ -120,7 +123,7 @@ fn kept_in(alloc: Global, text: &[u8]) -> Result<Kept, StateFault>
     Ok(kept)
 }
 
-/// The file of these bytes.
+/// Reads the file of these bytes.
 fn read_part<A: Reading + Drop>(alloc: Global, bytes: Vec<u8>) -> Result<Part<A>, StateFault>
     ensures { ReadsState (or_state_fault (part_of A.form A.limit bytes.items)) result }
 {
@@ -172,7 +175,7 @@ fn is_over(limit: u64, hex: &Option<Hex>) -> bool
     bytes.is_some_and(|bytes| bytes.len() as u64 > limit)
 }
 
-/// The state that the files give, each read in turn.
+/// Reads the files in turn, as a state.
 fn state_in(alloc: Global, kept: Kept) -> Result<Trusted, StateFault>
     ensures { ReadsState (state_in kept) result }
 {
@@ -195,7 +198,7 @@ fn part_in<A: Reading + Drop>(
     }
 }
 
-/// The text of the files of a state.
+/// Returns the text of the files of a state.
 fn text_of(
     alloc: Global,
     root: &[u8],

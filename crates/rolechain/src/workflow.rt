@@ -16,11 +16,14 @@ use keys::Judge;
 use meta::{Moment, Repo};
 use std::alloc::Global;
 
-/// One cycle of the client workflow, from the trusted state up to the top-level targets file (TUF
-/// 1.0 sections 5.3 to 5.6): the new trusted state, and how the cycle ended. A stop leaves what was
-/// trusted before it. The new root ends the longest chain of at most 256 roots that follow the
-/// trusted one. A stop at a root or at the timestamp leaves the trusted timestamp and snapshot, or
-/// neither where two neighbours of the chain list other keys for one of them.
+/// Runs one cycle of the client workflow, from the trusted state up to the top-level targets file
+/// (TUF 1.0 sections 5.3 to 5.6). Returns the new trusted state, and how the cycle ended. Fails
+/// only if out of memory.
+///
+/// The new root ends the longest chain of at most 256 roots that follow the trusted one. A stop
+/// leaves what was trusted before it. If the cycle stops at a root or at the timestamp, it keeps
+/// the trusted timestamp and snapshot. If two consecutive roots of the chain list different keys
+/// for either role, it drops both instead.
 pub fn advance<J: Judge>(
     alloc: Global,
     trusted: &Trusted,
@@ -44,12 +47,12 @@ pub fn advance<J: Judge>(
     };
     let mut state = trusted.copy()?;
     let end = end_of(steps(&round, &mut state, judge))?;
-    // (a state whose field is looked at is known to keep its invariant: the clause `parts`)
+    // (reading a field of the state shows its invariant: the clause `parts`)
     let _root = &state.root;
     Ok((state, end))
 }
 
-/// How a cycle ended whose steps answered so.
+/// Returns how a cycle ended whose steps have this result.
 fn end_of(answer: Result<(), Halt>) -> Result<End, NoMemory>
     ensures { Ends answer result }
 {
@@ -60,7 +63,7 @@ fn end_of(answer: Result<(), Halt>) -> Result<End, NoMemory>
     }
 }
 
-/// The steps of a cycle, in order.
+/// Runs the steps of a cycle, in order.
 #[tactic(auto, unfolding(crate::specs::Advance::steps))]
 fn steps<J: Judge>(round: &Round, state: &mut Trusted, judge: &mut J) -> Result<(), Halt>
     ensures { Leaves (spec.steps (file_in round.now.files.now) round.now.moment state.old)
