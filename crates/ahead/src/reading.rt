@@ -14,7 +14,7 @@ use rolechain::{LAST_VERSION, MOST_ROOTS, Trusted, place_of};
 use std::alloc::Global;
 use std::collections::{BTreeMap, BTreeSet};
 
-/// Maximum number of bytes of metadata files that a run reads ahead, roots included.
+/// Maximum number of bytes of metadata files that a run reads in advance, roots included.
 const MOST_BYTES: u64 = 4_000_000;
 
 /// A file that was read, and the number of its document.
@@ -61,7 +61,7 @@ pub(crate) struct RoleFiles {
     pub listed: Vec<ListedAt>,
 }
 
-/// What was read ahead, each file once.
+/// What was read in advance, each file once.
 #[derive(Drop)]
 pub struct Ahead {
     pub(crate) roots: Vec<ReadFile<Root>>,
@@ -70,8 +70,7 @@ pub struct Ahead {
     pub(crate) roles: RoleFiles,
 }
 
-/// What to read ahead for: the run's trusted state, repository and wanted paths, the most roles
-/// that a search may visit, and the most checks that a plan may have.
+/// The input of reading in advance.
 #[derive(Clone, Copy)]
 pub struct Scope<'a> {
     /// The allocator.

@@ -1,7 +1,7 @@
 //! Times the slow parts of a verification.
 //!
-//! Without a word it does nothing. With the word `all` it prints a line for each part, and with the
-//! word `ahead` one for each round of cycles by several numbers of workers.
+//! Without arguments it does nothing. With the argument `all` it prints a line for each part, and
+//! with `ahead` one for each round of cycles with several numbers of workers.
 #![tactic(auto)]
 
 mod parts;
@@ -55,7 +55,7 @@ fn all<R: Clock, W: Write>(rt: &R, alloc: Global, out: &mut W) -> Result<(), Tro
     Ok(())
 }
 
-/// Whether the first word is this one.
+/// Returns whether the first argument is this one.
 fn is_asked<R: Env + AllocGlobal>(rt: &R, asked: &str) -> Result<bool, Trouble> {
     let mut words = env::args(rt)?.skip(1);
     let word = words.next();

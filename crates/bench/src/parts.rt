@@ -8,7 +8,7 @@ use std::alloc::Global;
 use std::rt::Clock;
 use std::time::Instant;
 
-/// How many signatures are verified.
+/// Number of signatures that are verified.
 const VERIFICATIONS: u64 = 500;
 
 /// The steps of the chains that a key of height 5 has: 32 leaves of 34 chains of 255 steps.
@@ -17,16 +17,16 @@ const STEPS_OF_A_KEY: u64 = 32 * 34 * 255;
 /// A digest of no file.
 const DIGEST: &str = "0123456789abcdef0123456789abcdef0123456789abcdef0123456789abcdef";
 
-/// How many members the tree has whose text is made.
+/// Number of members of the tree whose text is made.
 const MEMBERS: u64 = 50_000;
 
-/// How many characters the pattern and the path have.
+/// Number of characters of the pattern and of the path.
 const CHARACTERS: u32 = 5000;
 
-/// How often the tree's text is made.
+/// Number of times that the tree's text is made.
 const TEXTS: u64 = 10;
 
-/// How many signatures over messages of 1,000 bytes are verified in a second.
+/// Returns how many signatures over messages of 1,000 bytes are verified in a second.
 pub fn verifications<R: Clock>(rt: &R, alloc: Global) -> Result<u64, Trouble> {
     let message = [7; 1000];
     let mut secret = Secret::new(alloc, [1; 16], [2; 32], Height::H5)?;
@@ -51,7 +51,7 @@ fn valid_times(public: &Public, message: &[u8], signature: &[u8]) -> u64 {
     valid
 }
 
-/// How many nanoseconds a step of a chain takes, by the making of a key.
+/// Returns how many nanoseconds a step of a chain takes, measured when a key is made.
 pub fn chain_step<R: Clock>(rt: &R, alloc: Global) -> Result<u64, Trouble> {
     let start = Instant::now(rt)?;
     let _secret = Secret::new(alloc, [1; 16], [2; 32], Height::H5)?;
@@ -59,7 +59,7 @@ pub fn chain_step<R: Clock>(rt: &R, alloc: Global) -> Result<u64, Trouble> {
     Ok(took / STEPS_OF_A_KEY)
 }
 
-/// How many millions of bytes of canonical text are made in a second.
+/// Returns how many millions of bytes of canonical text are made in a second.
 pub fn canonical_speed<R: Clock>(rt: &R, alloc: Global) -> Result<u64, Trouble> {
     let json = large_object(alloc)?;
     let tree = read_tree(alloc, json.as_bytes())?;
@@ -73,7 +73,8 @@ pub fn canonical_speed<R: Clock>(rt: &R, alloc: Global) -> Result<u64, Trouble> 
     Ok(per_second(written, took) / 1_000_000)
 }
 
-/// How many microseconds a pattern of 5,000 times `*` and then `b` takes against 5,000 times `a`.
+/// Returns how many microseconds it takes to match a pattern of 5,000 times `*` and then `b` with
+/// 5,000 times `a`.
 pub fn pattern_time<R: Clock>(rt: &R, alloc: Global) -> Result<u64, Trouble> {
     let mut pattern = repeated(alloc, '*')?;
     pattern.push('b')?;
@@ -95,7 +96,7 @@ fn repeated(alloc: Global, c: char) -> Result<String, Trouble> {
     Ok(text)
 }
 
-/// A list of targets as JSON.
+/// Returns a list of targets as JSON.
 fn large_object(alloc: Global) -> Result<String, Trouble> {
     let mut json = String::new(alloc);
     json.push('{')?;

@@ -1,4 +1,4 @@
-//! What ends a measurement early.
+//! Why a measurement ends early.
 
 use cjson::{CanonicalFault, NoMemory, ReadFault};
 use cycle::StateFault;
@@ -11,10 +11,10 @@ use thiserror::Error;
 /// Why nothing was measured.
 #[derive(Debug, Drop, Error)]
 pub enum Trouble {
-    /// The clock can't be read, the words can't, or a line can't be written.
+    /// The clock or the arguments can't be read, or a line can't be written.
     #[error("a refusal of the system")]
     System(#[from] io::Error),
-    /// Memory was refused.
+    /// Out of memory.
     #[error("out of memory")]
     Memory,
     /// What was made for the measurement isn't what it has to be.

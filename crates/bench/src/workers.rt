@@ -12,10 +12,10 @@ use std::sync::Wait;
 use std::thread::Threads;
 use std::time::Instant;
 
-/// How many rounds are timed.
+/// Number of rounds that are timed.
 const ROUNDS: u64 = 11;
 
-/// How many delegated roles there are, and how many keys sign each.
+/// Number of delegated roles, and of keys that sign each.
 const ROLES: u32 = 32;
 
 /// A repository in which one path is searched in vain through all delegated roles.
@@ -40,7 +40,7 @@ impl Drop for Course {
 }
 
 /// Prints for each round how many microseconds a cycle of 1,024 signatures took on one thread, and
-/// by one, two and four workers.
+/// with one, two and four workers.
 pub fn rounds<C: Clock, R: Threads + Wait + Sync, W: Write>(
     clock: &C,
     rt: &R,
@@ -100,7 +100,7 @@ fn time_beside<C: Clock, R: Threads + Wait + Sync>(
     Ok(took / 1000)
 }
 
-/// Asks that all delegated roles were accepted.
+/// Checks that all delegated roles were accepted.
 fn whole(outcome: &Outcome) -> Result<(), Trouble> {
     if outcome.accepted().len() == ROLES as usize {
         Ok(())
@@ -140,7 +140,8 @@ fn repository(alloc: Global) -> Result<Repo, Trouble> {
     })
 }
 
-/// 32 roles that list nothing, each signed by the same 32 keys, whose bytes are 5 to 36.
+/// Returns a script of 32 roles that list nothing, each signed by the same 32 keys, whose bytes are
+/// 5 to 36.
 fn script(alloc: Global) -> Result<String, Trouble> {
     let keys = key_list(alloc)?;
     let mut text = String::new(alloc);

@@ -1,4 +1,4 @@
--- Why a run ended early: whose mistake it is, and what is told of it.
+-- Why a run ends early: usage error or system error, and the line that is printed.
 use Rattle.std.specs.Prelude.{ℕ, List, [], ◌∷◌, ◌++◌, Bool, true, false, codes, decimal}
 use Rattle.failure.specs.declared.failure.Failure.TheVariants.{Words, Now, State, Script, Input, Folder, Clock, Output, Memory}
 use Rattle.failure.specs.declared.failure.Failure.{Failure}
@@ -13,7 +13,7 @@ line (word ∷ next ∷ more) = word ++ 32 ∷ line (next ∷ more)
 
 -- # Failures.
 
--- whether the caller's words or files are at fault, and not the system
+-- whether it is a usage error, in the caller's arguments or files, and not a system error
 abbrev pub is_callers : Failure → Bool
 is_callers Words = true
 is_callers Now = true
@@ -21,7 +21,7 @@ is_callers State = true
 is_callers (Script line) = true
 is_callers _ = false
 
--- what is told of a failure, but for the line of a script
+-- the text of a failure, without the line of a script
 abbrev pub failure_word : Failure → List ℕ
 failure_word Words = codes "words"
 failure_word Now = codes "now"

@@ -1,4 +1,4 @@
-//! What ends a run early.
+//! The program's failures, with the exit status and the error line of each.
 
 ghost use Rattle.std.specs.Prelude.{◌≡◌, ◌≢◌, ◌↔◌, ◌⊎◌, ℕ, true, OnOk};
 ghost use Rattle.std.specs.Io.KnownBytes.{Appends};
@@ -17,19 +17,19 @@ use std::alloc::{AllocError, AllocFailed};
 use std::io::{self, ErrorKind, Write};
 use thiserror::Error;
 
-/// Why a run ended early. [`tell_failure`] writes the text behind `tufcheck: `.
+/// Why a run ends early. [`tell_failure`] prints the text after `tufcheck: `.
 #[derive(Clone, Copy, Debug, PartialEq, Eq, Error)]
 pub enum Failure {
-    /// A word of the command line isn't UTF-8, or is none that the program knows.
+    /// An argument isn't UTF-8, or is unknown or invalid.
     #[error("a word of the command line isn't known")]
     Words,
-    /// The text of `--now` isn't of the form of `expires`.
+    /// The text of `--now` hasn't the form of `expires`.
     #[error("the text of the moment isn't of its form")]
     Now,
     /// The state file can't be read, or isn't one.
     #[error("the state file can't be read, or isn't one")]
     State,
-    /// The script can't be followed at this line, counted from 1.
+    /// The script is invalid at this line, counted from 1.
     #[error("the script can't be followed at line {0}")]
     Script(usize),
     /// The root file or the script can't be read, or the script isn't UTF-8.
@@ -44,13 +44,13 @@ pub enum Failure {
     /// The state or the lines can't be written.
     #[error("the state or the lines can't be written")]
     Output,
-    /// Memory was refused.
+    /// Out of memory.
     #[error("out of memory")]
     Memory,
 }
 
 impl Failure {
-    /// The exit status: 3 for what the caller said, 4 for what the system refused.
+    /// Returns the exit status: 3 for a usage error, 4 for a system error.
     pub fn status(self) -> u8
         ensures caller { (result ≡ 3) ↔ (is_callers self ≡ true) }
         ensures known { (result ≡ 3) ⊎ (result ≡ 4) }
@@ -123,7 +123,7 @@ impl From<LoadFault> for Failure {
     }
 }
 
-/// The failure that an error of a file is: want of memory, or else `other`.
+/// Returns the failure for an error of a file: `Memory` if it was out of memory, else `other`.
 pub fn of_io(error: &io::Error, other: Failure) -> Failure
     ensures memory { error_kind error.now ≡ ErrorKind.OutOfMemory → result ≡ Failure.Memory }
     ensures other { error_kind error.now ≢ ErrorKind.OutOfMemory → result ≡ other }
@@ -136,8 +136,8 @@ pub fn of_io(error: &io::Error, other: Failure) -> Failure
     }
 }
 
-/// Writes the failure's line, `tufcheck: ` and its text, and takes no memory. A writer whose bytes
-/// are known was then given that line and nothing else.
+/// Prints the failure's line, `tufcheck: ` and its text. Does not allocate. If the contract tracks
+/// the content of `err`, this line and nothing else was printed.
 pub fn tell_failure<E: Write>(failure: Failure, err: &mut E) -> io::Result<()>
     ensures line { OnOk result (Appends (E.contents err.old) (E.contents err.new)
         (failure_text failure)) }
@@ -151,7 +151,7 @@ pub fn tell_failure<E: Write>(failure: Failure, err: &mut E) -> io::Result<()>
     }
 }
 
-/// The text of a failure, where it isn't that of a line of a script.
+/// Returns the text of a failure, without the line of a script.
 fn failure_name(failure: Failure) -> &'static str
     ensures text { result.now ≡ failure_word failure }
 {

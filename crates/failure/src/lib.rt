@@ -1,9 +1,8 @@
-//! Why a run of the program ends early: whose mistake it is, the exit status, and the line that is
-//! told.
+//! Why a run of the program ends early: the exit status, and the line that is printed.
 //!
-//! - [`Failure`] is made from each refusal of the crates below, and [`of_io`] from an error of a
-//!   file.
-//! - [`tell_failure`] writes its line.
+//! - [`Failure`] is made from each error of the crates below, and [`of_io`] makes it from an error
+//!   of a file.
+//! - [`tell_failure`] prints its line.
 #![tactic(auto)]
 
 mod failure;

@@ -4,9 +4,9 @@ use Rattle.std.specs.BTreeMap.{get_by_text, BTreeMap}
 use Rattle.folder.specs.Seen.{AreSeen, IsStartOf, MayBeSeen, Seen, Start, is_named}
 use Rattle.folder.specs.Starts.{AreSeenStarts, AreStarts, HasStarts}
 
--- ---- there are always files that are seen so
+-- ---- there are always files that fit what was seen
 
--- the bytes that were read, or none of a file that was not read
+-- the bytes that were read, or none for a file that was not read
 fill : Bool → Option Start → Option (List ℕ)
 fill true o = Some (unwrap_or (option_map (λ r. r.bytes) o) [])
 fill false o = None

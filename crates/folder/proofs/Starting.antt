@@ -11,7 +11,7 @@ use Rattle.folder.specs.Seen.{IsStartOf, is_named}
 use Rattle.folder.specs.Starts.{AddsStart, HasStarts}
 use Rattle.folder.proofs.Loading.{holds_still}
 
--- the name of a list with one more stands in it if it is the new one, or stood in it before
+-- a name is in a list with one more if it is the new one, or was in the list before
 named_more : (names : List (List ℕ)) (name q : List ℕ) → is_named (names ++ name ∷ []) q ≡ (is_named names q || (bytes_eq name q || false))
 named_more names name q = list_any-append (λ other. bytes_eq other q) names (name ∷ [])
 
@@ -25,7 +25,7 @@ is_there true false ends old (Some x) P ending added kept e = sym (ending refl)
 is_there false true ends old new P ending added kept e = ap is_some (kept refl) ∙ e
 is_there false false ends old new P ending added kept e = ap is_some (kept refl) ∙ e
 
--- a name that ends otherwise changes nothing
+-- a name with another ending changes nothing
 as_before : (is_new was_named ends there : Bool) → (is_new ≡ true → ends ≡ false) → there ≡ (was_named && ends) → there ≡ ((was_named || (is_new || false)) && ends)
 as_before true true ends there other e = e
 as_before true false ends there other e = e ∙ sym (other refl)
@@ -74,5 +74,5 @@ module _ {Y Z : Type 0} where
       rw (map-append string_bytes yielded (name ∷ []))
       (passed_over ending up_to holds _ _ files has ends)
 
--- what one more name of the list does to the map
+-- the effect of one more name of the list on the map
 pub ruleset one_more_name = (one_start, one_passed_over, ends_text)

@@ -38,7 +38,7 @@ took old new bytes piece n is need counted there256 there512 fed256 fed512 has =
       in_sha512 = subst (λ b. IfSome new.sha512 (λ h. Holds512 h b)) start (fed512 (take u bytes) has.in_sha512);
     }
 
--- ---- pieces that a reader gives
+-- ---- pieces that a reader returns
 
 kept : (had has : Option (List ℕ)) → Keeps had has → Consumes had has []
 kept None has k = tt
@@ -80,7 +80,7 @@ more_taken s t u had mid has first next = record {
 
 -- ---- the end
 
--- a digest that is there where it is wanted
+-- a digest that is there if it is wanted
 pub digest_is : {D : Type 0} (o : Option D) (wanted : Bool) (d : D) → is_some o ≡ wanted → IfSome o (λ x. x ≡ d) → o ≡ (if wanted then Some d else None)
 digest_is None true d there is = absurd (cc)
 digest_is None false d there is = refl
@@ -117,7 +117,7 @@ of_start need start = record {
   sha512 = if need.sha512 then Some (sha512 start) else None;
 }
 
--- how much was taken in all
+-- how much was taken in total
 counted_all : (s t : Measuring) (had has : Option (List ℕ)) (more : TakesMore s t had has) → HasTaken s [] → t.length ≡ length more.piece
 counted_all s t had has more new =
     let len : length {A = ℕ} (take s.need.up_to []) ≡ min s.need.up_to 0 = length-take s.need.up_to [] in

@@ -24,7 +24,7 @@ IsMeasure need m = (bytes : List ℕ) × (m ≡ measure_of need bytes)
 abbrev pub IsMeasureOf : Need → (List ℕ → Bool) → Measure → Type 0
 IsMeasureOf need test m = (bytes : List ℕ) × (test bytes ≡ true) × (m ≡ measure_of need bytes)
 
--- of these bytes the first were taken, as many as are wanted
+-- the first bytes of these were taken, as many as are wanted
 pub record HasTaken (s : Measuring) (bytes : List ℕ) : Type 0 where
   pub length : s.length ≡ length (take s.need.up_to bytes)
   pub has_sha256 : is_some s.sha256 ≡ s.need.sha256
@@ -32,7 +32,7 @@ pub record HasTaken (s : Measuring) (bytes : List ℕ) : Type 0 where
   pub in_sha256 : IfSome s.sha256 (λ h. Holds256 h (take s.need.up_to bytes))
   pub in_sha512 : IfSome s.sha512 (λ h. Holds512 h (take s.need.up_to bytes))
 
--- a next piece was taken, all of it, which a reader had and lost, where its bytes are known
+-- the next piece was taken as a whole, which the reader had and lost, if its bytes are known
 pub record TakesMore (old new : Measuring) (had has : Option (List ℕ)) : Type 0 where
   pub piece : List ℕ
   pub consumed : Consumes had has piece
@@ -40,10 +40,10 @@ pub record TakesMore (old new : Measuring) (had has : Option (List ℕ)) : Type 
   pub counted : new.length ≡ old.length + length piece
   pub taken : (bytes : List ℕ) → HasTaken old bytes → HasTaken new (bytes ++ piece)
 
--- no more bytes are wanted, or the reader has none left, where its bytes are known
+-- no more bytes are wanted, or the reader has none left, if its bytes are known
 abbrev pub IsDone : Measuring → Option (List ℕ) → Type 0
 IsDone s has = (s.need.up_to ≤ s.length) ⊎ IsAtEnd has
 
--- where the bytes that a reader had are known, it lost the first `up_to` of them
+-- if the bytes that a reader had are known, it lost the first `up_to` of them
 abbrev pub LosesStart : ℕ → Option (List ℕ) → Option (List ℕ) → Type 0
 LosesStart up_to had has = IfSome had (λ bytes. has ≡ Some (drop up_to bytes))

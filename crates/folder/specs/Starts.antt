@@ -5,8 +5,8 @@ use Rattle.std.specs.Prelude.{ℕ, List, take, ◌≡◌, Bool, true, false, ◌
 use Rattle.folder.specs.Seen.{AreSeen, IsStartOf, MayBeSeen, Seen, is_named}
 
 module _ {Y Z : Type 0} where
-  -- the map has the names of the list that end so and no others, each with the first bytes of a
-  -- file that may be read for it
+  -- the map has the names of the list with this ending and no others, each with the first bytes of
+  -- a file that may be read for it
   pub record HasStarts (ending : List ℕ) (up_to : ℕ) (holds : List ℕ → List ℕ → Bool)
       (names : List (List ℕ)) (files : BTreeMap (String Y) (Vec ℕ Z)) : Type 0 where
     pub keys : (name : List ℕ)
@@ -14,8 +14,8 @@ module _ {Y Z : Type 0} where
     pub bytes : (name : List ℕ)
         → IfSome (get_by_text files name) (λ v. IsStartOf (holds name) up_to v.items)
 
-  -- the map has the names that end so of a list that may be given, each with the first bytes of a
-  -- file that may be read for it
+  -- the map has the names with this ending of a list that may be returned, each with the first
+  -- bytes of a file that may be read for it
   abbrev pub AreStarts : List ℕ → ℕ → (List (List ℕ) → Bool) → (List ℕ → List ℕ → Bool)
       → BTreeMap (String Y) (Vec ℕ Z) → Type 0
   AreStarts ending up_to lists holds files =
@@ -29,8 +29,8 @@ module _ {Y Z : Type 0} where
     pub others : (other : List ℕ)
         → bytes_eq name other ≡ false → get_by_text new other ≡ get_by_text old other
 
-  -- What may be seen of a folder. All files that are seen so begin with the bytes of the map, where
-  -- their names end so, and the map has no others.
+  -- What may be seen of a folder. All files that fit it begin with the bytes of the map, if their
+  -- names have this ending, and the map has no others.
   pub record AreSeenStarts (ending : List ℕ) (up_to : ℕ) (lists : List (List ℕ) → Bool)
       (holds : List ℕ → List ℕ → Bool) (files : BTreeMap (String Y) (Vec ℕ Z)) : Type 0 where
     pub seen : Seen

@@ -18,15 +18,15 @@ use std::rt::Files;
 /// Whether the folders below a folder are read too.
 #[derive(Clone, Copy, Debug, PartialEq, Eq)]
 pub enum Depth {
-    /// The files that stand directly in the folder, and no others.
+    /// Only the files directly in the folder.
     Here,
     /// All files below the folder, by their paths below it, with `/` between the parts.
     Below,
 }
 
-/// The plain files of a folder of the file system. The folder itself may be a link; links, pipes
-/// and devices in it are passed over, and a name that isn't UTF-8 is a fault. Any list and any
-/// bytes may be given, since others write there too.
+/// The plain files of a folder of the file system. The folder itself may be a link. Links, pipes
+/// and devices in it are skipped, and a name that isn't UTF-8 is a fault. Contracts allow any list
+/// and any bytes, since other programs write there too.
 #[derive(Drop)]
 pub struct Disk<'a, R> {
     rt: &'a R,
@@ -45,7 +45,7 @@ impl<'a, R> Model for Disk<'a, R> {
 }
 
 impl<'a, R> Disk<'a, R> {
-    /// The folder of that path, of which no call has failed.
+    /// Returns the folder of that path. No call has failed yet.
     pub fn new(rt: &'a R, path: String, depth: Depth) -> Disk<'a, R>
         ensures fresh { result ≡ record { path = string_bytes path; depth = depth; faults = 0 } }
     {
@@ -118,7 +118,7 @@ impl<'a, R: Files + AllocGlobal + Clone + Drop> Folder for Disk<'a, R> {
     }
 }
 
-/// The first `up_to` bytes of the file of that path.
+/// Reads the first `up_to` bytes of the file of that path.
 fn start_of_file<R: Files>(rt: &R, alloc: Global, path: &str, up_to: u64) -> io::Result<Vec<u8>>
     ensures { IfOk result (λ start. length start.items ≤ up_to) }
 {
@@ -126,7 +126,7 @@ fn start_of_file<R: Files>(rt: &R, alloc: Global, path: &str, up_to: u64) -> io:
     start_of_reader(alloc, &mut file, up_to)
 }
 
-/// The measure of the file of that path.
+/// Measures the file of that path.
 fn measure_file<R: Files>(rt: &R, alloc: Global, path: &str, need: Need) -> io::Result<Measure>
     ensures { IfOk result (IsMeasure need) }
 {
@@ -144,7 +144,8 @@ fn fault_of(error: &io::Error) -> LoadFault
     }
 }
 
-/// The name below the folder, with `/` between them unless the folder's path is empty.
+/// Returns the path of the name below the folder, with `/` between them unless the folder's path is
+/// empty.
 pub fn path_below(alloc: Global, folder: &str, name: &str) -> Result<String, AllocError>
     ensures path { IfOk result (λ path. string_bytes path
         ≡ spec.path_below folder.now name.now) }
@@ -163,7 +164,7 @@ struct Found {
 }
 
 impl Found {
-    /// Adds what stands directly in one folder.
+    /// Adds the files and folders directly in one folder.
     fn read<R: Files + AllocGlobal + Clone + Drop>(
         &mut self,
         rt: &R,

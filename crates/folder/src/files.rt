@@ -14,13 +14,13 @@ use std::alloc::{AllocError, AllocFailed, Global};
 use std::collections::BTreeMap;
 use thiserror::Error;
 
-/// Why a folder was not read.
+/// Why a folder can't be read.
 #[derive(Clone, Copy, Debug, PartialEq, Eq, Error)]
 pub enum LoadFault {
     /// A call of the folder failed.
     #[error("the folder can't be read")]
     Folder,
-    /// Memory was refused.
+    /// Out of memory.
     #[error("out of memory")]
     NoMemory,
 }
@@ -43,16 +43,17 @@ impl<T: Drop> From<AllocFailed<T>> for LoadFault {
 
 /// Files by name. What may be listed and read is the folder's meaning, which no call changes.
 pub trait Folder {
-    /// Whether `names` may give the list.
+    /// Whether `names` may return the list.
     ghost lists: { Self → List (List ℕ) → Bool };
 
-    /// Whether `read` may give the bytes for the name.
+    /// Whether `read` may return the bytes for the name.
     ghost holds: { Self → List ℕ → List ℕ → Bool };
 
-    /// How many calls have failed, up to 2^64 - 1.
+    /// Number of failed calls, up to 2^64 - 1.
     ghost failures: { Self → ℕ };
 
-    /// The names of all files. A refusal as `Folder` is one of a call that failed.
+    /// Returns the names of all files. Fails with `Folder`, which counts as a failed call, or with
+    /// `NoMemory`.
     fn names(&mut self, alloc: Global) -> Result<Vec<String>, LoadFault>
         ensures given { IfOk result
             (λ names. lists self.old (map string_bytes names.items) ≡ true) }
@@ -62,7 +63,8 @@ pub trait Folder {
         ensures same_lists { lists self.new ≡ lists self.old }
         ensures same_bytes { holds self.new ≡ holds self.old };
 
-    /// The bytes of the file of that name. A refusal as `Folder` is one of a call that failed.
+    /// Reads the file of that name. Fails with `Folder`, which counts as a failed call, or with
+    /// `NoMemory`.
     fn read(&mut self, alloc: Global, name: &str) -> Result<Vec<u8>, LoadFault>
         ensures given { IfOk result (λ bytes. holds self.old name.now bytes.items ≡ true) }
         ensures failed { IfErr result
@@ -71,8 +73,8 @@ pub trait Folder {
         ensures same_lists { lists self.new ≡ lists self.old }
         ensures same_bytes { holds self.new ≡ holds self.old };
 
-    /// The first `up_to` bytes of the file of that name, or all where it has no more. A refusal as
-    /// `Folder` is one of a call that failed.
+    /// Reads the first `up_to` bytes of the file of that name, or all if it has no more. Fails with
+    /// `Folder`, which counts as a failed call, or with `NoMemory`.
     fn read_start(&mut self, alloc: Global, name: &str, up_to: u64) -> Result<Vec<u8>, LoadFault>
         ensures given { IfOk result
             (λ bytes. IsStartOf (holds self.old name.now) up_to bytes.items) }
@@ -87,8 +89,8 @@ pub trait Folder {
         Ok(bytes)
     }
 
-    /// What is wanted of the file of that name, which is read once. A refusal as `Folder` is one of
-    /// a call that failed.
+    /// Measures the file of that name, which is read once. Fails with `Folder`, which counts as a
+    /// failed call, or with `NoMemory`.
     fn measure(&mut self, alloc: Global, name: &str, need: Need) -> Result<Measure, LoadFault>
         ensures given { IfOk result (IsMeasureOf need (holds self.old name.now)) }
         ensures failed { IfErr result
@@ -101,15 +103,15 @@ pub trait Folder {
         Ok(Measure::of(need, bytes.as_slice()))
     }
 
-    /// The same measure, for a thread that shares the folder with others. It is none where a shared
-    /// folder can't be read or the call fails, and a failure isn't counted.
+    /// Measures the file in the same way for a thread that shares the folder with others. Returns
+    /// None if a shared folder can't be read or the call fails, and doesn't count a failure.
     fn measure_shared(&self, alloc: Global, name: &str, need: Need) -> Option<Measure>
         ensures given { IfSome result (IsMeasureOf need (holds self.now name.now)) }
     {
         None
     }
 
-    /// How many calls have failed, up to 2^64 - 1.
+    /// Returns the number of failed calls, up to 2^64 - 1.
     fn failure_count(&self) -> u64
         ensures count { result ≡ failures self.now };
 }
@@ -147,9 +149,9 @@ impl<F: Folder> Folder for &mut F {
     }
 }
 
-/// All files of a folder, by name: each name of one list that `names` may give, with bytes that
-/// `read` may give for it. The names come from the folder alone. `Folder` is answered only where a
-/// call of the folder failed.
+/// Reads all files of a folder, by name: each name of one list that `names` may return, with bytes
+/// that `read` may return for it. The names come from the folder alone. Fails with `Folder` only if
+/// a call of the folder failed, or with `NoMemory`.
 #[tactic(auto, using(crate::proofs::Loading::one_more))]
 pub fn load<F: Folder>(
     alloc: Global,
@@ -191,8 +193,8 @@ fn add_file<F: Folder>(
     Ok(())
 }
 
-/// The first `up_to` bytes of each file whose name ends so. Other files aren't opened. `Folder` is
-/// returned only where a call of the folder failed.
+/// Reads the first `up_to` bytes of each file whose name has this ending. Other files aren't
+/// opened. Fails with `Folder` only if a call of the folder failed, or with `NoMemory`.
 #[tactic(auto, using(crate::proofs::Starting::one_more_name))]
 pub fn load_starts<F: Folder>(
     alloc: Global,

@@ -9,27 +9,33 @@ use sha2::{Digest, Sha256, Sha512};
 use std::alloc::Global;
 use std::io::{self, ErrorKind, Read};
 
-/// How many bytes are read at once.
+/// Number of bytes that are read at once.
 const CHUNK: usize = 65_536;
 
-/// What is wanted of a file: how many bytes are read at most, and which digests.
+/// What is wanted of a file.
 #[derive(Clone, Copy, Debug, PartialEq, Eq)]
 pub struct Need {
+    /// Maximum number of bytes to read.
     pub up_to: u64,
+    /// Whether the SHA-256 digest is wanted.
     pub sha256: bool,
+    /// Whether the SHA-512 digest is wanted.
     pub sha512: bool,
 }
 
-/// How many bytes of a file were read, and the digests of them that were wanted.
+/// The length of the bytes that were read of a file, and the digests of them that were wanted.
 #[derive(Clone, Copy, Debug, PartialEq, Eq)]
 pub struct Measure {
+    /// Number of bytes that were read.
     pub length: u64,
+    /// The SHA-256 digest, if it was wanted.
     pub sha256: Option<[u8; 32]>,
+    /// The SHA-512 digest, if it was wanted.
     pub sha512: Option<[u8; 64]>,
 }
 
 impl Measure {
-    /// The measure of these bytes.
+    /// Measures these bytes.
     pub fn of(need: Need, bytes: &[u8]) -> Measure
         ensures measure { result ≡ measure_of need bytes.now }
     {
@@ -38,8 +44,8 @@ impl Measure {
         measuring.end()
     }
 
-    /// The measure of what the reader has left, which is read once, a chunk at a time. No byte
-    /// behind the first `up_to` is read.
+    /// Measures what the reader has left, which is read once, a chunk at a time. Reads no byte
+    /// after the first `up_to`.
     pub fn of_reader<R: Read>(alloc: Global, need: Need, reader: &mut R) -> io::Result<Measure>
         ensures some { IfOk result (IsMeasure need) }
         ensures known { IfOk result (λ m. IfSome (R.remaining reader.old)
@@ -52,7 +58,7 @@ impl Measure {
     }
 }
 
-/// The measure of what the reader has left, by pieces that fit in the room.
+/// Measures what the reader has left, by pieces that fit in `room`.
 fn measure_by<R: Read>(need: Need, reader: &mut R, room: &mut [u8]) -> io::Result<Measure>
     requires { 0 < length room.old }
     ensures some { IfOk result (IsMeasure need) }
@@ -80,7 +86,7 @@ pub struct Measuring {
 }
 
 impl Measuring {
-    /// Nothing is taken yet.
+    /// Returns a measure of nothing yet.
     pub fn new(need: Need) -> Measuring
         ensures nothing { HasTaken result [] }
         ensures need { result.need ≡ need }
@@ -108,7 +114,7 @@ impl Measuring {
         feed(&mut self.sha512, start);
     }
 
-    /// How many of so many bytes are still wanted.
+    /// Returns how many of `len` bytes are still wanted.
     fn most(&self, len: usize) -> usize
         ensures count { result ≡ min len (self.now.need.up_to - self.now.length) }
         ensures fits { self.now.length + result < 2 ^ 64 }
@@ -117,7 +123,7 @@ impl Measuring {
         left.min(len as u64) as usize
     }
 
-    /// Takes what the reader gives at once, and returns whether no more is wanted or left.
+    /// Takes one read of the reader, and returns whether no more is wanted or left.
     fn take_from<R: Read>(&mut self, reader: &mut R, room: &mut [u8]) -> io::Result<bool>
         requires { 0 < length room.old }
         ensures taken { OnOk result (TakesMore self.old self.new
@@ -144,7 +150,7 @@ impl Measuring {
         }
     }
 
-    /// The measure of what was taken.
+    /// Returns the measure of what was taken.
     pub fn end(self) -> Measure
         ensures measure { (bytes : List ℕ) → HasTaken self bytes
             → result ≡ measure_of self.need bytes }
@@ -157,7 +163,7 @@ impl Measuring {
     }
 }
 
-/// A hasher of no bytes, where it is wanted.
+/// Returns a hasher of no bytes, if it is wanted.
 fn hasher_if<D: Digest>(is_wanted: bool) -> Option<D>
     ensures wanted { is_some result ≡ is_wanted }
     ensures empty { IfSome result (λ h. D.holds h []) }
@@ -168,7 +174,7 @@ fn hasher_if<D: Digest>(is_wanted: bool) -> Option<D>
     Some(D::new())
 }
 
-/// Adds the piece to what the hasher holds, where there is one.
+/// Adds the piece to the hasher, if there is one.
 fn feed<D: Digest>(hasher: &mut Option<D>, piece: &[u8])
     ensures wanted { is_some hasher.new ≡ is_some hasher.old }
     ensures taken { (m : List ℕ) → IfSome hasher.old (λ h. D.holds h m)
@@ -179,7 +185,7 @@ fn feed<D: Digest>(hasher: &mut Option<D>, piece: &[u8])
     }
 }
 
-/// The digest of what the hasher holds, where there is one.
+/// Returns the digest of what was added to the hasher, if there is one.
 fn digest_if<D: Digest>(hasher: Option<D>) -> Option<D::Output>
     ensures wanted { is_some result ≡ is_some hasher }
     ensures digest { (m : List ℕ) → IfSome hasher (λ h. D.holds h m)

@@ -5,14 +5,14 @@ ghost use Rattle.std.specs.Prelude.{◌≡◌, ◌≤◌, length, take, IfOk, If
 use std::alloc::Global;
 use std::io::{self, Read};
 
-/// Cuts off the bytes behind the first `up_to`.
+/// Cuts off the bytes after the first `up_to`.
 pub(crate) fn cut(bytes: &mut Vec<u8>, up_to: u64)
     ensures start { bytes.new.items ≡ take up_to bytes.old.items }
 {
     bytes.truncate(up_to as usize);
 }
 
-/// The first `up_to` bytes of what the reader has left, or all where there are no more.
+/// Reads the first `up_to` bytes of what the reader has left, or all if there are no more.
 pub(crate) fn start_of_reader<R: Read>(
     alloc: Global,
     reader: &mut R,
@@ -24,7 +24,7 @@ pub(crate) fn start_of_reader<R: Read>(
 {
     let mut bytes = Vec::new(alloc);
     reader.take(up_to).read_to_end(&mut bytes)?;
-    // The library limits the count only where the bytes of the reader are known.
+    // The library's contract limits the count only if the bytes of the reader are known.
     cut(&mut bytes, up_to);
     Ok(bytes)
 }

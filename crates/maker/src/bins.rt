@@ -2,8 +2,8 @@
 
 use std::alloc::{AllocError, Global};
 
-/// Bins that a `succinct` line has made: so many bits of a digest tell one, and their names begin
-/// with the prefix.
+/// Bins that a `succinct` line has made. The first `bits` bits of a digest determine the bin, and
+/// the bins' names begin with the prefix.
 #[derive(Drop)]
 pub struct Bins {
     bits: u32,
@@ -11,13 +11,14 @@ pub struct Bins {
 }
 
 impl Bins {
+    /// Returns the bins with this prefix. Fails only if out of memory.
     pub fn new(alloc: Global, bits: u32, prefix: &str) -> Result<Bins, AllocError> {
         let prefix = String::from_str(alloc, prefix)?;
         Ok(Bins { bits, prefix })
     }
 
-    /// Whether this is the name of one of the bins: the prefix, `-`, and its number in lower-case
-    /// hexadecimal, with as many digits as the greatest one has.
+    /// Returns whether this is the name of one of the bins: the prefix, `-`, and its number in
+    /// lower-case hexadecimal, with as many digits as the greatest one has.
     pub fn has(&self, name: &str) -> bool {
         let Some((prefix, digits)) = name.rsplit_once('-') else {
             return false;

@@ -1,6 +1,6 @@
-//! The maker of test repositories, good and hostile ones.
+//! The maker of test repositories, valid and hostile ones.
 //!
-//! - [`make`] follows a script that makes a repository.
+//! - [`make`] makes a repository from a script.
 #![tactic(auto)]
 
 mod bins;

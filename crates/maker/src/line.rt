@@ -4,10 +4,12 @@ use crate::refusal::Refusal;
 use crate::words::Words;
 use std::alloc::Global;
 
-/// The keys of a role, by their bytes, and how many of them must sign.
+/// The key bytes of a role, and how many of the keys must sign.
 #[derive(Drop)]
 pub struct Quorum {
+    /// How many of the keys must sign.
     pub threshold: u64,
+    /// The key bytes.
     pub keys: Vec<u8>,
 }
 
@@ -22,20 +24,28 @@ pub enum Digests {
 /// `target ROLE PATH HEX HASHES`, which makes and lists a target.
 #[derive(Drop)]
 pub struct TargetLine<'a> {
+    /// The role that lists the target.
     pub role: &'a str,
+    /// The target's path.
     pub path: &'a str,
+    /// The target's bytes.
     pub bytes: Vec<u8>,
+    /// The digests that are listed.
     pub digests: Digests,
 }
 
 /// `delegate FROM TO T KEYS END KIND LIST`, which adds a delegation.
 #[derive(Drop)]
 pub struct DelegateLine<'a> {
+    /// The role that delegates.
     pub from: &'a str,
+    /// The role that is delegated to.
     pub to: &'a str,
+    /// The keys of the role that is delegated to.
     pub quorum: Quorum,
+    /// Whether the delegation is terminating.
     pub terminating: bool,
-    /// Whether the list has patterns of paths, and not prefixes of their digests.
+    /// Whether the list contains patterns of paths, and not prefixes of their digests.
     pub by_paths: bool,
     /// Patterns or prefixes, joined by `,`.
     pub list: &'a str,
@@ -44,20 +54,28 @@ pub struct DelegateLine<'a> {
 /// `succinct FROM T KEYS BITS PREFIX`, which delegates to hash bins.
 #[derive(Drop)]
 pub struct SuccinctLine<'a> {
+    /// The role that delegates.
     pub from: &'a str,
+    /// The keys of the bins.
     pub quorum: Quorum,
+    /// Number of bits of a digest that determine the bin, 1 to 32.
     pub bits: u32,
+    /// The prefix of the bins' names.
     pub prefix: &'a str,
 }
 
 /// `write ROLE VERSION KEYS`, which makes a metadata file.
 #[derive(Drop)]
 pub struct WriteLine<'a> {
+    /// The role whose file is made.
     pub role: &'a str,
+    /// The version of the file.
     pub version: u64,
+    /// The key bytes of the keys that sign.
     pub keys: Vec<u8>,
 }
 
+/// Reads `T KEYS`.
 pub fn read_quorum(alloc: Global, words: &mut Words<'_>) -> Result<Quorum, Refusal> {
     Ok(Quorum {
         threshold: words.whole()?,
@@ -65,6 +83,7 @@ pub fn read_quorum(alloc: Global, words: &mut Words<'_>) -> Result<Quorum, Refus
     })
 }
 
+/// Reads the rest of a `target` line.
 pub fn read_target<'a>(alloc: Global, words: &mut Words<'a>) -> Result<TargetLine<'a>, Refusal> {
     Ok(TargetLine {
         role: words.word()?,
@@ -83,6 +102,7 @@ fn read_digests(words: &mut Words<'_>) -> Result<Digests, Refusal> {
     }
 }
 
+/// Reads the rest of a `delegate` line.
 pub fn read_delegate<'a>(
     alloc: Global,
     words: &mut Words<'a>,
@@ -97,6 +117,7 @@ pub fn read_delegate<'a>(
     })
 }
 
+/// Reads the rest of a `succinct` line.
 pub fn read_succinct<'a>(
     alloc: Global,
     words: &mut Words<'a>,
@@ -109,6 +130,7 @@ pub fn read_succinct<'a>(
     })
 }
 
+/// Reads the rest of a `write` line.
 pub fn read_write<'a>(alloc: Global, words: &mut Words<'a>) -> Result<WriteLine<'a>, Refusal> {
     Ok(WriteLine {
         role: words.word()?,

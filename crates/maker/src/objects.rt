@@ -19,7 +19,7 @@ pub fn put(
     Ok(())
 }
 
-/// A key object (TUF 1.0 section 4.2).
+/// Returns a key object (TUF 1.0 section 4.2).
 pub fn key_object(alloc: Global, public: &Public) -> Result<Value, AllocError> {
     let public = hex::encode(alloc, public.bytes().as_slice())?;
     json!(in alloc; {
@@ -29,12 +29,12 @@ pub fn key_object(alloc: Global, public: &Public) -> Result<Value, AllocError> {
     })
 }
 
-/// What a role says of its keys (TUF 1.0 section 4.3).
+/// Returns the key ids and the threshold of a role (TUF 1.0 section 4.3).
 pub fn quorum_object(alloc: Global, ids: Vec<Value>, threshold: u64) -> Result<Value, AllocError> {
     json!(in alloc; { "keyids": ids, "threshold": threshold })
 }
 
-/// The digests of a file, in lower-case hexadecimal.
+/// Returns the digests of a file, in lower-case hexadecimal.
 pub fn hashes_object(alloc: Global, bytes: &[u8], digests: Digests) -> Result<Value, AllocError> {
     let mut hashes = Map::new(alloc);
     if digests != Digests::Sha512 {
@@ -58,21 +58,21 @@ pub fn hashes_object(alloc: Global, bytes: &[u8], digests: Digests) -> Result<Va
     Ok(Value::Object(hashes))
 }
 
-/// How a metadata file is listed (TUF 1.0 sections 4.4 and 4.6).
+/// Returns the listing of a metadata file (TUF 1.0 sections 4.4 and 4.6).
 pub fn listing_object(alloc: Global, bytes: &[u8], version: u64) -> Result<Value, AllocError> {
     let hashes = hashes_object(alloc, bytes, Digests::Sha256)?;
     let length = bytes.len();
     json!(in alloc; { "hashes": hashes, "length": length, "version": version })
 }
 
-/// How a target is listed (TUF 1.0 section 4.5).
+/// Returns the listing of a target (TUF 1.0 section 4.5).
 pub fn target_object(alloc: Global, bytes: &[u8], digests: Digests) -> Result<Value, AllocError> {
     let hashes = hashes_object(alloc, bytes, digests)?;
     let length = bytes.len();
     json!(in alloc; { "hashes": hashes, "length": length })
 }
 
-/// The texts that commas join, as a list.
+/// Splits the text at commas, into a list.
 pub fn list_object(alloc: Global, list: &str) -> Result<Value, AllocError> {
     let mut items = Vec::new(alloc);
     for item in list.split(',') {
@@ -81,7 +81,7 @@ pub fn list_object(alloc: Global, list: &str) -> Result<Value, AllocError> {
     Ok(Value::Array(items))
 }
 
-/// An entry of `delegations.roles` (TUF 1.0 section 4.5).
+/// Returns an entry of `delegations.roles` (TUF 1.0 section 4.5).
 pub fn delegation_object(
     alloc: Global,
     line: &DelegateLine<'_>,
@@ -102,7 +102,7 @@ pub fn delegation_object(
     })
 }
 
-/// The member `succinct_roles`.
+/// Returns the member `succinct_roles`.
 pub fn succinct_object(
     alloc: Global,
     line: &SuccinctLine<'_>,
@@ -116,8 +116,8 @@ pub fn succinct_object(
     })
 }
 
-/// The file of a target: under consistent snapshots its name has the SHA-256 digest, or the SHA-512
-/// digest where that alone is listed.
+/// Returns the name of a target's file: under consistent snapshots it includes the SHA-256 digest,
+/// or the SHA-512 digest if that alone is listed.
 pub fn target_name(
     alloc: Global,
     consistent: bool,

@@ -7,19 +7,19 @@ use seals::MakeFault;
 use std::alloc::AllocError;
 use thiserror::Error;
 
-/// Why a line of a script isn't followed.
+/// Why a line of a script is refused.
 #[derive(Debug, Drop, Error)]
 pub enum Refusal {
-    /// The line can't be followed.
+    /// The line is invalid.
     #[error("the line can't be followed")]
     Line,
-    /// Memory was refused.
+    /// Out of memory.
     #[error("out of memory")]
     Memory(#[from(alloc)] AllocError),
 }
 
 impl Refusal {
-    /// What the maker says of it at a line, counted from 1.
+    /// Returns the fault of the script at a line, counted from 1.
     pub fn at(self, line: usize) -> MakeFault
         ensures not_used { result ≢ MakeFault.Used }
     {

@@ -1,4 +1,4 @@
-//! What the lines of a script make.
+//! The repository that a script makes.
 
 use crate::bins::Bins;
 use crate::line::{
@@ -22,7 +22,7 @@ use std::collections::BTreeMap;
 /// The version of the standard that files name.
 const SPEC_VERSION: &str = "1.0.0";
 
-/// What the file of `targets` or of a delegated role will say.
+/// The contents of the next file of `targets` or of a delegated role.
 #[derive(Drop)]
 struct Role {
     targets: Map<String, Value>,
@@ -42,7 +42,7 @@ impl Role {
         }
     }
 
-    /// The member `delegations`, where there are any.
+    /// Returns the member `delegations`, if there are any.
     fn delegations(&self, alloc: Global) -> Result<Option<Value>, AllocError> {
         let keys = Value::Object(self.keys.clone()?);
         if let Some(succinct) = &self.succinct {
@@ -56,7 +56,7 @@ impl Role {
     }
 }
 
-/// What a script has made so far.
+/// The repository so far.
 #[derive(Drop)]
 pub struct Repository {
     alloc: Global,
@@ -65,17 +65,18 @@ pub struct Repository {
     expires: String,
     /// The top-level roles that have their `top` line.
     tops: BTreeMap<String, Quorum>,
-    /// `targets` and the delegated roles. A bin stands here from the first line that names it.
+    /// `targets` and the delegated roles. A bin is here from the first line that names it.
     roles: BTreeMap<String, Role>,
     bins: Vec<Bins>,
-    /// What the next snapshot lists.
+    /// The files that the next snapshot lists.
     listed: Map<String, Value>,
-    /// How the next timestamp lists the snapshot.
+    /// The listing of the snapshot for the next timestamp.
     snapshot: Option<Value>,
     files: BTreeMap<String, Vec<u8>>,
 }
 
 impl Repository {
+    /// Returns an empty repository, whose files expire in 2030. Fails only if out of memory.
     pub fn new(alloc: Global) -> Result<Repository, AllocError> {
         let expires = String::from_str(alloc, "2030-01-01T00:00:00Z")?;
         Ok(Repository {
@@ -118,7 +119,7 @@ impl Repository {
         Ok(())
     }
 
-    /// The files, in the order of their names.
+    /// Returns the files, in the order of their names.
     pub fn into_files(self) -> Result<Vec<(String, Vec<u8>)>, AllocError> {
         self.files.into_iter().collect(self.alloc)
     }
@@ -136,7 +137,7 @@ impl Repository {
         Ok(())
     }
 
-    /// Makes a role whose file lists nothing, where there is none yet.
+    /// Makes a role whose file lists nothing, if there is none yet.
     fn make_role(&mut self, name: &str) -> Result<(), Refusal> {
         if self.roles.contains_key(name) {
             return Ok(());
@@ -163,12 +164,13 @@ impl Repository {
         Ok(())
     }
 
-    /// Whether a `top`, `delegate` or `succinct` line has made the role.
+    /// Returns whether a `top`, `delegate` or `succinct` line has made the role.
     fn is_made(&self, name: &str) -> bool {
         self.tops.contains_key(name) || self.is_listing(name)
     }
 
-    /// Whether the role can list targets: a delegated role, or `targets` after its `top` line.
+    /// Returns whether the role can list targets: a delegated role, or `targets` after its `top`
+    /// line.
     fn is_listing(&self, name: &str) -> bool {
         if name == "targets" {
             return self.tops.contains_key(name);
@@ -176,7 +178,7 @@ impl Repository {
         self.roles.contains_key(name) || self.bins.iter().any(|bins| bins.has(name))
     }
 
-    /// The role, if it can list targets.
+    /// Returns the role, if it can list targets.
     fn listing_role(&mut self, name: &str) -> Result<&mut Role, Refusal> {
         if !self.is_listing(name) {
             return Err(Refusal::Line);
@@ -227,7 +229,8 @@ impl Repository {
         Ok(())
     }
 
-    /// The role, if it can list targets, with the keys among those that its delegations name.
+    /// Returns the role, if it can list targets, after adding the keys to those that its
+    /// delegations name.
     fn delegating_role(&mut self, name: &str, quorum: &Quorum) -> Result<&mut Role, Refusal> {
         let alloc = self.alloc;
         let mut keys = Map::new(alloc);
@@ -248,7 +251,7 @@ impl Repository {
         Ok(())
     }
 
-    /// What the role's file says, where the role is there.
+    /// Returns the contents of the role's file, if the role is there.
     fn object_of(&mut self, line: &WriteLine<'_>) -> Result<Value, Refusal> {
         match line.role {
             "root" if self.tops.len() < 4 => Err(Refusal::Line),
@@ -263,7 +266,7 @@ impl Repository {
         }
     }
 
-    /// The name of the role's file, which the next timestamp or snapshot lists.
+    /// Returns the name of the role's file, which the next timestamp or snapshot lists.
     fn listed_name(&mut self, line: &WriteLine<'_>, bytes: &[u8]) -> Result<String, Refusal> {
         let alloc = self.alloc;
         let name = names::role_name(alloc, line.role)?;
@@ -279,7 +282,7 @@ impl Repository {
         Ok(names::version_name(alloc, self.consistent, line.version, name.as_str())?)
     }
 
-    /// What a root file says (TUF 1.0 section 4.3).
+    /// Returns the contents of a root file (TUF 1.0 section 4.3).
     fn root_object(&self, version: u64) -> Result<Value, Refusal> {
         let keys = Value::Object(self.root_keys()?);
         let roles = Value::Object(self.root_roles()?);
@@ -294,7 +297,7 @@ impl Repository {
         })?)
     }
 
-    /// The keys of the top-level roles.
+    /// Returns the keys of the top-level roles.
     fn root_keys(&self) -> Result<Map<String, Value>, Refusal> {
         let mut keys = Map::new(self.alloc);
         for quorum in self.tops.values() {
@@ -303,7 +306,7 @@ impl Repository {
         Ok(keys)
     }
 
-    /// The top-level roles.
+    /// Returns the top-level roles.
     fn root_roles(&self) -> Result<Map<String, Value>, Refusal> {
         let mut roles = Map::new(self.alloc);
         for (name, quorum) in self.tops.iter() {
@@ -314,7 +317,7 @@ impl Repository {
         Ok(roles)
     }
 
-    /// What a timestamp file says (TUF 1.0 section 4.6).
+    /// Returns the contents of a timestamp file (TUF 1.0 section 4.6).
     fn timestamp_object(&self, version: u64) -> Result<Value, Refusal> {
         let snapshot = self.snapshot.as_ref().ok_or(Refusal::Line)?;
         Ok(json!(in self.alloc; {
@@ -326,7 +329,7 @@ impl Repository {
         })?)
     }
 
-    /// What a snapshot file says (TUF 1.0 section 4.4).
+    /// Returns the contents of a snapshot file (TUF 1.0 section 4.4).
     fn snapshot_object(&self, version: u64) -> Result<Value, Refusal> {
         let listed = Value::Object(self.listed.clone()?);
         Ok(json!(in self.alloc; {
@@ -338,7 +341,7 @@ impl Repository {
         })?)
     }
 
-    /// What the file of `targets` or of a delegated role says (TUF 1.0 section 4.5).
+    /// Returns the contents of the file of `targets` or of a delegated role (TUF 1.0 section 4.5).
     fn role_object(&self, name: &str, version: u64) -> Result<Value, Refusal> {
         let role = self.roles.get(name).ok_or(Refusal::Line)?;
         let targets = Value::Object(role.targets.clone()?);
@@ -358,7 +361,7 @@ impl Repository {
         Ok(object)
     }
 
-    /// The file that says this, which is an object, signed by the keys.
+    /// Returns the file with these contents, an object, signed by the keys.
     fn seal_file(&mut self, signed: Value, keys: &[u8]) -> Result<Vec<u8>, Refusal> {
         if !signed.is_object() {
             return Err(Refusal::Line);

@@ -10,7 +10,7 @@ use seals::{Signer, secret_of};
 use serde_json::{Map, Value};
 use std::alloc::Global;
 
-/// The key of a key byte under its id, which is that of the key object (TUF 1.0 section 4.2).
+/// Returns the key of a key byte, under the id of its key object (TUF 1.0 section 4.2).
 pub fn new_signer(
     alloc: Global,
     byte: u8,
@@ -23,12 +23,12 @@ pub fn new_signer(
     Ok(Signer { id, secret })
 }
 
-/// Whether it is the key of the key byte, whose identifier is 16 times the byte.
+/// Returns whether it is the key of the key byte, whose identifier is 16 times the byte.
 fn is_of_byte(signer: &Signer, byte: u8) -> bool {
     signer.secret.public().bytes()[8] == byte
 }
 
-/// The place of the key of the byte.
+/// Returns the place of the key of the byte.
 pub fn place_of(signers: &[Signer], byte: u8) -> Result<usize, Refusal>
     ensures place { IfOk result (λ p. p < length signers.now) }
 {
@@ -36,7 +36,7 @@ pub fn place_of(signers: &[Signer], byte: u8) -> Result<usize, Refusal>
     place.ok_or(Refusal::Line)
 }
 
-/// The places of the keys of the bytes, in order.
+/// Returns the places of the keys of the bytes, in order.
 pub fn places_of(alloc: Global, signers: &[Signer], keys: &[u8]) -> Result<Vec<usize>, Refusal>
     ensures places { IfOk result (λ by. All (λ p. p < length signers.now) by.items) }
 {
@@ -47,7 +47,7 @@ pub fn places_of(alloc: Global, signers: &[Signer], keys: &[u8]) -> Result<Vec<u
     Ok(places)
 }
 
-/// The ids of the keys of the bytes, in order.
+/// Returns the ids of the keys of the bytes, in order.
 pub fn ids_of(alloc: Global, signers: &[Signer], keys: &[u8]) -> Result<Vec<Value>, Refusal> {
     let mut ids = Vec::new(alloc);
     for byte in keys {

@@ -7,12 +7,12 @@ use crate::repository::Repository;
 use seals::MakeFault;
 use std::alloc::Global;
 
-/// The files of the repository that a script makes, in the order of their names, which begin with
-/// `metadata/` or `targets/`. docs/SCRIPTS.md has the language.
+/// Returns the files of the repository that a script makes, in the order of their names, which
+/// begin with `metadata/` or `targets/`. docs/SCRIPTS.md describes the language.
 ///
-/// `Script` is answered with the number of the first line that can't be followed, counted from 1; a
-/// key that has no leaf left for a `write` line makes this one such a line. `Used` is never
-/// answered.
+/// Fails with `Script` and the number of the first invalid line, counted from 1, or with
+/// `NoMemory`. A `write` line is invalid if one of its keys has no leaf left, so this never fails
+/// with `Used`.
 pub fn make(alloc: Global, script: &str) -> Result<Vec<(String, Vec<u8>)>, MakeFault>
     ensures not_used { result ≢ Err MakeFault.Used }
 {

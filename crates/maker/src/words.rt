@@ -7,21 +7,22 @@ use std::alloc::{AllocError, Global};
 /// The greatest threshold and version of metadata.
 const MOST: u64 = 9_223_372_036_854_775_807;
 
-/// What stands for no keys and for no bytes.
+/// The word for no keys and for no bytes.
 const NONE: &str = "-";
 
-/// The words of a line that are left, one space between two. No word is empty.
+/// The words of a line that are left, with one space between two. No word is empty.
 #[derive(Drop)]
 pub struct Words<'a> {
     rest: Option<&'a str>,
 }
 
 impl<'a> Words<'a> {
+    /// Returns the words of the line.
     pub fn of(line: &'a str) -> Words<'a> {
         Words { rest: Some(line) }
     }
 
-    /// The next word, or a refusal where there is none or it is empty.
+    /// Reads the next word, which must be there and not empty.
     pub fn word(&mut self) -> Result<&'a str, Refusal> {
         let rest = self.rest.ok_or(Refusal::Line)?;
         let (word, rest) = match rest.split_once(' ') {
@@ -35,7 +36,7 @@ impl<'a> Words<'a> {
         Ok(word)
     }
 
-    /// A refusal where a word is left.
+    /// Fails if a word is left.
     pub fn end(&self) -> Result<(), Refusal> {
         match self.rest {
             Some(_) => Err(Refusal::Line),
@@ -43,7 +44,7 @@ impl<'a> Words<'a> {
         }
     }
 
-    /// A threshold or a version: 1 to 9223372036854775807 in decimal digits.
+    /// Reads a threshold or a version: 1 to 9223372036854775807 in decimal digits.
     pub fn whole(&mut self) -> Result<u64, Refusal> {
         match decimal(self.word()?) {
             Some(number) if 1 <= number && number <= MOST => Ok(number),
@@ -51,12 +52,12 @@ impl<'a> Words<'a> {
         }
     }
 
-    /// A key byte: 0 to 255 in decimal digits.
+    /// Reads a key byte: 0 to 255 in decimal digits.
     pub fn key_byte(&mut self) -> Result<u8, Refusal> {
         byte(self.word()?)
     }
 
-    /// The height of a key: 5, 10 or 15.
+    /// Reads the height of a key: 5, 10 or 15.
     pub fn height(&mut self) -> Result<Height, Refusal> {
         match self.word()? {
             "5" => Ok(Height::H5),
@@ -66,7 +67,8 @@ impl<'a> Words<'a> {
         }
     }
 
-    /// The width of a key's digits, which may be the last word: 4 or 8, and 8 where there is none.
+    /// Reads the width of a key's digits, which may be the last word: 4 or 8, and 8 if there is
+    /// none.
     pub fn width(&mut self) -> Result<Width, Refusal> {
         if self.rest.is_none() {
             return Ok(Width::W8);
@@ -78,7 +80,7 @@ impl<'a> Words<'a> {
         }
     }
 
-    /// How many bits of a digest tell a bin: 1 to 32 in decimal digits.
+    /// Reads the number of bits of a digest that determine a bin: 1 to 32 in decimal digits.
     pub fn bits(&mut self) -> Result<u32, Refusal> {
         match decimal(self.word()?) {
             Some(number) if 1 <= number && number <= 32 => Ok(number as u32),
@@ -86,7 +88,7 @@ impl<'a> Words<'a> {
         }
     }
 
-    /// Key bytes joined by `,`, or `-` for none.
+    /// Reads key bytes joined by `,`, or `-` for none.
     pub fn keys(&mut self, alloc: Global) -> Result<Vec<u8>, Refusal> {
         let word = self.word()?;
         let mut keys = Vec::new(alloc);
@@ -99,7 +101,7 @@ impl<'a> Words<'a> {
         Ok(keys)
     }
 
-    /// The bytes of a word in hexadecimal, in either case, or `-` for none.
+    /// Reads the bytes of a word in hexadecimal, in either case, or `-` for none.
     pub fn bytes(&mut self, alloc: Global) -> Result<Vec<u8>, Refusal> {
         let word = self.word()?;
         if word == NONE {
@@ -112,7 +114,7 @@ impl<'a> Words<'a> {
         }
     }
 
-    /// `true` at the word `yes`, `false` at the word `no`.
+    /// Returns true for the word `yes`, false for the word `no`.
     pub fn choice(&mut self, yes: &str, no: &str) -> Result<bool, Refusal> {
         match self.word()? {
             word if word == yes => Ok(true),
@@ -121,7 +123,7 @@ impl<'a> Words<'a> {
         }
     }
 
-    /// A role's name, which has no `/`.
+    /// Reads a role's name, which has no `/`.
     pub fn role(&mut self) -> Result<&'a str, Refusal> {
         let word = self.word()?;
         if word.contains('/') {
@@ -130,7 +132,7 @@ impl<'a> Words<'a> {
         Ok(word)
     }
 
-    /// A target's path, none of whose parts is empty, `.` or `..`.
+    /// Reads a target's path, none of whose parts is empty, `.` or `..`.
     pub fn path(&mut self) -> Result<&'a str, Refusal> {
         let word = self.word()?;
         if word.split('/').all(is_part) {
@@ -141,12 +143,12 @@ impl<'a> Words<'a> {
     }
 }
 
-/// Whether a path may have the part.
+/// Returns whether a path may have the part.
 fn is_part(part: &str) -> bool {
     !matches!(part, "" | "." | "..")
 }
 
-/// The number that decimal digits write.
+/// Returns the number that decimal digits encode.
 fn decimal(word: &str) -> Option<u64> {
     if word.bytes().all(|digit| digit.is_ascii_digit()) {
         word.parse().ok()

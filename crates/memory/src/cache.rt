@@ -169,7 +169,7 @@ impl Cache {
     }
 }
 
-/// The SHA-256 of the name's length, the name and the message.
+/// Returns the SHA-256 of the name's length, the name and the message.
 fn digest_of_parts(name: &str, message: &[u8]) -> [u8; 32] {
     let mut hasher = Sha256::new();
     hasher.update(&(name.len() as u64).to_be_bytes());

@@ -7,7 +7,7 @@ use std::alloc::Global;
 use std::fs;
 use std::rt::Files;
 
-/// The layers of the cycle, and the files that rows leave for later ones.
+/// The commands of the cycle, and the files that rows leave for later ones.
 #[derive(Clone, Copy, Drop)]
 pub struct Layers<'a, R> {
     rt: &'a R,
@@ -15,18 +15,18 @@ pub struct Layers<'a, R> {
 }
 
 impl<'a, R: Files + AllocGlobal + Clone + Drop> Layers<'a, R> {
-    /// The layers over a place of files.
+    /// Returns the commands over a place of files.
     pub fn new(rt: &'a R, alloc: Global) -> Layers<'a, R> {
         Layers { rt, alloc }
     }
 
-    /// The bytes of a file.
+    /// Returns the bytes of a file.
     pub(crate) fn bytes(&self, name: &str) -> Result<Vec<u8>> {
         Ok(fs::read(self.rt, name)?)
     }
 
-    /// What a step prints of states, searches and lines, or nothing where it has another command.
-    /// An error says why the step can't be done.
+    /// Returns what a step prints of states, searches and lines, or None if it has another command.
+    /// An error is why the step can't be run.
     pub fn printed(&self, step: &Step) -> Result<Option<String>> {
         let printed = match step.name()? {
             "trust" => states::trust(self, step),
@@ -41,7 +41,7 @@ impl<'a, R: Files + AllocGlobal + Clone + Drop> Layers<'a, R> {
     }
 }
 
-/// What a step prints of patterns, and of names of bins and files.
+/// Returns what a step prints of patterns, and of names of bins and files.
 fn of_names(alloc: Global, step: &Step) -> Result<Option<String>> {
     let printed = match step.name()? {
         "matches" => names::pattern(alloc, step),

@@ -11,17 +11,17 @@ use serde_json::json;
 use sessions::Step;
 use std::alloc::Global;
 
-/// Whether a pattern matches a path.
+/// Returns whether a pattern matches a path.
 pub fn pattern(alloc: Global, step: &Step) -> Result<String> {
     told(alloc, matches(step.word(0)?, step.word(1)?))
 }
 
-/// Whether a prefix of hexadecimal digits is that of a path's digest.
+/// Returns whether a path's digest begins with a prefix of hexadecimal digits.
 pub fn prefix(alloc: Global, step: &Step) -> Result<String> {
     told(alloc, prefix_matches(step.word(0)?, step.word(1)?))
 }
 
-/// The name of the path's bin, where so many bits of a digest tell one.
+/// Returns the name of the path's bin, for a number of bits.
 pub fn bin(alloc: Global, step: &Step) -> Result<String> {
     let bins = bins(alloc, step.word(0)?.parse::<u64>()?, step.word(1)?)?;
     line(alloc, bin_name(alloc, &bins, step.word(2)?)?)
@@ -41,22 +41,22 @@ fn line(alloc: Global, name: String) -> Result<String> {
     Ok(format!(in alloc; "{name}\n")?)
 }
 
-/// The name of the root of a version.
+/// Returns the name of the root of a version.
 pub fn root(alloc: Global, step: &Step) -> Result<String> {
     line(alloc, root_name(alloc, step.word(0)?.parse::<u64>()?)?)
 }
 
-/// The name under which a role is listed.
+/// Returns the name under which a role is listed.
 pub fn role(alloc: Global, step: &Step) -> Result<String> {
     line(alloc, role_name(alloc, step.word(0)?)?)
 }
 
-/// The path of a name below a folder.
+/// Returns the path of a name below a folder.
 pub fn below(alloc: Global, step: &Step) -> Result<String> {
     line(alloc, path_below(alloc, step.word(0)?, step.word(1)?)?)
 }
 
-/// The name of a file of a version, under consistent snapshots or not.
+/// Returns the name of a file of a version, under consistent snapshots or not.
 pub fn versioned_name(alloc: Global, step: &Step) -> Result<String> {
     let is_consistent = step.word(0)? == "consistent";
     let version = step.word(1)?.parse::<u64>()?;
@@ -66,14 +66,14 @@ pub fn versioned_name(alloc: Global, step: &Step) -> Result<String> {
     )
 }
 
-/// The name of a target's file by the bytes of a digest.
+/// Returns the name of a target's file by the bytes of a digest.
 pub fn hashed_name(alloc: Global, step: &Step) -> Result<String> {
     let digest = hex::decode(alloc, step.word(0)?)?;
     line(alloc, digest_name(alloc, digest.as_slice(), step.word(1)?)?)
 }
 
-/// Whether so many stars match as many characters, then with another character behind the stars,
-/// and then with it behind both.
+/// Returns whether that many stars match that many characters, then with another character after
+/// the stars, and then with it after both.
 pub fn stars(alloc: Global, step: &Step) -> Result<String> {
     let count = step.word(0)?.parse::<u32>()?;
     let mut pattern = repeated(alloc, '*', count)?;

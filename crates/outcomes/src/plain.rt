@@ -1,14 +1,14 @@
-//! How truths are printed.
+//! The printed form of truths.
 
 use anyhow::Result;
 use std::alloc::Global;
 
-/// The word for a truth.
+/// Returns the word for a truth.
 pub fn yes_or_no(is_so: bool) -> &'static str {
     if is_so { "yes" } else { "no" }
 }
 
-/// The line of a truth.
+/// Returns the line of a truth.
 pub fn told(alloc: Global, is_so: bool) -> Result<String> {
     let word = yes_or_no(is_so);
     Ok(format!(in alloc; "{word}\n")?)

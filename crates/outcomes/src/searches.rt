@@ -56,7 +56,7 @@ impl Signer {
         Ok(Signer { id, key, secret })
     }
 
-    /// A signed targets file of version 1 that lists the path.
+    /// Returns a signed targets file of version 1 that lists the path.
     fn file(&mut self, alloc: Global, path: &str) -> Result<String> {
         let signed = format!(in alloc;
             "{{\"_type\":\"targets\",\"expires\":\"2030-01-01T00:00:00Z\",\
@@ -123,7 +123,7 @@ impl Parts {
         }
     }
 
-    /// The top-level role delegates `x/*` to the role.
+    /// Delegates `x/*` from the top-level role to the role.
     fn delegate(&mut self, role: &str, key: &str, terminating: bool) -> Result<()> {
         if !self.roles.is_empty() {
             self.roles.push(',')?;
@@ -137,7 +137,7 @@ impl Parts {
         Ok(())
     }
 
-    /// The role's file is there, signed by the key, and lists the path.
+    /// Adds the role's file, signed by the key, which lists the path.
     fn add(&mut self, alloc: Global, role: &str, key: &str, path: &str) -> Result<()> {
         let file = self.signer(key)?.file(alloc, path)?;
         let name = format!(in alloc; "{role}.json")?;
@@ -145,7 +145,7 @@ impl Parts {
         Ok(())
     }
 
-    /// A top-level targets file of version 1 with the delegations, which lists `y`.
+    /// Returns a top-level targets file of version 1 with the delegations, which lists `y`.
     fn top(&self, alloc: Global) -> Result<String> {
         let (one, two) = (self.one.id.as_str(), self.two.id.as_str());
         let (one_key, two_key) = (self.one.key.as_str(), self.two.key.as_str());
@@ -159,7 +159,7 @@ impl Parts {
     }
 }
 
-/// The trusted state with that top-level targets file.
+/// Returns the trusted state with that top-level targets file.
 fn state(alloc: Global, targets: &str) -> Result<Trusted> {
     let root = hex::encode(alloc, ROOT.as_bytes())?;
     let snapshot = hex::encode(alloc, SNAPSHOT.as_bytes())?;
@@ -172,7 +172,8 @@ fn state(alloc: Global, targets: &str) -> Result<Trusted> {
     Ok(Trusted::from_text(alloc, text.as_bytes())?)
 }
 
-/// What a search tells for a path with a limit, in the repository of the lines.
+/// Searches for a path with a limit, in the repository of the lines, and returns the lines of the
+/// result.
 pub fn told(alloc: Global, step: &Step) -> Result<String> {
     let parts = parts_of(alloc, step.script.as_slice())?;
     let trusted = state(alloc, parts.top(alloc)?.as_str())?;
@@ -181,7 +182,7 @@ pub fn told(alloc: Global, step: &Step) -> Result<String> {
     lines_of(alloc, &searched)
 }
 
-/// The repository of the lines.
+/// Makes the repository of the lines.
 fn parts_of(alloc: Global, lines: &[String]) -> Result<Parts> {
     let mut parts = Parts::new(alloc)?;
     for line in lines {
@@ -205,7 +206,7 @@ fn searched(
     Ok(search(alloc, trusted, repo, now, path, limit, &mut Direct)?)
 }
 
-/// The accepted roles with their versions, and what was found.
+/// Returns the accepted roles with their versions, and the finding.
 fn lines_of(alloc: Global, searched: &Searched) -> Result<String> {
     let mut text = String::new(alloc);
     for accepted in searched.accepted.as_slice() {

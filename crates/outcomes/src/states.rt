@@ -9,7 +9,7 @@ use sessions::Step;
 use std::alloc::Global;
 use std::rt::Files;
 
-/// The state that a root makes, whether the root has the file's bytes, and the state's text.
+/// Returns the state of a root, whether the root has the file's bytes, and the state's text.
 pub fn trust<R: Files + AllocGlobal + Clone + Drop>(
     layers: &Layers<'_, R>,
     step: &Step,
@@ -30,7 +30,7 @@ fn begun(alloc: Global, trusted: &Trusted, root: &[u8]) -> Result<String> {
     Ok(text)
 }
 
-/// The state whose text has the members, each given as `NAME=FILE`.
+/// Returns the state whose text has the members, each given as `NAME=FILE`.
 pub fn state<R: Files + AllocGlobal + Clone + Drop>(
     layers: &Layers<'_, R>,
     step: &Step,
@@ -65,12 +65,12 @@ fn digits<R: Files + AllocGlobal + Clone + Drop>(
     Ok(hex::encode(layers.alloc, bytes.as_slice())?)
 }
 
-/// The state of the text behind the command's name.
+/// Returns the state of the text after the command's name.
 pub fn state_text(alloc: Global, step: &Step) -> Result<String> {
     read(alloc, step.text_behind(0))
 }
 
-/// The state of a text.
+/// Returns the state of a text.
 fn read(alloc: Global, text: &str) -> Result<String> {
     match Trusted::from_text(alloc, text.as_bytes()) {
         Ok(trusted) => copied(alloc, &trusted, text),
@@ -78,7 +78,7 @@ fn read(alloc: Global, text: &str) -> Result<String> {
     }
 }
 
-/// What a copy of the state tells, and whether it writes the text.
+/// Returns the lines of a copy of the state, and whether it writes the text.
 fn copied(alloc: Global, trusted: &Trusted, text: &str) -> Result<String> {
     let copy = trusted.copy()?;
     let mut lines = about(alloc, &copy)?;
@@ -92,7 +92,7 @@ fn refused(alloc: Global, fault: StateFault) -> Result<String> {
     Ok(format!(in alloc; "{fault:?}\n")?)
 }
 
-/// The versions of the files that are trusted, and whether they are ready for a search.
+/// Returns the versions of the files that are trusted, and whether they are ready for a search.
 fn about(alloc: Global, trusted: &Trusted) -> Result<String> {
     let mut text = format!(in alloc; "root {}\n", trusted.root_version())?;
     let timestamp = trusted.timestamp().map(|file| file.reading().header());

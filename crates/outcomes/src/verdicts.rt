@@ -6,7 +6,7 @@ use report::{push_end, push_verdict};
 use sessions::Step;
 use std::alloc::Global;
 
-/// The line of a verdict on the path that the first word spells in hexadecimal digits.
+/// Returns the line of a verdict on the path that the first word encodes in hexadecimal digits.
 pub fn verdict(alloc: Global, step: &Step) -> Result<String> {
     let path = hex::decode(alloc, step.word(0)?)?;
     let path = std::str::from_utf8(&path)?;
@@ -43,7 +43,7 @@ fn role(alloc: Global, name: &str) -> Result<Text> {
     Ok(Text::new(String::from_str(alloc, name)?))
 }
 
-/// The line of a cycle that is ready, or that stopped at a step by a fault.
+/// Returns the line of a cycle that is ready, or that stopped at a step with a fault.
 pub fn end(alloc: Global, step: &Step) -> Result<String> {
     let end = end_of(step.words())?;
     let mut text = String::new(alloc);

@@ -1,4 +1,4 @@
--- Whether all verdicts are good, as a test.
+-- Whether all targets are accepted, as a test.
 use Rattle.std.proofs.Common.{◌≡◌, true, List, All}
 use Rattle.std.proofs.lemmas.List.Sums.{list_all-from_AllPass}
 use Rattle.std.specs.List.{list_all}

@@ -13,7 +13,7 @@ quoted-escapes : quoted_text (97 ∷ 34 ∷ 98 ∷ 92 ∷ 195 ∷ 169 ∷ 10 ∷
 unfolding hex_on_literals
 quoted-escapes = refl
 
--- the bytes at both ends of what stands for itself
+-- the first and the last byte that are printed unescaped, and their neighbors
 quoted-ends : quoted_text (31 ∷ 32 ∷ 126 ∷ 127 ∷ []) ≡ codes "\"\\x1f ~\\x7f\""
 unfolding hex_on_literals
 quoted-ends = refl
@@ -44,7 +44,7 @@ refused-line : verdict_text (codes "a") (RoleRefused (codes "b\"") fault.Unsigne
 unfolding hex_on_literals
 refused-line = refl
 
--- each path stands with its own verdict
+-- each path has its own verdict
 two-lines : verdict_texts (codes "a" ∷ codes "b" ∷ []) (NotFound ∷ NotSearched ∷ [])
     ≡ codes "no \"a\" NotFound" ++ 10 ∷ codes "no \"b\" NotSearched" ++ 10 ∷ []
 two-lines = refl

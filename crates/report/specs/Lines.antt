@@ -11,9 +11,9 @@ use Rattle.cycle.specs.declared.verdict.Verdict.TheVariants.{Good, NotFound, Lim
 use Rattle.cycle.specs.declared.verdict.Verdict.{Verdict}
 use Rattle.failure.specs.Failures.{line}
 
--- # How a name is printed, so that it stands on one line and between quotes.
+-- # The printed form of a name, on one line and between quotes.
 
--- whether the byte stands for itself: 0x20 to 0x7e, but neither `"` nor `\`
+-- whether the byte is printed unescaped: 0x20 to 0x7e, but neither `"` nor `\`
 abbrev pub is_plain : ℕ → Bool
 is_plain byte = nat_le 32 byte && nat_le byte 126 && not (byte == 34) && not (byte == 92)
 
@@ -63,8 +63,7 @@ end_text (Stopped step fault) = line (codes "end" ∷ step_word step ∷ fault_w
 abbrev pub role_text : Accepted → List ℕ
 role_text a = line (codes "role" ∷ quoted_text a.role ∷ decimal a.version ∷ [])
 
--- `ok PATH LENGTH ROLE`, or `no PATH WHY`, where a role whose file is refused stands behind its
--- fault
+-- `ok PATH LENGTH ROLE`, or `no PATH WHY`, with the name of a refused role after its fault
 abbrev pub verdict_text : List ℕ → Verdict → List ℕ
 verdict_text path (Good role length) =
     line (codes "ok" ∷ quoted_text path ∷ decimal length ∷ quoted_text role ∷ [])
@@ -103,7 +102,7 @@ abbrev pub is_good : Verdict → Bool
 is_good (Good role length) = true
 is_good _ = false
 
--- 2 where the cycle stopped, else 0 where all verdicts are good, else 1
+-- 2 if the cycle stopped, else 0 if all targets are accepted, else 1
 abbrev pub status_of : End → Bool → ℕ
 status_of Ready true = 0
 status_of Ready false = 1
@@ -112,6 +111,6 @@ status_of (Stopped step fault) all_good = 2
 abbrev pub outcome_status : Outcome → ℕ
 outcome_status o = status_of o.end (list_all is_good o.verdicts)
 
--- the status of the last of the outcomes, and 0 where there is none
+-- the status of the last outcome, or 0 if there is none
 abbrev pub last_status : List Outcome → ℕ
 last_status os = option_map_or outcome_status (slice_get os (length os - 1)) 0

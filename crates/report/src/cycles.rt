@@ -11,7 +11,8 @@ use std::alloc::{AllocError, Global};
 use std::io::Write;
 
 /// Prints for each outcome, in order, the line `cycle K`, counted from 1, and then its lines, as
-/// [`tell`](crate::tell) does. It answers the status of the last one, and 0 where there is none.
+/// [`tell`](crate::tell) does. Returns the status of the last one, or 0 if there is none. Fails
+/// with `Memory` or `Output`.
 pub fn tell_cycles<W: Write>(
     alloc: Global,
     outcomes: &[Outcome],
@@ -29,7 +30,7 @@ pub fn tell_cycles<W: Write>(
     Ok(last_status(outcomes))
 }
 
-/// The status of the last outcome.
+/// Returns the status of the last outcome.
 fn last_status(outcomes: &[Outcome]) -> u8
     ensures status { result ≡ spec.last_status outcomes.now }
     ensures known { result ≤ 2 }
@@ -40,7 +41,7 @@ fn last_status(outcomes: &[Outcome]) -> u8
     }
 }
 
-/// All lines of the cycles.
+/// Returns all lines of the cycles.
 fn text_of(alloc: Global, outcomes: &[Outcome], wanted: &[String]) -> Result<String, AllocError>
     ensures lines { IfOk result (λ text. string_bytes text
         ≡ spec.cycles_text (map string_bytes wanted.now) outcomes.now) }

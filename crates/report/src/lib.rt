@@ -1,8 +1,8 @@
-//! What a run tells: its lines and its exit status.
+//! The lines that a run prints, and its exit status.
 //!
-//! - [`tell`] prints the lines of an outcome and answers the status, and [`tell_cycles`] those of
+//! - [`tell`] prints the lines of an outcome and returns the status, and [`tell_cycles`] does for
 //!   one cycle after another.
-//! - [`root_line`], [`push_end`] and [`push_verdict`] give single lines, and [`put`] writes a text.
+//! - [`root_line`], [`push_end`] and [`push_verdict`] make single lines, and [`put`] writes a text.
 #![tactic(auto)]
 
 mod cycles;

@@ -13,9 +13,10 @@ use failure::{Failure, of_io};
 use std::alloc::{AllocError, Global};
 use std::io::Write;
 
-/// Prints all lines of an outcome and answers the exit status: 2 where the update stopped, else 1
-/// where some target isn't good, else 0. A writer whose bytes are known was then given the lines
-/// and nothing else; what a stream of the system was given, no contract knows.
+/// Prints all lines of an outcome and returns the exit status: 2 if the update stopped, else 1 if
+/// some target isn't accepted, else 0. If the contract tracks the content of `out`, these lines and
+/// nothing else were printed; it doesn't for a stream of the system. Fails with `Memory` or
+/// `Output`.
 pub fn tell<W: Write>(
     alloc: Global,
     outcome: &Outcome,
@@ -34,7 +35,7 @@ pub fn tell<W: Write>(
     Ok(status_of(outcome.end(), outcome.verdicts()))
 }
 
-/// The status of an outcome that ends so, with these verdicts.
+/// Returns the status of an outcome with this end and these verdicts.
 #[tactic(auto, using(crate::proofs::Statuses::all_good))]
 pub(crate) fn status_of(end: End, verdicts: &[Verdict]) -> u8
     ensures status { result ≡ spec.status_of end (list_all spec.is_good verdicts.now) }
@@ -78,14 +79,14 @@ pub(crate) fn push_outcome(
     push_verdicts(alloc, text, wanted, outcome.verdicts())
 }
 
-/// The line `root N`.
+/// Returns the line `root N`. Fails only if out of memory.
 pub fn root_line(alloc: Global, version: u64) -> Result<String, AllocError>
     ensures line { IfOk result (λ text. string_bytes text ≡ spec.root_text version) }
 {
     format!(in alloc; "root {version}\n")
 }
 
-/// Adds the line `end ready` or `end STEP FAULT`.
+/// Adds the line `end ready` or `end STEP FAULT`. Fails only if out of memory.
 pub fn push_end(text: &mut String, end: End) -> Result<(), AllocError>
     ensures line { OnOk result (
         string_bytes text.new ≡ string_bytes text.old ++ spec.end_text end) }
@@ -138,7 +139,7 @@ fn push_verdicts(
     Ok(())
 }
 
-/// Adds the line `ok NAME LENGTH ROLE` or `no NAME WHY`.
+/// Adds the line `ok NAME LENGTH ROLE` or `no NAME WHY`. Fails only if out of memory.
 pub fn push_verdict(
     alloc: Global,
     text: &mut String,
@@ -233,8 +234,8 @@ fn fault_name(fault: Fault) -> &'static str
     }
 }
 
-/// Writes the text, to its end. A writer whose bytes are known was then given the text and nothing
-/// else.
+/// Writes the whole text. If the contract tracks the content of `out`, this text and nothing else
+/// was written. Fails with `Memory` or `Output`.
 pub fn put<W: Write>(out: &mut W, text: &str) -> Result<(), Failure>
     ensures written { OnOk result (Appends (W.contents out.old) (W.contents out.new) text.now) }
     ensures refused { IfErr result (λ f. (f ≡ Failure.Memory) ⊎ (f ≡ Failure.Output)) }

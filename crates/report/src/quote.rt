@@ -1,4 +1,4 @@
-//! Names as they are printed.
+//! The printed form of names.
 
 ghost use Rattle.std.specs.Prelude.{◌≡◌, [], ◌∷◌, ◌++◌, IfOk, OnOk, string_bytes};
 ghost use Rattle.hex.specs.Hex.{encode_lower};
@@ -6,8 +6,8 @@ ghost use Rattle.report.specs.Lines.{quoted_byte, quoted_text};
 
 use std::alloc::{AllocError, Global};
 
-/// The name in double quotes: each byte outside 0x20 to 0x7e, each `"` and each `\` stands as `\x`
-/// and two lower-case hexadecimal digits.
+/// Returns the name in double quotes: each byte outside 0x20 to 0x7e, each `"` and each `\` is
+/// written as `\x` and two lower-case hexadecimal digits.
 pub(crate) fn quote_name(alloc: Global, name: &str) -> Result<String, AllocError>
     ensures text { IfOk result (λ text. string_bytes text ≡ quoted_text name.now) }
 {

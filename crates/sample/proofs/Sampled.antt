@@ -1,11 +1,11 @@
--- What is told of an outcome that the workflow gives.
+-- What is printed of an outcome of the workflow.
 use Rattle.std.proofs.Common.{◌≡◌, Result, Ok, Err, IfOk, List, ℕ, Option, subst}
 use Rattle.examine.specs.Checks.{Files}
 use Rattle.cycle.specs.Workflow.{Outcome, workflow}
 use Rattle.update.specs.Told.{IsTold, Start, outcome_of}
 use Rattle.sample.specs.Sampled.{IsSampled}
 
--- the lines and the status of an outcome that the workflow gives
+-- the lines and the status of an outcome of the workflow
 pub sampled : {E : Type 0} (start : Start) (metadata targets : Files) (o : Outcome) (wanted : List (List ℕ)) (old new : Option (List ℕ)) (r : Result ℕ E)
     → start.wanted ≡ wanted
     → o ≡ workflow metadata targets start.moment start.trusted start.wanted start.limit

@@ -1,9 +1,9 @@
--- What is told of the small repository.
+-- What is printed for the small repository.
 use Rattle.std.specs.Prelude.{◌≡◌, ℕ, List, Option}
 use Rattle.update.specs.Told.{Files, IsTold, Start, outcome_of}
 
--- An outcome of the workflow for the wanted paths, of which a writer was given the lines, with its
--- status.
+-- An outcome of the workflow for the wanted paths. Its lines were printed, and its status is
+-- returned.
 pub record IsSampled (wanted : List (List ℕ)) (status : ℕ) (old new : Option (List ℕ))
     : Type 0 where
   pub start : Start

@@ -1,4 +1,4 @@
-//! A small repository, made in memory: what the program does without a word.
+//! A small repository, made in memory, that the program verifies if it has no arguments.
 //!
 //! - [`run`] verifies its one target, and prints the lines of the outcome.
 #![tactic(auto)]

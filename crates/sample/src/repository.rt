@@ -22,7 +22,7 @@ write snapshot 1 3
 write timestamp 1 2
 ";
 
-/// The repository that the script makes.
+/// Makes the repository of the script.
 pub fn repository(alloc: Global) -> Result<Repo, Failure> {
     let mut repo = Repo {
         metadata: BTreeMap::new(alloc),
@@ -34,7 +34,7 @@ pub fn repository(alloc: Global) -> Result<Repo, Failure> {
     Ok(repo)
 }
 
-/// Keeps the file under its name below `metadata/` or `targets/`.
+/// Stores the file under its name below `metadata/` or `targets/`.
 fn keep(alloc: Global, repo: &mut Repo, name: &str, bytes: Vec<u8>) -> Result<(), Failure> {
     match name.split_once('/') {
         Some(("metadata", below)) => put(alloc, &mut repo.metadata, below, bytes),
@@ -53,7 +53,7 @@ fn put(
     Ok(())
 }
 
-/// The trusted state that begins with the repository's first root.
+/// Returns the trusted state of the repository's first root.
 pub fn first_state(alloc: Global, repo: &Repo) -> Result<Trusted, Failure> {
     let root = repo.metadata.get("1.root.json").ok_or(Failure::Input)?;
     Ok(Trusted::from_root(alloc, root.as_slice())?)

@@ -1,4 +1,4 @@
-//! The verification.
+//! The verification of the small repository.
 
 ghost use Rattle.std.specs.Prelude.{◌≤◌, ◌∷◌, [], IfOk, codes, map, string_bytes};
 ghost use Rattle.sample.specs.Sampled.{IsSampled};
@@ -10,11 +10,11 @@ use std::alloc::Global;
 use std::io::Write;
 use update::tell_outcome;
 
-/// When the repository is verified.
+/// The moment of the verification.
 const MOMENT: &str = "2026-01-01T00:00:00Z";
 
 /// Makes the repository, verifies its target as the workflow does (TUF 1.0 section 5), prints the
-/// lines and answers the status, at most 2. It refuses for want of memory and where `out` does.
+/// lines and returns the status, at most 2. Fails if out of memory or if `out` does.
 #[tactic(auto, using(crate::proofs::Sampled::renamed))]
 pub fn run<W: Write>(alloc: Global, out: &mut W) -> Result<u8, Failure>
     ensures sampled { IfOk result (λ status. IsSampled (codes "abc.txt" ∷ []) status

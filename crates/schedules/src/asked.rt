@@ -1,4 +1,4 @@
-//! What is asked of a run with workers.
+//! The parameters of a run with workers.
 
 ghost use Rattle.std.specs.Prelude.{◌≤◌};
 
@@ -6,18 +6,21 @@ use crate::gates::Rule;
 use anyhow::{Result, ensure};
 use sessions::Step;
 
-/// How many workers a run has, how many questions its plan has at most, and what holds it up.
+/// The parameters of a run with workers.
 #[derive(Clone, Copy)]
 pub struct Asked {
+    /// Number of workers, at most 64.
     pub workers: usize,
+    /// Maximum number of checks of the plan.
     pub most: usize,
+    /// The rule of the gate.
     pub rule: Rule,
     ghost few: { workers ≤ 64 },
 }
 
 impl Asked {
-    /// What the words behind the repository's name ask: the workers, the most questions and the
-    /// gate.
+    /// Reads the words after the repository's name: the workers, the maximum number of checks and
+    /// the gate.
     pub fn of_step(step: &Step) -> Result<Asked> {
         let workers = step.word(1)?.parse::<usize>()?;
         ensure!(workers <= 64, "too many workers");

@@ -1,4 +1,4 @@
-//! Boards that threads share, with no cycle.
+//! Boards that threads share, without a cycle.
 
 ghost use Rattle.std.specs.Prelude.{◌≡◌, ◌<◌, All, IfOk, IfSome, OnOk, length};
 ghost use Rattle.board.specs.Board.{IsSeatOf, IsFree};
@@ -15,7 +15,7 @@ use std::sync::Wait;
 use std::thread;
 use std::thread::Threads;
 
-/// What a step of a board or of hands prints.
+/// Runs a step of a board or of hands, and returns what it prints.
 pub fn printed<R: Threads + Wait + Sync>(rt: &R, alloc: Global, step: &Step) -> Result<String> {
     match step.name()? {
         "two-seats" => two_seats(alloc),
@@ -27,8 +27,8 @@ pub fn printed<R: Threads + Wait + Sync>(rt: &R, alloc: Global, step: &Step) -> 
     }
 }
 
-/// What the second of two seats finds at one true check: before the first one's verdict, after it,
-/// and after its stop.
+/// Returns what the second of two seats finds at one true check: before the first one's verdict,
+/// after it, and after its stop.
 fn two_seats(alloc: Global) -> Result<String> {
     let mut truths = Vec::new(alloc);
     truths.push(String::from_str(alloc, "valid")?)?;
@@ -67,7 +67,8 @@ fn in_turns(
     Ok(text)
 }
 
-/// Adds what the seat finds at check 0 and of a stop. It tries to win the check first, and may not.
+/// Adds what the seat finds at check 0, and whether it finds a stop. Tries to claim the check
+/// first, which must fail.
 fn push_found(text: &mut String, board: &Board, seat: &mut Seat) -> Result<()>
     requires free { IsFree board.now seat.old }
     requires check { 0 < length board.now.truths }
@@ -80,7 +81,7 @@ fn push_found(text: &mut String, board: &Board, seat: &mut Seat) -> Result<()>
     Ok(())
 }
 
-/// Two threads, each of which claims all checks in order and publishes those that it won.
+/// Runs two threads, each of which claims all checks in order and publishes those that it claimed.
 fn two_threads<R: Threads>(rt: &R, alloc: Global, step: &Step) -> Result<String> {
     let checks = Given::of_words(alloc, step.words())?;
     let (board, seat) = Board::new(alloc, &checks)?;
@@ -109,7 +110,7 @@ fn both_claim<R: Threads>(rt: &R, board: &Board, checks: &Given, first: Seat, se
     board.join(first, second)
 }
 
-/// Claims each check, and publishes those that it won.
+/// Claims each check, and publishes those that it claimed.
 fn claim_all(board: &Board, checks: &Given, mut seat: Seat) -> Seat
     requires free { IsFree board.now seat }
     requires truths { board.now.truths ≡ checks.now.truths.items }
@@ -121,7 +122,7 @@ fn claim_all(board: &Board, checks: &Given, mut seat: Seat) -> Seat
     seat
 }
 
-/// Decides the check, where the seat wins it.
+/// Decides the check, if the seat can claim it.
 #[tactic(auto, using(board::proofs::SeatLemmas::free_kept))]
 fn decide(board: &Board, checks: &Given, seat: &mut Seat, j: usize)
     requires free { IsFree board.now seat.old }
@@ -138,7 +139,7 @@ fn decide(board: &Board, checks: &Given, seat: &mut Seat, j: usize)
     }
 }
 
-/// One worker with all checks.
+/// Runs one worker with all checks.
 fn one_worker(alloc: Global, step: &Step) -> Result<String> {
     let checks = Given::of_words(alloc, step.words())?;
     let (board, seat) = Board::new(alloc, &checks)?;
@@ -147,7 +148,7 @@ fn one_worker(alloc: Global, step: &Step) -> Result<String> {
     told(alloc, &board, &checks, seat)
 }
 
-/// A hand for each worker.
+/// Returns a hand for each worker.
 #[tactic(auto, using(hands::proofs::PartLemmas::parts_counts))]
 fn hands_for(alloc: Global, count: usize, workers: usize) -> Result<Vec<Hand>, NoMemory>
     requires { 0 < workers }
@@ -156,7 +157,7 @@ fn hands_for(alloc: Global, count: usize, workers: usize) -> Result<Vec<Hand>, N
     deal(alloc, count, workers)
 }
 
-/// The work of all hands, one after another, by one seat.
+/// Does the work of all hands, one after another, with one seat.
 fn work_all<G: Gate>(board: &Board, seat: Seat, checks: &Given, hands: Vec<Hand>, gate: &G) -> Seat
     requires free { IsFree board.now seat }
     requires truths { board.now.truths ≡ checks.now.truths.items }
@@ -170,7 +171,7 @@ fn work_all<G: Gate>(board: &Board, seat: Seat, checks: &Given, hands: Vec<Hand>
     mine
 }
 
-/// Two workers with half of the checks each, of whom one has to steal from the other.
+/// Runs two workers with half of the checks each, one of which has to steal from the other.
 fn stealing<R: Threads>(rt: &R, alloc: Global, step: &Step) -> Result<String> {
     let checks = Given::of_words(alloc, step.words())?;
     let (board, seat) = Board::new(alloc, &checks)?;
@@ -183,7 +184,7 @@ fn stealing<R: Threads>(rt: &R, alloc: Global, step: &Step) -> Result<String> {
     Ok(format!(in alloc; "done {done}, late {late}\n")?)
 }
 
-/// The hands of two workers.
+/// Returns the hands of two workers.
 fn two_hands(alloc: Global, count: usize) -> Result<(Hand, Hand)>
     ensures { IfOk result (λ h. (h.0.count ≡ count) × (h.1.count ≡ count)) }
 {
@@ -202,7 +203,7 @@ fn last_hand(hands: &mut Vec<Hand>, count: usize) -> Option<Hand>
     hands.pop()
 }
 
-/// The turns of all numbers, as the last hand takes them.
+/// Returns the turns of all numbers, as the last hand takes them.
 fn turns(alloc: Global, step: &Step) -> Result<String> {
     let count = step.word(0)?.parse::<usize>()?;
     let workers = step.word(1)?.parse::<usize>()?;
@@ -256,8 +257,8 @@ fn both_work<R: Threads>(
     board.join(one, other)
 }
 
-/// How many verdicts the seat gave, what stands at each check, and how many checks can still be
-/// won.
+/// Returns the number of verdicts of the seat, the result of a look at each check, and how many
+/// checks can still be claimed.
 fn told(alloc: Global, board: &Board, checks: &Given, mut seat: Seat) -> Result<String>
     requires free { IsFree board.now seat }
     requires truths { board.now.truths ≡ checks.now.truths.items }
@@ -270,7 +271,7 @@ fn told(alloc: Global, board: &Board, checks: &Given, mut seat: Seat) -> Result<
     Ok(text)
 }
 
-/// Adds what stands at each check.
+/// Adds the result of a look at each check.
 fn push_looks(text: &mut String, board: &Board, count: usize, seat: &mut Seat) -> Result<()>
     requires free { IsFree board.now seat.old }
     requires count { count ≡ length board.now.truths }
@@ -296,7 +297,7 @@ fn look(board: &Board, seat: &mut Seat, j: usize) -> Look
     board.look(seat, j)
 }
 
-/// How many checks the seat wins, each of which it gives back.
+/// Returns how many checks the seat can claim. Releases each of them.
 fn won_of(board: &Board, count: usize, seat: &mut Seat) -> usize
     requires free { IsFree board.now seat.old }
     requires count { count ≡ length board.now.truths }
@@ -311,7 +312,7 @@ fn won_of(board: &Board, count: usize, seat: &mut Seat) -> usize
     won
 }
 
-/// Whether the seat wins the check, which it then gives back.
+/// Returns whether the seat can claim the check, and releases it.
 #[tactic(auto, using(board::proofs::SeatLemmas::free_kept))]
 fn wins(board: &Board, seat: &mut Seat, j: usize) -> bool
     requires free { IsFree board.now seat.old }

@@ -1,38 +1,38 @@
-//! Gates that make a schedule.
+//! Gates that choose a schedule.
 
 use anyhow::{Result, bail};
 use crew::Gate;
 use std::sync::atomic::{AtomicU64, Ordering};
 use std::thread;
 
-/// How often a wait gives way to other threads, at most.
+/// Maximum number of times that a wait yields to other threads.
 const MOST_YIELDS: u64 = 500_000;
 
-/// How often a wait looks before it gives way: a wait has at most 50,000,000 turns.
+/// Number of looks before a wait yields: a wait has at most 50,000,000 turns.
 const TURNS: u64 = 100;
 
-/// What holds the threads of a run up.
+/// Where the threads of a run are blocked.
 #[derive(Clone, Copy)]
 pub enum Rule {
-    /// Nothing.
+    /// Nowhere.
     Open,
-    /// The work in order begins once so many checks have left.
+    /// The sequential run begins once this number of checks have left.
     AllLeft(u64),
-    /// A check that has entered is decided once the work in order is done, which begins once so
-    /// many have entered.
+    /// A check that has entered is decided once the sequential run has ended, which begins once
+    /// this number have entered.
     HeldToEnd(u64),
-    /// The work in order begins, and a check that has entered is decided, once two have entered.
+    /// The sequential run begins, and a check that has entered is decided, once two have entered.
     TwoEntered,
     /// Check 7 waits until six checks have entered, and the others until check 7 has.
     Stealing,
-    /// Each check takes so many turns before it is decided.
+    /// Each check takes this number of turns before it is decided.
     Slow(u64),
     /// The beginning and each check take as many turns as a seed draws.
     Random(u64),
 }
 
 impl Rule {
-    /// The rule of a word: its name, and behind a `=` its number, 0 unless given.
+    /// Returns the rule of a word: its name, and after a `=` its number, 0 unless given.
     pub fn of_word(word: &str) -> Result<Rule> {
         match word.split_once("=") {
             Some((name, number)) => Rule::named(name, number.parse::<u64>()?),
@@ -57,19 +57,20 @@ impl Rule {
 #[derive(Drop)]
 pub struct Schedule {
     rule: Rule,
-    /// How many checks have entered.
+    /// Number of checks that have entered.
     entered: AtomicU64,
-    /// How often check 7 has entered.
+    /// Number of times that check 7 has entered.
     seventh: AtomicU64,
-    /// How many checks have left.
+    /// Number of checks that have left.
     left: AtomicU64,
-    /// How often the end was told.
+    /// Number of times that the end was reached.
     ended: AtomicU64,
-    /// How many waits met their limit.
+    /// Number of waits that met their limit.
     late: AtomicU64,
 }
 
 impl Schedule {
+    /// Returns a gate with this rule.
     pub fn new(rule: Rule) -> Schedule {
         Schedule {
             rule,
@@ -81,12 +82,12 @@ impl Schedule {
         }
     }
 
-    /// How many checks have entered.
+    /// Returns the number of checks that have entered.
     pub fn entered(&self) -> u64 {
         self.entered.load(Ordering::SeqCst)
     }
 
-    /// How many waits met their limit.
+    /// Returns the number of waits that met their limit.
     pub fn late(&self) -> u64 {
         self.late.load(Ordering::SeqCst)
     }
@@ -141,7 +142,7 @@ impl Gate for Schedule {
     }
 }
 
-/// Whether the count comes to `least` within the turns of a wait.
+/// Returns whether the count reaches `least` within the turns of a wait.
 fn reaches(count: &AtomicU64, least: u64) -> bool {
     for _ in 0..MOST_YIELDS {
         if is_soon(count, least) {
@@ -152,7 +153,7 @@ fn reaches(count: &AtomicU64, least: u64) -> bool {
     false
 }
 
-/// Whether the count comes to `least` within a few turns.
+/// Returns whether the count reaches `least` within a few turns.
 fn is_soon(count: &AtomicU64, least: u64) -> bool {
     for _ in 0..TURNS {
         if count.load(Ordering::SeqCst) >= least {
@@ -162,20 +163,20 @@ fn is_soon(count: &AtomicU64, least: u64) -> bool {
     false
 }
 
-/// Looks at the count so many times.
+/// Looks at the count this number of times.
 fn spin(count: &AtomicU64, turns: u64) {
     for _ in 0..turns {
         let _ = count.load(Ordering::SeqCst);
     }
 }
 
-/// A number of turns below 2^18 that the seed draws, mostly a small one.
+/// Returns a number of turns below 2^18 that the seed draws, mostly a small one.
 fn turns(seed: u64) -> u64 {
     let drawn = mixed(seed);
     (drawn >> 46) >> (drawn % 19)
 }
 
-/// A number that looks drawn: the mixing step of the generator SplitMix64.
+/// Returns a number that looks drawn: the mixing step of the generator SplitMix64.
 pub fn mixed(seed: u64) -> u64 {
     let one = seed.wrapping_add(0x9e37_79b9_7f4a_7c15);
     let two = (one ^ (one >> 30)).wrapping_mul(0xbf58_476d_1ce4_e5b9);

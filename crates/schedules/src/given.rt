@@ -7,9 +7,10 @@ use board::{Checks, MOST_CHECKS};
 use cjson::NoMemory;
 use std::alloc::Global;
 
-/// Checks with these truths, of which some are refused memory whenever they are to be decided.
+/// Checks with these truths. Deciding some of them always fails as out of memory.
 #[derive(Drop)]
 pub struct Given {
+    /// The truths.
     pub truths: Vec<bool>,
     refused: Vec<usize>,
     ghost most: { vec_len truths ≤ 4096 },
@@ -31,7 +32,7 @@ impl Checks for Given {
 }
 
 impl Given {
-    /// The checks of the words, each of which is `valid`, `invalid` or `refused`.
+    /// Returns the checks of the words, each of which is `valid`, `invalid` or `refused`.
     pub fn of_words(alloc: Global, words: &[String]) -> Result<Given> {
         let mut truths = Vec::new(alloc);
         let mut refused = Vec::new(alloc);

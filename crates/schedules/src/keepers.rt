@@ -16,10 +16,10 @@ use std::rt::Files;
 use std::sync::Wait;
 use std::thread::Threads;
 
-/// The most files that a keeper remembers verdicts of.
+/// Maximum number of files in a keeper's cache.
 const MOST_KEPT: usize = 4096;
 
-/// The lines of a keeper's cycles over repositories, and the status of the last one.
+/// Returns the lines of a keeper's cycles over repositories, and the status of the last one.
 pub fn cycles<F: Files + AllocGlobal + Clone + Drop, T: Threads + Wait + Sync>(
     files: &F,
     rt: &T,
@@ -31,7 +31,7 @@ pub fn cycles<F: Files + AllocGlobal + Clone + Drop, T: Threads + Wait + Sync>(
     told(alloc, all.as_slice(), step.words_behind(5))
 }
 
-/// How each of a keeper's cycles over repositories came by its answers, and how many waits of the
+/// Returns the counts of each of a keeper's cycles over repositories, and how many waits of the
 /// gate met their limit.
 pub fn kept<F: Files + AllocGlobal + Clone + Drop, T: Threads + Wait + Sync>(
     files: &F,
@@ -44,7 +44,7 @@ pub fn kept<F: Files + AllocGlobal + Clone + Drop, T: Threads + Wait + Sync>(
     counted(alloc, all.as_slice(), &gate)
 }
 
-/// The repositories of these names, which a comma parts.
+/// Reads the repositories of these names, which are separated by commas.
 pub fn all_read<R: Files + AllocGlobal + Clone + Drop>(
     rt: &R,
     alloc: Global,
@@ -57,8 +57,8 @@ pub fn all_read<R: Files + AllocGlobal + Clone + Drop>(
     Ok(made)
 }
 
-/// A keeper whose state begins with the first root of the first repository. The word says of how
-/// many files it remembers verdicts.
+/// Returns a keeper whose state begins with the first root of the first repository. The word is the
+/// capacity of its cache.
 pub fn keeper_of(alloc: Global, made: &[Made], word: &str) -> Result<Keeper> {
     let capacity = capacity_of(word).context("no such capacity")?;
     let first = made.first().context("no repository")?;
@@ -66,7 +66,7 @@ pub fn keeper_of(alloc: Global, made: &[Made], word: &str) -> Result<Keeper> {
     Ok(Keeper::new(alloc, trusted, capacity)?)
 }
 
-/// The number of a word that is 1 to 4,096.
+/// Returns the number of a word that is 1 to 4,096.
 fn capacity_of(word: &str) -> Option<usize>
     ensures { IfSome result (λ n. (1 ≤ n) × (n ≤ 4096)) }
 {
@@ -77,7 +77,8 @@ fn capacity_of(word: &str) -> Option<usize>
     Some(capacity)
 }
 
-/// What a keeper's cycles over the repositories that the step names gave, in order.
+/// Runs a keeper's cycles over the repositories that the step names, and returns their outcomes, in
+/// order.
 fn outcomes<F: Files + AllocGlobal + Clone + Drop, T: Threads + Wait + Sync>(
     files: &F,
     rt: &T,

@@ -1,4 +1,4 @@
-//! Rows of threads: boards that threads share, cycles with workers, which gates hold up at chosen
+//! Rows of threads: boards that threads share, cycles with workers, which gates block at chosen
 //! places, and keepers. `trials` runs them.
 #![tactic(auto)]
 

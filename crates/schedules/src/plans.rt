@@ -1,4 +1,4 @@
-//! Plans of questions, with no worker.
+//! Plans of checks, without workers.
 
 ghost use Rattle.std.specs.Prelude.{◌≤◌};
 
@@ -11,7 +11,7 @@ use sessions::{Step, Told};
 use std::alloc::Global;
 use std::rt::Files;
 
-/// How many questions a plan has, and how many of them are true.
+/// Returns how many checks a plan has, and how many of them are true.
 pub fn plan<R: Files + AllocGlobal + Clone + Drop>(
     rt: &R,
     alloc: Global,
@@ -33,7 +33,7 @@ fn counted(alloc: Global, made: &Made, wanted: &[String], most: usize) -> Result
     Ok(format!(in alloc; "{} questions, {valid} true\n", plan.len())?)
 }
 
-/// How many questions of the plan are true.
+/// Returns how many checks of the plan are true.
 fn true_in(plan: &Plan) -> Result<usize> {
     let mut valid: usize = 0;
     for j in 0..plan.len() {

@@ -11,7 +11,9 @@ use std::rt::Files;
 
 /// A repository, and the trusted state that begins with its first root.
 pub struct Made {
+    /// The repository.
     pub repo: Repo,
+    /// The trusted state.
     pub trusted: Trusted,
 }
 
@@ -21,7 +23,7 @@ impl Drop for Made {
     }
 }
 
-/// Makes what the script `cases/NAME.script` says in the folder of that name.
+/// Makes the repository of the script `cases/NAME.script` in the folder of that name.
 pub fn make<R: Files + AllocGlobal>(rt: &R, alloc: Global, step: &Step) -> Result<Told> {
     let name = step.word(0)?;
     let path = format!(in alloc; "cases/{name}.script")?;
@@ -32,7 +34,7 @@ pub fn make<R: Files + AllocGlobal>(rt: &R, alloc: Global, step: &Step) -> Resul
     Ok(Told::nothing(alloc))
 }
 
-/// Writes a file below a folder, and makes the folders in which it lies.
+/// Writes a file below a folder, and makes the folders that contain it.
 fn write_below<R: Files + AllocGlobal>(
     rt: &R,
     alloc: Global,
@@ -47,7 +49,7 @@ fn write_below<R: Files + AllocGlobal>(
     Ok(())
 }
 
-/// The repository in the folder of that name.
+/// Reads the repository in the folder of that name.
 pub fn read<R: Files + AllocGlobal + Clone + Drop>(
     rt: &R,
     alloc: Global,

@@ -12,13 +12,13 @@ use std::rt::Files;
 use std::sync::Wait;
 use std::thread::Threads;
 
-/// When the repositories are verified.
+/// The moment of the verification.
 pub const MOMENT: &str = "2026-01-01T00:00:00Z";
 
-/// The most roles that a search visits.
+/// Maximum number of roles that a search visits.
 pub const ROLES: usize = 32;
 
-/// The lines and the status of a run with workers.
+/// Returns the lines and the status of a run with workers.
 pub fn lines<F: Files + AllocGlobal + Clone + Drop, T: Threads + Wait + Sync>(
     files: &F,
     rt: &T,
@@ -31,7 +31,7 @@ pub fn lines<F: Files + AllocGlobal + Clone + Drop, T: Threads + Wait + Sync>(
     told_by_run(rt, alloc, &made, asked, step.words_behind(4), &gate)
 }
 
-/// The lines and the status of a cycle on one thread.
+/// Returns the lines and the status of a cycle on one thread.
 pub fn alone<R: Files + AllocGlobal + Clone + Drop>(
     rt: &R,
     alloc: Global,
@@ -41,7 +41,8 @@ pub fn alone<R: Files + AllocGlobal + Clone + Drop>(
     told_alone(alloc, &made, step.words_behind(1))
 }
 
-/// The same lines and status of the workflow up to the searches, ended by the target files.
+/// Returns the same lines and status for the workflow up to the searches, ended by the target
+/// files.
 pub fn course<R: Files + AllocGlobal + Clone + Drop>(
     rt: &R,
     alloc: Global,
@@ -53,7 +54,7 @@ pub fn course<R: Files + AllocGlobal + Clone + Drop>(
     told(alloc, &outcome, wanted)
 }
 
-/// How a run came by its answers, and how many waits of its gate met their limit.
+/// Returns the counts of a run, and how many waits of its gate met their limit.
 pub fn counts<F: Files + AllocGlobal + Clone + Drop, T: Threads + Wait + Sync>(
     files: &F,
     rt: &T,
@@ -73,7 +74,7 @@ pub fn counts<F: Files + AllocGlobal + Clone + Drop, T: Threads + Wait + Sync>(
     Ok(Told::printed(alloc, text))
 }
 
-/// How many checks entered, and how many waits of the gate met their limit.
+/// Returns how many checks entered, and how many waits of the gate met their limit.
 pub fn entered<F: Files + AllocGlobal + Clone + Drop, T: Threads + Wait + Sync>(
     files: &F,
     rt: &T,
@@ -100,8 +101,8 @@ fn stats_of<F: Files + AllocGlobal + Clone + Drop, T: Threads + Wait + Sync>(
     Ok(outcome.stats())
 }
 
-/// Whether a run with workers tells what a cycle on one thread tells, and how many waits of its
-/// gate met their limit.
+/// Returns whether a run with workers prints what a cycle on one thread prints, and how many waits
+/// of its gate met their limit.
 pub fn agrees<F: Files + AllocGlobal + Clone + Drop, T: Threads + Wait + Sync>(
     files: &F,
     rt: &T,
@@ -119,7 +120,7 @@ pub fn agrees<F: Files + AllocGlobal + Clone + Drop, T: Threads + Wait + Sync>(
     Ok(Told::printed(alloc, text))
 }
 
-/// Whether a run with workers tells this.
+/// Returns whether a run with workers prints this.
 pub fn tells<R: Threads + Wait + Sync>(
     rt: &R,
     alloc: Global,
@@ -145,7 +146,7 @@ fn told_by_run<R: Threads + Wait + Sync>(
     told(alloc, &outcome, wanted)
 }
 
-/// What a cycle on one thread tells.
+/// Returns what a cycle on one thread prints.
 pub fn told_alone(alloc: Global, made: &Made, wanted: &[String]) -> Result<Told> {
     let outcome = ran_alone(alloc, made, wanted)?;
     told(alloc, &outcome, wanted)

@@ -14,8 +14,8 @@ use std::rt::Files;
 use std::sync::Wait;
 use std::thread::Threads;
 
-/// Does a step, with the files of the folder and with threads, and gives what its command told. An
-/// error says why the step can't be done.
+/// Runs a step, with the files of the folder and with threads, and returns the output of its
+/// command. An error is why the step can't be run.
 pub fn perform<F: Files + AllocGlobal + Clone + Drop, T: Threads + Wait + Sync>(
     files: &F,
     threads: &T,
@@ -39,7 +39,7 @@ pub fn perform<F: Files + AllocGlobal + Clone + Drop, T: Threads + Wait + Sync>(
     }
 }
 
-/// Does a step of a board, which reads no file.
+/// Runs a step of a board, which reads no file.
 fn share<R: Threads + Wait + Sync>(rt: &R, alloc: Global, step: &Step) -> Result<Told> {
     Ok(Told::printed(alloc, printed(rt, alloc, step)?))
 }

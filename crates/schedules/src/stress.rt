@@ -11,7 +11,7 @@ use std::rt::Files;
 use std::sync::Wait;
 use std::thread::Threads;
 
-/// How many of so many runs tell something else than a cycle on one thread.
+/// Returns how many of a number of runs print something else than a cycle on one thread.
 pub fn stress<F: Files + AllocGlobal + Clone + Drop, T: Threads + Wait + Sync>(
     files: &F,
     rt: &T,
@@ -46,7 +46,8 @@ fn differing<R: Threads + Wait + Sync>(
     Ok(differing)
 }
 
-/// Up to 8 workers with a plan of any length, and a gate that none of them can wait at for long.
+/// Returns up to 8 workers with a plan of any length, and a gate at which none of them can wait for
+/// long.
 pub fn drawn(seed: u64) -> Asked {
     let draw = mixed(seed);
     Asked {

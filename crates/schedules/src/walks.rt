@@ -15,7 +15,7 @@ use std::rt::Files;
 use std::sync::Wait;
 use std::thread::Threads;
 
-/// Where a walk may lead.
+/// The parameters of a walk.
 #[derive(Clone, Copy)]
 struct Course<'a> {
     made: &'a [Made],
@@ -24,8 +24,8 @@ struct Course<'a> {
     seed: u64,
 }
 
-/// How many of so many cycles of a keeper tell something else than a cycle on one thread from the
-/// state of the cycle before, or lead to another state.
+/// Returns how many of a number of cycles of a keeper print something else than a cycle on one
+/// thread from the state of the cycle before, or lead to another state.
 pub fn walk<F: Files + AllocGlobal + Clone + Drop, T: Threads + Wait + Sync>(
     files: &F,
     rt: &T,
@@ -73,7 +73,7 @@ fn differing<R: Threads + Wait + Sync>(
     Ok(differing)
 }
 
-/// The repository that is drawn.
+/// Returns the repository that is drawn.
 fn repo_of(made: &[Made], draw: u64) -> Result<&Repo> {
     let place = (draw >> 8)
         .checked_rem(made.len() as u64)
@@ -82,8 +82,8 @@ fn repo_of(made: &[Made], draw: u64) -> Result<&Repo> {
     Ok(&one.repo)
 }
 
-/// Whether the next cycle of the keeper tells what one on one thread tells from the keeper's state,
-/// and leads to its state.
+/// Returns whether the next cycle of the keeper prints what one on one thread prints from the
+/// keeper's state, and leads to its state.
 fn agrees<R: Threads + Wait + Sync>(
     rt: &R,
     alloc: Global,
@@ -97,7 +97,8 @@ fn agrees<R: Threads + Wait + Sync>(
     Ok(alone == kept)
 }
 
-/// What a cycle on one thread tells from the keeper's state, and the state that it leads to.
+/// Returns what a cycle on one thread prints from the keeper's state, and the state that it leads
+/// to.
 fn alone(alloc: Global, keeper: &Keeper, repo: &Repo, wanted: &[String]) -> Result<Vec<u8>> {
     let limits = Limits::new(ROLES, 0).context("too many questions")?;
     let now = Moment::read(MOMENT).context("no moment")?;
@@ -105,7 +106,7 @@ fn alone(alloc: Global, keeper: &Keeper, repo: &Repo, wanted: &[String]) -> Resu
     all_of(alloc, &outcome, wanted)
 }
 
-/// What the keeper's next cycle tells, and the state that it leads to.
+/// Returns what the keeper's next cycle prints, and the state that it leads to.
 fn kept<R: Threads + Wait + Sync>(
     rt: &R,
     alloc: Global,
@@ -121,7 +122,8 @@ fn kept<R: Threads + Wait + Sync>(
     all_of(alloc, &outcome, wanted)
 }
 
-/// The text of the outcome's state, and behind it its lines. The status is a function of these.
+/// Returns the text of the outcome's state, followed by its lines. The status is a function of
+/// these.
 fn all_of(alloc: Global, outcome: &Outcome, wanted: &[String]) -> Result<Vec<u8>> {
     let mut all = outcome.trusted().to_text(alloc)?;
     tell(alloc, outcome, wanted, &mut all)?;

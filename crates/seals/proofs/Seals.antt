@@ -37,7 +37,7 @@ both_true true true s h = (refl, refl)
 both_true true false s h = absurd (true≢false (sym h))
 both_true false b s h = absurd (true≢false (sym h))
 
--- a file has a canonical text where its value has one
+-- a file has a canonical text if its value has one
 pub IsSome-canon-sealed : (d file : Data) (es : List Entry) → IsSome (canon d) → file ≡ sealed d es → IsSome (canon file)
 IsSome-canon-sealed d file es has is =
     let parts = both_true (has_whole_numbers d) (is_ordered d) _ has in
@@ -84,7 +84,7 @@ entries_more hs by text i vs es v e h within at done signed is by_h =
 
 -- ---- the signers
 
--- the holder at a place, whatever was signed before
+-- the holder at a place, whoever signed before
 pub holder_at : (first ss : List Signer) (p : ℕ) (d : Signer) → p < length ss → map holder ss ≡ map holder first
     → slice_get (map holder first) p ≡ Some (holder (get_or ss p d))
 holder_at first ss p d within so_far =
@@ -140,7 +140,7 @@ asked_again by counts i n within there is =
     let more = spends-least (drop (i + 1) by) (spend before p) p in
     rw (split_at by counts i within) (omega (arith, one, more, is))
 
--- a signer that is asked for a leaf and has none
+-- a signer without a leaf left whose leaf is needed
 pub overspent_at : (first ss : List Signer) (by : List ℕ) (i : ℕ) (d : Signer) → i < length by → get_or by i 0 < length ss
     → used_of (get_or ss (get_or by i 0) d) ≡ (holder (get_or ss (get_or by i 0) d)).leaves → map holder ss ≡ map holder first
     → map used_of ss ≡ fold spend (map used_of first) (take i by) → Any (IsOverspent first by) by
@@ -151,7 +151,7 @@ overspent_at first ss by i d within there spent kept leaves =
     let less = asked_again by (map used_of first) i _ within (rw leaves at room) (rw leaves at count) in
     (i, p, within, get_or_default by i p 0 within, (holder (get_or ss p d), holder_at first ss p d there kept, less))
 
--- ---- after a refusal
+-- ---- on error
 
 on_err : {A E : Type 0} (r : Result A E) (P : Type 0) → P → OnErr r P
 on_err (Ok x) P p = tt
@@ -165,7 +165,7 @@ spent_first r by old new n is = on_err r (HasSpent by old new) (n, is)
 pub spent_all : {A E : Type 0} (r : Result A E) (by old new : List ℕ) → new ≡ fold spend old by → OnErr r (HasSpent by old new)
 spent_all r by old new is = spent_first r by old new (length by) (is ∙ ap (fold spend old) (sym (take-length by)))
 
--- the place at which it was refused took its leaf, or didn't
+-- the place at which it failed took its leaf, or didn't
 pub spent_or_not : {A E : Type 0} (r : Result A E) (first ss : List Signer) (by : List ℕ) (i : ℕ) (d t : Signer) → i < length by → get_or by i 0 < length ss
     → (used_of t ≡ used_of (get_or ss (get_or by i 0) d)) ⊎ (used_of t ≡ used_of (get_or ss (get_or by i 0) d) + 1)
     → map used_of ss ≡ fold spend (map used_of first) (take i by)

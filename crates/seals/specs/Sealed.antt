@@ -42,7 +42,7 @@ holder s = record {
   leaves = 2 ^ levels s.secret.kind.height;
 }
 
--- how many leaves of the signer are gone
+-- the number of used leaves of the signer
 abbrev pub used_of : Signer → ℕ
 used_of s = s.secret.used
 
@@ -54,7 +54,7 @@ spend counts p = slice_set counts p (slice_index counts p + 1)
 abbrev pub HasSpent : List ℕ → List ℕ → List ℕ → Type 0
 HasSpent by old new = (n : ℕ) × (new ≡ fold spend old (take n by))
 
--- the places together ask the signer at place p for more leaves than it has
+-- the places together need more leaves of the signer at place p than it has
 abbrev pub IsOverspent : List Signer → List ℕ → ℕ → Type 0
 IsOverspent signers by p =
     (h : Holder) × (slice_get (map holder signers) p ≡ Some h)

@@ -1,4 +1,4 @@
-//! Why a script or a seal is refused.
+//! Why no file or repository is made.
 
 ghost use Rattle.std.specs.Prelude.{◌≡◌};
 ghost use Rattle.lms.specs.declared.signer.SignFault.TheVariants as sign;
@@ -8,17 +8,17 @@ use lms::SignFault;
 use std::alloc::{AllocError, AllocFailed};
 use thiserror::Error;
 
-/// Why no file or repository was made.
+/// Why no file or repository is made.
 #[derive(Clone, Copy, Debug, PartialEq, Eq, Error)]
 pub enum MakeFault {
-    /// The script can't be followed at this line, counted from 1.
+    /// The script is invalid at this line, counted from 1.
     #[error("the script can't be followed at line {0}")]
     Script(usize),
-    /// A key has signed as often as its height allows: 32 times at height 5, 1,024 times at
-    /// height 10.
+    /// A key has signed as often as its height allows: 32 times at height 5, 1,024 times at height
+    /// 10, 32,768 times at height 15.
     #[error("all leaves of a key are used")]
     Used,
-    /// Memory was refused.
+    /// Out of memory.
     #[error("out of memory")]
     NoMemory,
 }

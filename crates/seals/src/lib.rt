@@ -1,9 +1,9 @@
-//! Keys that sign, and the metadata files that they seal.
+//! Keys that sign, and the metadata files that they sign.
 //!
-//! - [`secret`] and [`secret_of`] give the key of a key byte.
-//! - [`seal`] signs a metadata file (TUF 1.0 section 4.2), and so does [`seal_text`] where its
+//! - [`secret`] and [`secret_of`] return the key of a key byte.
+//! - [`seal`] signs a metadata file (TUF 1.0 section 4.2), and so does [`seal_text`] if its
 //!   canonical text is known.
-//! - [`MakeFault`] says why no file or repository was made.
+//! - [`MakeFault`] is why no file or repository is made.
 #![tactic(auto)]
 
 mod fault;

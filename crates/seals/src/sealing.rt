@@ -16,13 +16,13 @@ use cjson::{CanonicalFault, canonical};
 use serde_json::{Value, json};
 use std::alloc::{AllocError, Global};
 
-/// A metadata file (TUF 1.0 section 4.2): `signed` is the value, and `signatures` has a signature
-/// of its canonical text by each of the signers at the places `by`, in order. The file is
+/// Returns a metadata file (TUF 1.0 section 4.2): `signed` is the value, and `signatures` has a
+/// signature of its canonical text by each of the signers at the places `by`, in order. The file is
 /// canonical text itself.
 ///
-/// Each place takes one leaf. `Used` is answered where a signer has fewer leaves left than there
-/// are places that name it. After a refusal each of some first places has taken its leaf, and
-/// nothing else has changed.
+/// Each place takes one leaf. Fails with `Used` if a signer has fewer leaves left than there are
+/// places that name it, or with `NoMemory`. On error, each of some first places has taken its leaf,
+/// and nothing else has changed.
 pub fn seal(
     alloc: Global,
     value: &Value,
@@ -40,7 +40,7 @@ pub fn seal(
     ensures spent { OnErr result (HasSpent by.now (map used_of signers.old)
         (map used_of signers.new)) }
 
-    // Some signer has fewer leaves left than it was asked for.
+    // Some signer has fewer leaves left than are needed.
     ensures used { result ≡ Err MakeFault.Used
         → Any (IsOverspent signers.old by.now) by.now }
     ensures no_script { (line : ℕ) → result ≢ Err (MakeFault.Script line) }
@@ -49,7 +49,7 @@ pub fn seal(
     seal_text(alloc, value, &text, signers, by)
 }
 
-/// As [`seal`], of a value whose canonical text is known.
+/// As [`seal`], for a value whose canonical text is known.
 pub fn seal_text(
     alloc: Global,
     value: &Value,
@@ -76,7 +76,7 @@ pub fn seal_text(
     text_of(alloc, &file)
 }
 
-/// The canonical text of a value that has one.
+/// Returns the canonical text of a value that has one.
 fn text_of(alloc: Global, value: &Value) -> Result<Vec<u8>, MakeFault>
     requires { IsSome (canon (view value.now)) }
     ensures text { IfOk result (λ text. canon (view value.now) ≡ Some text.items) }
@@ -89,7 +89,7 @@ fn text_of(alloc: Global, value: &Value) -> Result<Vec<u8>, MakeFault>
     }
 }
 
-/// The entry of `signatures` that a signer makes for the text.
+/// Returns the entry of `signatures` that a signer makes for the text.
 fn entry(alloc: Global, signer: &mut Signer, text: &[u8]) -> Result<Value, MakeFault>
     ensures entry { IfOk result (λ v. (e : Entry) × (view v ≡ entry_object e)
         × IsSignedBy (holder signer.old) text.now e) }
@@ -113,7 +113,7 @@ fn entry_of(alloc: Global, id: &str, sig: String) -> Result<Value, AllocError>
     json!(in alloc; { "keyid": id, "sig": sig })
 }
 
-/// The tree of a file with these entries.
+/// Returns the tree of a file with these entries.
 fn file_of(alloc: Global, value: &Value, entries: Vec<Value>) -> Result<Value, AllocError>
     ensures { IfOk result (λ v. (es : List Entry) → items_view entries.items ≡ entry_objects es
         → view v ≡ sealed (view value.now) es) }
@@ -121,7 +121,7 @@ fn file_of(alloc: Global, value: &Value, entries: Vec<Value>) -> Result<Value, A
     json!(in alloc; { "signatures": entries, "signed": value })
 }
 
-/// The entries of the signers at the places, in order.
+/// Returns the entries of the signers at the places, in order.
 fn entries(
     alloc: Global,
     signers: &mut [Signer],

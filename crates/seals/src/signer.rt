@@ -10,15 +10,15 @@ use std::alloc::Global;
 /// A key under an id.
 #[derive(Drop)]
 pub struct Signer {
-    /// What `keyid` says beside a signature of the key.
+    /// The `keyid` of the key's signatures.
     pub id: String,
     /// The key.
     pub secret: Secret,
 }
 
-/// The key of W8 and key byte `s`: its identifier is 16 bytes `s`, and it is made from 32 bytes `s`
-/// (RFC 8554 appendix A). No leaf is used. It takes 2 KiB at height 5, 64 KiB at height 10 and 2
-/// MiB at height 15.
+/// Returns the key of W8 and key byte `s`: its identifier is 16 bytes `s`, and it is made from 32
+/// bytes `s` (RFC 8554 appendix A). No leaf is used. Allocates 2 KiB at height 5, 64 KiB at height
+/// 10 and 2 MiB at height 15. Fails only if out of memory.
 pub fn secret(alloc: Global, s: u8, h: Height) -> Result<Secret, NoMemory>
     ensures key { IfOk result (λ key. key ≡ record {
       kind = record { width = width.W8; height = h };
@@ -30,7 +30,7 @@ pub fn secret(alloc: Global, s: u8, h: Height) -> Result<Secret, NoMemory>
     secret_of(alloc, s, Width::W8, h)
 }
 
-/// The key of width `w` and key byte `s`, which is else as [`secret`] makes it.
+/// As [`secret`], for a key of width `w`.
 pub fn secret_of(alloc: Global, s: u8, w: Width, h: Height) -> Result<Secret, NoMemory>
     ensures key { IfOk result (λ key. key ≡ record {
       kind = record { width = w; height = h };

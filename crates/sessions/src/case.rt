@@ -4,15 +4,15 @@ use crate::line::{Line, words_of};
 use anyhow::{Context, Result};
 use std::alloc::Global;
 
-/// A command, what is handed to it, and what it should give.
+/// A command with its input and its expected output.
 pub struct Step {
     /// The number of the command's line in its file.
     pub(crate) line: usize,
     /// The command as it is written.
     pub(crate) command: String,
-    /// The command's words, of which the first is its name.
+    /// The command's words, the first of which is its name.
     words: Vec<String>,
-    /// The lines that are handed to it.
+    /// The lines of its input.
     pub script: Vec<String>,
     pub(crate) expected: Vec<String>,
 }
@@ -40,22 +40,22 @@ impl Step {
         })
     }
 
-    /// The command's name.
+    /// Returns the command's name.
     pub fn name(&self) -> Result<&str> {
         Ok(self.words.first().context("no word")?.as_str())
     }
 
-    /// The words behind the name.
+    /// Returns the words after the name.
     pub fn words(&self) -> &[String] {
         self.words_behind(0)
     }
 
-    /// The words behind the name and so many more.
+    /// Returns the words after the name and `words` more.
     pub fn words_behind(&self, words: usize) -> &[String] {
         self.words.get(words.saturating_add(1)..).unwrap_or(&[])
     }
 
-    /// The word at a place behind the name, from 0.
+    /// Returns the word at a place after the name, from 0.
     pub fn word(&self, place: usize) -> Result<&str> {
         Ok(
             self.words()
@@ -65,7 +65,7 @@ impl Step {
         )
     }
 
-    /// The text behind the name, so many words, and a blank behind each of them.
+    /// Returns the text after the name, `words` words, and a blank after each of them.
     pub fn text_behind(&self, words: usize) -> &str {
         let mut text = self.command.as_str();
         for _ in 0..=words {
@@ -78,7 +78,7 @@ impl Step {
     }
 }
 
-/// The steps that a case's text has, in order.
+/// Reads the steps of a case's text, in order.
 pub fn steps_of(alloc: Global, text: &str) -> Result<Vec<Step>> {
     let mut steps: Vec<Step> = Vec::new(alloc);
     let mut number: usize = 0;
@@ -89,7 +89,7 @@ pub fn steps_of(alloc: Global, text: &str) -> Result<Vec<Step>> {
     Ok(steps)
 }
 
-/// Adds what the line of that number is, to the steps or to the last of them.
+/// Adds the line of that number to the steps, or to the last of them.
 fn push_line(alloc: Global, steps: &mut Vec<Step>, number: usize, line: &str) -> Result<()> {
     match Line::of(line) {
         Line::Prose => Ok(()),

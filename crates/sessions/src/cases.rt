@@ -11,17 +11,17 @@ use std::fs;
 use std::io::Write;
 use std::rt::Files;
 
-/// How many steps a case has, and the lines that are to be said of those that differ.
+/// The number of steps of a case, and the lines to print for those that differ.
 #[derive(Drop)]
 struct Report {
     steps: usize,
     differences: String,
 }
 
-/// Runs the sessions of the files of the folder `cases` whose names end so, in order of their
-/// names, prints a report of each, and answers how many differ. Each begins with nothing beside the
-/// folder `cases`, and what it made is removed after it. `perform` does the steps whose commands
-/// this crate hasn't; an error of it says why a step can't be done.
+/// Runs the sessions in the files of the folder `cases` whose names have this ending, in order of
+/// their names. Prints a report of each, and returns how many differ. Each session starts with
+/// nothing but the folder `cases`, and what it made is removed afterwards. `perform` runs the steps
+/// whose commands this crate hasn't; its error is why a step can't be run.
 pub fn run_all<R: Files + AllocGlobal + Clone + Drop, F: Fn(&Step) -> Result<Told>, W: Write>(
     rt: &R,
     alloc: Global,
@@ -43,8 +43,8 @@ pub fn run_all<R: Files + AllocGlobal + Clone + Drop, F: Fn(&Step) -> Result<Tol
     Ok(differing)
 }
 
-/// Runs the session of that file, prints its report, and removes what it made. The answer is
-/// whether a step gave something else than is written.
+/// Runs the session of that file, prints its report, and removes what it made. Returns whether a
+/// step's output differs from the expected one.
 fn differs<R: Files + AllocGlobal + Clone + Drop, F: Fn(&Step) -> Result<Told>, W: Write>(
     rt: &R,
     alloc: Global,
@@ -80,14 +80,14 @@ fn report_of<R: Files + AllocGlobal + Clone + Drop, F: Fn(&Step) -> Result<Told>
     })
 }
 
-/// The steps of the session of that file.
+/// Reads the steps of the session of that file.
 fn steps_in<R: Files + AllocGlobal>(rt: &R, alloc: Global, name: &str) -> Result<Vec<Step>> {
     let path = format!(in alloc; "{}/{name}", room::CASES)?;
     let text = fs::read_to_string(rt, path.as_str())?;
     steps_of(alloc, text.as_str()).context(format_args!("{name}"))
 }
 
-/// Does a step, and adds what it gave where that is something else than is written.
+/// Runs a step, and adds its output if that differs from the expected one.
 fn compare<R: Files + AllocGlobal + Clone + Drop, F: Fn(&Step) -> Result<Told>>(
     rt: &R,
     alloc: Global,

@@ -1,12 +1,12 @@
-//! What a step gave against what is written.
+//! Comparison of a step's output with the expected one.
 
 use anyhow::Result;
 use std::alloc::Global;
 
-/// Whether the lines are as expected. An expected `...` stands for any lines, and `...` at a line's
-/// end for any text.
+/// Returns whether the lines are as expected. An expected `...` matches any lines, and `...` at a
+/// line's end any text.
 pub fn is_as_expected(alloc: Global, expected: &[String], given: &[String]) -> Result<bool> {
-    // for each count of given lines, whether the expected lines so far stand for so many
+    // for each count of given lines, whether the expected lines so far match that number of them
     let mut reached = of_no_line(alloc, given)?;
     for line in expected {
         reached = if line.as_str() == "..." {

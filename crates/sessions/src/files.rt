@@ -8,7 +8,7 @@ use std::alloc::Global;
 use std::fs;
 use std::rt::Files;
 
-/// Writes a file with the text that the lines spell, without the last line feed.
+/// Writes a file with the text of the lines, without the last line feed.
 pub fn put<R: Files + AllocGlobal + Clone + Drop>(
     rt: &R,
     alloc: Global,
@@ -31,7 +31,7 @@ pub fn copy<R: Files + AllocGlobal + Clone + Drop>(
     Ok(Told::nothing(alloc))
 }
 
-/// Makes a folder, and those in which it lies.
+/// Makes a folder, and those that contain it.
 pub fn folder<R: Files + AllocGlobal + Clone + Drop>(
     rt: &R,
     alloc: Global,
@@ -56,7 +56,7 @@ pub fn remove<R: Files + AllocGlobal + Clone + Drop>(
     Ok(Told::nothing(alloc))
 }
 
-/// Appends blanks to a file until it has so many bytes, or cuts it off there.
+/// Appends blanks to a file up to this number of bytes, or cuts it off there.
 pub fn pad<R: Files + AllocGlobal + Clone + Drop>(
     rt: &R,
     alloc: Global,
@@ -70,7 +70,7 @@ pub fn pad<R: Files + AllocGlobal + Clone + Drop>(
     Ok(Told::nothing(alloc))
 }
 
-/// Whether there is a file or a folder of that name.
+/// Returns whether there is a file or a folder of that name.
 pub fn has<R: Files + AllocGlobal + Clone + Drop>(
     rt: &R,
     alloc: Global,
@@ -79,7 +79,7 @@ pub fn has<R: Files + AllocGlobal + Clone + Drop>(
     Ok(Told::answer(alloc, fs::exists(rt, step.word(0)?)?))
 }
 
-/// Whether two files have the same bytes.
+/// Returns whether two files have the same bytes.
 pub fn same<R: Files + AllocGlobal + Clone + Drop>(
     rt: &R,
     alloc: Global,

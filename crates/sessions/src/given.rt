@@ -1,4 +1,4 @@
-//! What a step gives.
+//! The output of a step.
 
 use crate::case::Step;
 use crate::files::{copy, folder, has, pad, put, remove, same};
@@ -7,7 +7,7 @@ use anyhow::{Error, Result};
 use std::alloc::Global;
 use std::rt::Files;
 
-/// The lines that a step gives. Where it can't be done, a line says why.
+/// Returns the lines of a step's output. If the step can't be run, a line says why.
 pub fn given_by<R: Files + AllocGlobal + Clone + Drop, F: Fn(&Step) -> Result<Told>>(
     rt: &R,
     alloc: Global,

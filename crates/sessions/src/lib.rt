@@ -1,9 +1,9 @@
-//! Sessions: texts of prose, commands and what these should give, which are run and compared.
+//! Sessions: texts of prose, commands and their expected output, which are run and compared.
 //!
-//! - [`run_all`] runs the sessions of a folder and prints a line for each, with the steps that gave
-//!   something else. It is handed what does the commands that a program has beside those of this
-//!   crate, which put and compare files.
-//! - [`Step`] is a command with what is handed to it, and [`Told`] what a command gave.
+//! - [`run_all`] runs the sessions of a folder and prints a line for each, with the steps whose
+//!   output differs. Its caller passes the commands of a program; those of this crate write and
+//!   compare files.
+//! - [`Step`] is a command with its input, and [`Told`] the output of a command.
 #![tactic(auto)]
 
 mod case;

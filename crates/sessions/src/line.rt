@@ -3,21 +3,21 @@
 use anyhow::Result;
 use std::alloc::Global;
 
-/// What a line of a case is.
+/// The kind of a line of a case.
 #[derive(Clone, Copy)]
 pub enum Line<'a> {
-    /// A word to the reader.
+    /// A comment for the reader.
     Prose,
     /// The words of a command.
     Command(&'a str),
-    /// A line that is handed to the command.
+    /// A line of the command's input.
     Script(&'a str),
-    /// A line that the command should give.
+    /// A line of the expected output.
     Expected(&'a str),
 }
 
 impl<'a> Line<'a> {
-    /// What the line is: two blanks in front make it one of the session.
+    /// Returns the kind of the line: two blanks in front make it one of the session.
     pub fn of(text: &'a str) -> Line<'a> {
         let Some(inner) = text.strip_prefix("  ") else {
             return Line::Prose;
@@ -35,7 +35,7 @@ impl<'a> Line<'a> {
     }
 }
 
-/// The words of a line. `""` is a word with no character.
+/// Returns the words of a line. `""` is a word with no character.
 pub fn words_of(alloc: Global, line: &str) -> Result<Vec<String>> {
     let mut words = Vec::new(alloc);
     for word in line.split_whitespace() {
@@ -45,7 +45,7 @@ pub fn words_of(alloc: Global, line: &str) -> Result<Vec<String>> {
     Ok(words)
 }
 
-/// The text of the lines, joined by line feeds.
+/// Returns the text of the lines, joined by line feeds.
 pub fn joined(alloc: Global, lines: &[String]) -> Result<String> {
     let mut text = String::new(alloc);
     let mut is_first = true;

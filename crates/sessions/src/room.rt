@@ -15,7 +15,7 @@ struct Entry {
     is_folder: bool,
 }
 
-/// What stands in a folder.
+/// Returns the entries of a folder.
 fn entries<R: Files + AllocGlobal + Clone + Drop>(
     rt: &R,
     alloc: Global,
@@ -32,7 +32,7 @@ fn entries<R: Files + AllocGlobal + Clone + Drop>(
     Ok(entries)
 }
 
-/// Refuses a folder that holds anything but the cases, since all else is removed.
+/// Fails if the folder contains anything but the cases, since all else is removed.
 pub fn check<R: Files + AllocGlobal + Clone + Drop>(rt: &R, alloc: Global) -> Result<()> {
     let entries = entries(rt, alloc, ".")?;
     ensure!(
@@ -60,7 +60,7 @@ fn remove<R: Files + AllocGlobal>(rt: &R, entry: &Entry) -> Result<()> {
     Ok(())
 }
 
-/// The names of the files in the folder of the cases that end so, in order.
+/// Returns the names of the files in the folder of the cases that have this ending, in order.
 pub fn names<R: Files + AllocGlobal + Clone + Drop>(
     rt: &R,
     alloc: Global,

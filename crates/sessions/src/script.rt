@@ -1,4 +1,4 @@
-//! The lines that are handed to a command.
+//! The input lines of a command.
 
 use crate::room::CASES;
 use anyhow::{Context, Result};
@@ -6,9 +6,9 @@ use std::alloc::Global;
 use std::fs;
 use std::rt::Files;
 
-/// The script that the lines spell, each ended by a line feed. `@NAME` stands for the lines of the
-/// file `NAME.script` among the cases, and `@FIRST..LAST TEXT` for a line TEXT for each number, in
-/// which `{}` is the number and `{+}` the one after it.
+/// Returns the script of the lines, each ended by a line feed. `@NAME` means the lines of the file
+/// `NAME.script` among the cases, and `@FIRST..LAST TEXT` a line TEXT for each number, in which
+/// `{}` is the number and `{+}` the one after it.
 pub fn script_of<R: Files + AllocGlobal>(
     rt: &R,
     alloc: Global,
@@ -21,7 +21,7 @@ pub fn script_of<R: Files + AllocGlobal>(
     Ok(script)
 }
 
-/// Adds what the line spells.
+/// Adds what the line means.
 fn push_spelled<R: Files + AllocGlobal>(
     rt: &R,
     alloc: Global,

@@ -1,12 +1,15 @@
-//! What a command gave, as text.
+//! The output of a command, as text.
 
 use anyhow::Result;
 use std::alloc::Global;
 
-/// What a command gave.
+/// The output of a command.
 pub struct Told {
+    /// The exit status.
     pub status: u8,
+    /// The bytes on standard output.
     pub out: Vec<u8>,
+    /// The bytes on standard error.
     pub err: Vec<u8>,
 }
 
@@ -17,7 +20,7 @@ impl Drop for Told {
 }
 
 impl Told {
-    /// What a command gives that tells nothing.
+    /// Returns the output of a command that prints nothing.
     pub fn nothing(alloc: Global) -> Told {
         Told {
             status: 0,
@@ -26,7 +29,7 @@ impl Told {
         }
     }
 
-    /// What a command gives that prints a text.
+    /// Returns the output of a command that prints a text.
     pub fn printed(alloc: Global, text: String) -> Told {
         Told {
             status: 0,
@@ -35,7 +38,7 @@ impl Told {
         }
     }
 
-    /// What a question gives: the status 0 for yes and 1 for no.
+    /// Returns the output of a check: the status 0 for yes and 1 for no.
     pub fn answer(alloc: Global, is_so: bool) -> Told {
         Told {
             status: if is_so { 0 } else { 1 },
@@ -44,13 +47,13 @@ impl Told {
         }
     }
 
-    /// Whether the two are equal in all that they tell.
+    /// Returns whether the two are equal in all parts.
     pub fn is(&self, other: &Told) -> bool {
         self.status == other.status && self.out == other.out && self.err == other.err
     }
 
-    /// The lines of a session: those of standard output, those of standard error, each behind `! `,
-    /// and a status other than 0 in brackets.
+    /// Returns the lines of a session: those of standard output, those of standard error, each
+    /// after `! `, and a status other than 0 in brackets.
     pub(crate) fn lines(&self, alloc: Global) -> Result<Vec<String>> {
         let mut lines = Vec::new(alloc);
         push_lines(alloc, &mut lines, "", self.out.as_slice())?;

@@ -8,7 +8,7 @@ use std::rt::Files;
 use std::test::Fail;
 use std::{fs, io};
 
-/// Makes an empty folder for a test, also where a run that failed has left one.
+/// Makes an empty folder for a test, even if a run that failed has left one.
 fn fresh<R: Files + AllocGlobal>(rt: &R, folder: &str) -> io::Result<()> {
     let _ = fs::remove_dir_all(rt, folder);
     fs::create_dir(rt, folder)
@@ -35,7 +35,7 @@ fn link<R: Files + AllocGlobal>(rt: &R, folder: &str, name: &str, to: &str) -> R
     Ok(symlink(rt, to, path.as_str())?)
 }
 
-/// Whether the file is there with this text.
+/// Returns whether the file is there with this text.
 fn has(files: &BTreeMap<String, Vec<u8>>, name: &str, text: &str) -> bool {
     match files.get(name) {
         Some(bytes) => bytes.as_slice() == text.as_bytes(),
@@ -67,7 +67,7 @@ fn folders_below_are_loaded(rt: HostRuntime) -> Result<(), Fail> {
     Ok(fs::remove_dir_all(&rt, "folders_below_are_loaded")?)
 }
 
-/// Whether a load and a read of the folder fail, and both are counted.
+/// Returns whether a load and a read of the folder fail, and both are counted.
 fn fails<R: Files + AllocGlobal + Clone + Drop>(rt: &R, path: String) -> bool {
     let mut folder = Disk::new(rt, path, Depth::Below);
     let loaded = load(rt.alloc(), &mut folder).err() == Some(LoadFault::Folder);
@@ -113,7 +113,7 @@ fn a_folder_in_memory_is_loaded(rt: HostRuntime) -> Result<(), Fail> {
     Ok(())
 }
 
-/// Files of which two have the ending `.json`.
+/// Files, two of which have the ending `.json`.
 const STARTS: [(&str, &str); 4] = [
     ("a.json", "1234"),
     ("b.txt", "56"),

@@ -14,7 +14,7 @@ use std::alloc::Global;
 use std::marker::Model;
 use std::test::Fail;
 
-/// A name with its length, which an object's members are read as here.
+/// A name with its length, as a reading of an object's member.
 #[derive(Drop)]
 struct Named {
     name: Text,
@@ -38,7 +38,7 @@ impl FromMember for Named {
     }
 }
 
-/// What the members of an object are read as.
+/// Reads the members of an object.
 fn members(alloc: Global, json: &str) -> Result<Result<Items<Named>, ReadFault>, Fail> {
     let value = Value::from_str(alloc, json)?;
     Ok(read_members(alloc, &value))

@@ -40,7 +40,7 @@ const CONSISTENT: [&str; 3] = [
 679b4b8513b021b16a27f6d2a35484703129129f35b6cdfe418ef6473b1f8f23.c",
 ];
 
-/// A file, and how often it was read.
+/// A file, and the number of its reads.
 struct Counted {
     bytes: Vec<u8>,
     reads: AtomicU64,
@@ -52,7 +52,7 @@ impl Drop for Counted {
     }
 }
 
-/// A folder in memory that counts how often each file was read. Threads may share it or not.
+/// A folder in memory that counts the reads of each file. Threads may share it or not.
 struct Counting {
     files: BTreeMap<String, Counted>,
     is_shared: bool,
@@ -70,12 +70,12 @@ impl Drop for Counting {
 }
 
 impl Counting {
-    /// How often the file of that name was read, if it is there.
+    /// Returns the number of reads of the file of that name, if it is there.
     fn reads(&self, name: &str) -> Option<u64> {
         Some(self.files.get(name)?.reads.load(Ordering::SeqCst))
     }
 
-    /// The measure of the file of that name, which is then counted as read once more.
+    /// Returns the measure of the file of that name, and counts one more read.
     fn counted(&self, name: &str, need: Need) -> Option<Measure>
         ensures measure { IfSome result (IsMeasure need) }
     {
@@ -177,7 +177,7 @@ impl Made {
     }
 }
 
-/// The cycle up to the searches for these paths.
+/// Runs the cycle up to the searches for these paths.
 fn course(alloc: Global, repo: &Repo, wanted: &[String]) -> Result<Course, Fail> {
     let root = repo.metadata.get("1.root.json").ok_or("a first root")?;
     let trusted = Trusted::from_root(alloc, root.as_slice())?;
@@ -186,7 +186,8 @@ fn course(alloc: Global, repo: &Repo, wanted: &[String]) -> Result<Course, Fail>
     Ok(follow_alone(alloc, &trusted, repo, now, wanted, &limits)?)
 }
 
-/// The wanted paths: two that are listed, of which the first is wanted twice, and one that isn't.
+/// Returns the wanted paths: two that are listed, the first of which is wanted twice, and one that
+/// isn't.
 fn wanted(alloc: Global) -> Result<Vec<String>, AllocError> {
     let mut paths = Vec::new(alloc);
     for path in ["a", "b", "a", "d"] {
@@ -195,7 +196,7 @@ fn wanted(alloc: Global) -> Result<Vec<String>, AllocError> {
     Ok(paths)
 }
 
-/// The lines of the outcome that those threads and the folder's files come to.
+/// Returns the lines of the outcome with those threads and the folder's files.
 fn closed<R: Threads + Sync>(
     rt: &R,
     alloc: Global,
@@ -220,7 +221,7 @@ ok \"a\" 1 \"targets\"
 no \"d\" NotFound
 ";
 
-/// Whether so many threads read the files of these names once, once and never.
+/// Returns whether that many threads read the files of these names once, once and never.
 fn are_read_once<R: Threads + Sync>(
     rt: &R,
     alloc: Global,

@@ -1,13 +1,14 @@
-//! A judge that is refused memory once.
+//! A judge that is out of memory once.
 
 use cjson::NoMemory;
 use keys::{Ask, Direct, Judge};
 
-/// Answers as the plain judge does, and is refused memory at one of its asks, from 1. It counts
-/// them.
+/// The plain judge, which counts its checks and is out of memory at one of them.
 #[derive(Drop)]
 pub struct Counting {
+    /// Number of checks.
     pub asks: u32,
+    /// The check that is out of memory, from 1.
     pub refused_at: u32,
 }
 

@@ -1,4 +1,4 @@
-//! Cycles that remember verdicts, one of which is refused memory at a question.
+//! Cycles that cache verdicts, one of which is out of memory at a check.
 
 use crate::judges::Counting;
 use keys::{Direct, Judge};
@@ -35,8 +35,8 @@ write snapshot 2 1
 write timestamp 2 1
 ";
 
-/// What a cycle gave: the text of its state, none where memory was refused, and how many questions
-/// were answered from the cache and put to the other judge.
+/// The result of a cycle: the text of its state, or None if it was out of memory, the number of
+/// cache hits, and the number of checks by the inner judge.
 struct Cycle {
     text: Option<Vec<u8>>,
     remembered: u64,
@@ -53,7 +53,7 @@ impl Drop for Cycle {
     }
 }
 
-/// The repository of a script that makes no target.
+/// Makes the repository of a script without targets.
 fn repository(alloc: Global, script: &str) -> Result<Repo, Fail> {
     let mut metadata = BTreeMap::new(alloc);
     for (name, bytes) in make(alloc, script)? {
@@ -74,7 +74,7 @@ fn insert(
     Ok(())
 }
 
-/// The state that begins with a repository's first root.
+/// Returns the state that begins with a repository's first root.
 fn first_state(alloc: Global, repo: &Repo) -> Result<Trusted, Fail> {
     let root = repo.metadata.get("1.root.json").ok_or("a first root")?;
     Ok(Trusted::from_root(alloc, root.as_slice())?)
@@ -84,7 +84,7 @@ fn moment() -> Result<Moment, Fail> {
     Ok(Moment::read("2026-01-01T00:00:00Z").ok_or("a moment")?)
 }
 
-/// The state of a cycle that ends ready, where no judge is refused memory.
+/// Returns the state of a cycle that ends ready, with a judge that is never out of memory.
 fn plain(alloc: Global, trusted: &Trusted, repo: &Repo) -> Result<Trusted, Fail> {
     let (state, end) = advance(alloc, trusted, repo, moment()?, &mut Direct)?;
     if !matches!(end, End::Ready) {
@@ -93,13 +93,13 @@ fn plain(alloc: Global, trusted: &Trusted, repo: &Repo) -> Result<Trusted, Fail>
     Ok(state)
 }
 
-/// The state after a cycle over a repository, from its first root.
+/// Returns the state after a cycle over a repository, from its first root.
 fn settled(alloc: Global, repo: &Repo) -> Result<Trusted, Fail> {
     let first = first_state(alloc, repo)?;
     plain(alloc, &first, repo)
 }
 
-/// The text of the state after a cycle, none where memory was refused.
+/// Returns the text of the state after a cycle, or None if it was out of memory.
 fn text_after<J: Judge>(
     alloc: Global,
     trusted: &Trusted,
@@ -112,8 +112,8 @@ fn text_after<J: Judge>(
     }
 }
 
-/// A cycle over a cache, where the other judge is refused memory at one of its asks, if it comes to
-/// that.
+/// Runs a cycle over a cache. The inner judge is out of memory at one of its checks, if it makes
+/// that many.
 fn remembering(
     alloc: Global,
     cache: &mut Cache,
@@ -136,8 +136,8 @@ fn remembering(
     })
 }
 
-/// Two cycles that share a cache: the first is over the older repository, and the second over the
-/// newer one, where the other judge is refused memory at one of its asks.
+/// Runs two cycles that share a cache: the first over the older repository, and the second over the
+/// newer one, in which the inner judge is out of memory at one of its checks.
 fn refused(
     alloc: Global,
     cache: &mut Cache,
@@ -153,7 +153,7 @@ fn refused(
     Ok(())
 }
 
-/// The cycle over the newer repository after these two.
+/// Runs the cycle over the newer repository after these two.
 fn third(
     alloc: Global,
     state: &Trusted,
@@ -165,13 +165,13 @@ fn third(
     remembering(alloc, &mut cache, state, repos.1, 0)
 }
 
-/// The text of the state of a cycle where no judge is refused memory.
+/// Returns the text of the state of a cycle with a judge that is never out of memory.
 fn plain_text(alloc: Global, state: &Trusted, repo: &Repo) -> Result<Vec<u8>, Fail> {
     Ok(plain(alloc, state, repo)?.to_text(alloc)?)
 }
 
-/// Whether the third cycle leads to the wanted state, and puts so many questions to the cache and
-/// to the other judge.
+/// Returns whether the third cycle leads to the wanted state, with that many cache hits and checks
+/// by the inner judge.
 fn is_third(
     alloc: Global,
     state: &Trusted,
@@ -189,9 +189,9 @@ fn is_third(
     )
 }
 
-/// A cycle asks for the signature of the timestamp, the digest and the signature of the snapshot,
-/// and those of the targets file, in this order. Of what was answered before the refusal, the
-/// verdicts on signatures are remembered.
+/// A cycle checks the signature of the timestamp, the digest and the signature of the snapshot, and
+/// those of the targets file, in this order. The verdicts on signatures before the error are
+/// cached.
 fn all_thirds(alloc: Global, state: &Trusted, repos: (&Repo, &Repo)) -> Result<bool, Fail> {
     let wanted = plain_text(alloc, state, repos.1)?;
     let rows = [(1, 0, 5), (2, 1, 4), (3, 1, 4), (4, 2, 3), (5, 2, 3)];
@@ -203,7 +203,7 @@ fn all_thirds(alloc: Global, state: &Trusted, repos: (&Repo, &Repo)) -> Result<b
     Ok(true)
 }
 
-/// The third cycles over two repositories, from the state after a cycle over the older one.
+/// Runs the third cycles over two repositories, from the state after a cycle over the older one.
 fn thirds_over(alloc: Global, older: &Repo, newer: &Repo) -> Result<bool, Fail> {
     let state = settled(alloc, older)?;
     all_thirds(alloc, &state, (older, newer))

@@ -1,5 +1,5 @@
-//! Tests of several layers that take Rust: folders, judges and writers that refuse, links, and a
-//! form of a test's own.
+//! Tests of several layers that need Rust: folders, judges and writers that fail, links, and a form
+//! of a test's own.
 #![tactic(auto)]
 
 #[cfg(test)]

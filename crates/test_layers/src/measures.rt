@@ -1,12 +1,12 @@
-//! Measures of what a reader gives, a piece at a time.
+//! Measures of what a reader returns, a piece at a time.
 
 use folder::{Measure, Need};
 use std::alloc::{AllocError, Global};
 use std::io::{self, ErrorKind, Read};
 use std::test::Fail;
 
-/// Lengths, and what `sha256sum` and `sha512sum` print of so many first bytes of the pattern, which
-/// another program wrote.
+/// Lengths, and what `sha256sum` and `sha512sum` print of that many first bytes of the pattern,
+/// which another program wrote.
 const DIGESTS: [(usize, &str, &str); 4] = [
     (
         0,
@@ -34,7 +34,7 @@ feb61e5618d9d574552b7e2788d674d7144ea2062b1500173528afb3352e55a4",
     ),
 ];
 
-/// A reader of bytes in memory that gives at most so many at once. Its first calls succeed, and all
+/// A reader of bytes in memory that returns pieces up to a size. Its first calls succeed, and all
 /// later ones fail.
 struct Pieces {
     bytes: Vec<u8>,
@@ -68,7 +68,7 @@ impl Read for Pieces {
     }
 }
 
-/// The reader of so many bytes of the pattern, which goes through 0 to 250 again and again.
+/// Returns the reader of `count` bytes of the pattern, which goes through 0 to 250 again and again.
 fn reader_of(alloc: Global, count: usize, piece: usize, calls: u64) -> Result<Pieces, AllocError> {
     let mut bytes = Vec::with_capacity(alloc, count)?;
     for place in 0..count {
@@ -82,7 +82,7 @@ fn reader_of(alloc: Global, count: usize, piece: usize, calls: u64) -> Result<Pi
     })
 }
 
-/// Both digests of at most so many bytes.
+/// Returns the need for both digests of at most `up_to` bytes.
 fn both(up_to: u64) -> Need {
     Need {
         up_to,
@@ -91,7 +91,7 @@ fn both(up_to: u64) -> Need {
     }
 }
 
-/// Whether the measure has this length and both digests, in lower case.
+/// Returns whether the measure has this length and both digests, in lower case.
 fn is(
     alloc: Global,
     measure: &Measure,
@@ -110,8 +110,8 @@ fn is(
     )
 }
 
-/// Whether all lengths are measured right by pieces of that size, where `more` bytes than there are
-/// may be read.
+/// Returns whether all lengths are measured right by pieces of that size, if `more` bytes than
+/// there are may be read.
 fn are_right(alloc: Global, piece: usize, more: u64) -> Result<bool, Fail> {
     for (count, sha256, sha512) in DIGESTS {
         let mut reader = reader_of(alloc, count, piece, u64::MAX)?;
@@ -134,8 +134,8 @@ fn pieces_of_any_size_are_measured(rt: HostRuntime) -> Result<(), Fail> {
     Ok(())
 }
 
-/// Whether no more than `up_to` bytes of 65,537 are read and measured, as the row of that number
-/// says.
+/// Returns whether no more than `up_to` bytes of 65,537 are read and measured, as the row of that
+/// number says.
 fn is_cut(alloc: Global, row: usize) -> Result<bool, Fail> {
     let Some((up_to, sha256, sha512)) = DIGESTS.get(row) else {
         return Ok(false);
@@ -153,8 +153,8 @@ fn no_more_is_read_than_is_needed(rt: HostRuntime) -> Result<(), Fail> {
     Ok(())
 }
 
-/// The length that is measured of so many bytes where the first calls of the reader succeed, or the
-/// kind of its failure.
+/// Returns the length that is measured of `count` bytes if the first `calls` calls of the reader
+/// succeed, or the kind of its error.
 fn length_after(
     alloc: Global,
     (count, piece, up_to): (usize, usize, u64),
@@ -167,7 +167,8 @@ fn length_after(
     })
 }
 
-/// Whether a measure needs exactly so many calls of the reader, and fails at each of them.
+/// Returns whether a measure needs exactly that many calls of the reader, and fails at each of
+/// them.
 fn takes(alloc: Global, row: (usize, usize, u64), calls: u64, length: u64) -> Result<bool, Fail> {
     for fewer in 0..calls {
         if length_after(alloc, row, fewer)? != Err(ErrorKind::ConnectionReset) {
@@ -177,7 +178,7 @@ fn takes(alloc: Global, row: (usize, usize, u64), calls: u64, length: u64) -> Re
     Ok(length_after(alloc, row, calls)? == Ok(length))
 }
 
-/// Rows of how many bytes there are, how many the reader gives at once, and how many are read at
+/// Rows of how many bytes there are, how many the reader returns at once, and how many are read at
 /// most; and then of how many calls that takes, and how many bytes are measured. One more call
 /// finds the end, unless all is read that may be. No more than 65,536 bytes are taken at once.
 #[test]

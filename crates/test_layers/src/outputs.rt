@@ -1,11 +1,11 @@
-//! Texts that are written, and failures that are told.
+//! Texts that are written, and failures that are printed.
 
 use failure::{Failure, tell_failure};
 use report::{put, root_line};
 use std::io::{self, ErrorKind, Write};
 use std::test::Fail;
 
-/// A writer that refuses everything.
+/// A writer whose writes all fail.
 #[derive(Drop)]
 struct Refuses;
 

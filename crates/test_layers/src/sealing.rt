@@ -13,7 +13,7 @@ use std::test::Fail;
 const NOBODY: &str = "{\"signatures\":[],\"signed\":{\"_type\":\"mirrors\",\"expires\":\"\",\
 \"spec_version\":\"1.0.0\",\"version\":1}}";
 
-/// The key of the byte, under the id.
+/// Returns the key of the byte, under the id.
 fn signer(alloc: Global, id: &str, byte: u8) -> Result<Signer, Fail> {
     Ok(Signer {
         id: String::from_str(alloc, id)?,
@@ -21,7 +21,7 @@ fn signer(alloc: Global, id: &str, byte: u8) -> Result<Signer, Fail> {
     })
 }
 
-/// A file that is of no kind, signed by the signers at the places.
+/// Returns a file that is of no kind, signed by the signers at the places.
 fn sealed(
     alloc: Global,
     signers: &mut [Signer],
@@ -39,7 +39,7 @@ fn sealed(
     Ok(seal(alloc, &value, signers, by))
 }
 
-/// Whether the entry at the place is the key's, and its signature is valid.
+/// Returns whether the entry at the place is the key's, and its signature is valid.
 fn is_signed(alloc: Global, doc: &Doc, place: usize, id: &str, key: &Public) -> Result<bool, Fail> {
     let entry = doc.entries().get(place).ok_or("an entry")?;
     let sig = hex::decode(alloc, entry.sig.as_str())?;

@@ -12,7 +12,7 @@ use folder::{Folder, LoadFault};
 use std::alloc::{AllocError, Global};
 use std::collections::BTreeMap;
 
-/// A folder that gives one list and one text a name, and fails after some calls.
+/// A folder that returns one list and one text for each name, and fails after some calls.
 pub struct Memory {
     names: Vec<String>,
     files: BTreeMap<String, Vec<u8>>,
@@ -32,7 +32,7 @@ impl Drop for Memory {
 }
 
 impl Memory {
-    /// The folder of these files, where `calls` calls succeed and all later ones fail.
+    /// Returns the folder of these files. `calls` calls succeed, and all later ones fail.
     pub fn of(alloc: Global, files: &[(&str, &str)], calls: u64) -> Result<Memory, AllocError> {
         let mut folder = Memory {
             names: Vec::new(alloc),

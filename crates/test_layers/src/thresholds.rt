@@ -1,4 +1,4 @@
-//! A count of signers whose judge is refused memory.
+//! A count of signers whose judge is out of memory.
 
 use crate::judges::Counting;
 use cjson::{NoMemory, signed_bytes};
@@ -55,7 +55,7 @@ fn role(alloc: Global, one: &Signer, two: &Signer) -> Result<RoleKeys, Fail> {
     Ok(RoleKeys::read(alloc, &value)?.ok_or("a role")?)
 }
 
-/// What is answered of two good entries, where the judge is refused memory at an ask.
+/// Returns the result for two valid entries, if the judge is out of memory at one of its checks.
 fn answer(alloc: Global, judge: &mut Counting) -> Result<Result<bool, NoMemory>, Fail> {
     let one = Signer::new(alloc, 1)?;
     let two = Signer::new(alloc, 2)?;

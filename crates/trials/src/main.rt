@@ -1,11 +1,11 @@
-//! Runs sessions of the command line, with what a keeper or an updater does, gets wrong or is
-//! refused, and with mirrors that serve one repository after another: newer, older, changed, cut
-//! off or made to cost. Then it runs rows of worked values, of one file and one key, of the cycle,
-//! and of threads that share a board, which gates hold up at chosen places. It prints a line for
-//! each file, with the steps that gave something else than is written.
+//! Runs sessions of the command line, which cover normal use, usage errors and system errors, and
+//! mirrors that serve one repository after another: newer, older, changed, truncated or made to
+//! cost. Then it runs rows of worked values, of one file and one key, of the cycle, and of threads
+//! that share a board, which gates block at chosen places. Prints a line for each file, with the
+//! steps whose output differs from the expected one.
 //!
-//! It takes no word. It is run in a folder that holds the folder `cases` and nothing else. The
-//! status is 0 where all was as written, else 1, and 2 where something couldn't be run.
+//! Takes no arguments. Runs in a folder that contains the folder `cases` and nothing else. The
+//! status is 0 if all output was as expected, else 1, and 2 if something couldn't be run.
 #![tactic(auto)]
 
 mod rows;

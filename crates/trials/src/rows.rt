@@ -8,9 +8,9 @@ use std::rt::Files;
 use std::sync::Wait;
 use std::thread::Threads;
 
-/// Runs the rows of the files `cases/NAME.rows` of the folder that it is run in, as sessions are
-/// run, and prints what [`run_all`] does. It answers 0 where all was as written, else 1, and 2
-/// where the rows couldn't be run, which is said on standard error.
+/// Runs the rows of the files `cases/NAME.rows` of the current folder, as sessions are run, and
+/// prints what [`run_all`] does. Returns 0 if all output was as expected, else 1, and 2 if the rows
+/// couldn't be run, which is printed on standard error.
 pub fn run_rows<F, T, O: Write, E: Write>(
     files: &F,
     threads: &T,
@@ -38,7 +38,7 @@ where
     }
 }
 
-/// Does a step: of files and keys, of the cycle, or of threads.
+/// Runs a step: of files and keys, of the cycle, or of threads.
 fn perform<F: Files + AllocGlobal + Clone + Drop, T: Threads + Wait + Sync>(
     files: &F,
     threads: &T,

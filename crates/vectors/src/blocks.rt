@@ -8,7 +8,7 @@ use sha2::{Digest, Sha256};
 use std::alloc::Global;
 use std::simd::prelude::*;
 
-/// The digests of four messages, each with whether the plain program gives the same.
+/// Returns the digests of four messages, each with whether the plain program returns the same.
 pub fn digests(alloc: Global, step: &Step) -> Result<String> {
     let messages = [
         message(alloc, step, 0)?,
@@ -37,7 +37,7 @@ fn push_digest(
     Ok(())
 }
 
-/// The message of 55 bytes that the word of that place spells in hexadecimal digits.
+/// Returns the message of 55 bytes that the word of that place encodes in hexadecimal digits.
 fn message(alloc: Global, step: &Step, place: usize) -> Result<[u8; 55]> {
     let bytes = hex::decode(alloc, step.word(place)?)?;
     if bytes.len() != 55 {
@@ -48,7 +48,7 @@ fn message(alloc: Global, step: &Step, place: usize) -> Result<[u8; 55]> {
     Ok(message)
 }
 
-/// The digests of four messages, made in four lanes.
+/// Returns the digests of four messages, computed in four lanes.
 fn in_lanes(messages: &[[u8; 55]; 4]) -> [[u8; 32]; 4] {
     let [a, b, c, d] = messages;
     let prefixes = prefix_words(&[front(a), front(b), front(c), front(d)]);
@@ -68,14 +68,14 @@ fn in_lanes(messages: &[[u8; 55]; 4]) -> [[u8; 32]; 4] {
     ]
 }
 
-/// The first 22 bytes.
+/// Returns the first 22 bytes.
 fn front(message: &[u8; 55]) -> [u8; 22] {
     let mut front = [0u8; 22];
     front.copy_from_slice(&message[..22]);
     front
 }
 
-/// The last 32 bytes.
+/// Returns the last 32 bytes.
 fn back(message: &[u8; 55]) -> [u8; 32] {
     let mut back = [0u8; 32];
     back.copy_from_slice(&message[23..]);

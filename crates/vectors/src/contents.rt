@@ -17,7 +17,7 @@ fn told(alloc: Global, answer: Result<(), Stop>) -> Result<String> {
     }
 }
 
-/// The limit that the first word says, or none for `-`.
+/// Returns the limit of the first word, or none for `-`.
 fn limit_of(step: &Step) -> Result<Option<u64>> {
     match step.word(0)? {
         "-" => Ok(None),
@@ -25,7 +25,7 @@ fn limit_of(step: &Step) -> Result<Option<u64>> {
     }
 }
 
-/// The good file of a kind with the new part in place of the old.
+/// Returns the valid file of a kind with the new part in place of the old.
 fn file_with<A: Reading + Drop, R: Files + AllocGlobal + Clone + Drop>(
     layers: &Layers<'_, R>,
     kind: &str,
@@ -41,7 +41,7 @@ fn read<A: Reading + Drop>(alloc: Global, signed: &str) -> Result<Part<A>> {
     Ok(Part::read(alloc, file(alloc, signed)?)?)
 }
 
-/// What the check of a listing with the members answers.
+/// Checks a listing with the members, and returns the result.
 pub fn check_listing<R: Files + AllocGlobal + Clone + Drop>(
     layers: &Layers<'_, R>,
     step: &Step,
@@ -59,7 +59,7 @@ pub fn check_listing<R: Files + AllocGlobal + Clone + Drop>(
     told(layers.alloc, answer)
 }
 
-/// What the check of a target with the members answers.
+/// Checks a target with the members, and returns the result.
 pub fn check_target<R: Files + AllocGlobal + Clone + Drop>(
     layers: &Layers<'_, R>,
     step: &Step,

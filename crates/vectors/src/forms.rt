@@ -10,7 +10,7 @@ use cjson::text::Text;
 use sessions::Step;
 use std::alloc::Global;
 
-/// A whole number of at least so much.
+/// Reads a whole number with a lower bound.
 pub fn at_least(alloc: Global, step: &Step) -> Result<String> {
     let json = Json::read(alloc, step.text_behind(1))?;
     match step.word(0)? {
@@ -38,7 +38,7 @@ fn number<const LEAST: u64, const MOST: u64>(
     }
 }
 
-/// So many bytes that a text spells in hexadecimal digits.
+/// Reads the bytes, a given number of them, that a text encodes in hexadecimal digits.
 pub fn digits(alloc: Global, step: &Step) -> Result<String> {
     let json = Json::read(alloc, step.text_behind(1))?;
     match step.word(0)? {
@@ -55,7 +55,7 @@ fn spelled<const N: usize>(alloc: Global, bytes: Result<[u8; N], ReadFault>) -> 
     }
 }
 
-/// A member that has to be there, and is a truth.
+/// Reads a required member, which is a truth.
 pub fn needed_truth(alloc: Global, step: &Step) -> Result<String> {
     let json = Json::read(alloc, step.text_behind(1))?;
     truth(alloc, needed_member(alloc, &json.tree, step.word(0)?))
@@ -68,7 +68,7 @@ fn truth(alloc: Global, truth: Result<bool, ReadFault>) -> Result<String> {
     }
 }
 
-/// A member that may be there, and then is a truth.
+/// Reads an optional member, which is a truth.
 pub fn optional_truth(alloc: Global, step: &Step) -> Result<String> {
     let json = Json::read(alloc, step.text_behind(1))?;
     truth_or_none(alloc, optional_member(alloc, &json.tree, step.word(0)?))
@@ -82,7 +82,7 @@ fn truth_or_none(alloc: Global, found: Result<Option<bool>, ReadFault>) -> Resul
     }
 }
 
-/// A member that has to be there, and is a text.
+/// Reads a required member, which is a text.
 pub fn needed_text(alloc: Global, step: &Step) -> Result<String> {
     let json = Json::read(alloc, step.text_behind(1))?;
     quoted(alloc, needed_member(alloc, &json.tree, step.word(0)?))
@@ -95,7 +95,7 @@ fn quoted(alloc: Global, text: Result<Text, ReadFault>) -> Result<String> {
     }
 }
 
-/// A list of truths, as it is lent and as it is given away.
+/// Reads a list of truths, as a slice and as a vector.
 pub fn list(alloc: Global, step: &Step) -> Result<String> {
     let json = Json::read(alloc, step.text_behind(0))?;
     match Items::<bool>::from_json(alloc, &json.tree) {

@@ -7,7 +7,7 @@ use lms::Public;
 use sessions::Step;
 use std::alloc::Global;
 
-/// The id of a key object, or why it has none.
+/// Returns the id of a key object, or why it has none.
 pub fn id(alloc: Global, step: &Step) -> Result<String> {
     let json = Json::read(alloc, step.text_behind(0))?;
     Ok(match key_id(alloc, &json.tree) {
@@ -16,7 +16,7 @@ pub fn id(alloc: Global, step: &Step) -> Result<String> {
     })
 }
 
-/// The usable keys of an object of keys.
+/// Returns the usable keys of an object of keys.
 pub fn ring(alloc: Global, step: &Step) -> Result<String> {
     let json = Json::read(alloc, step.text_behind(0))?;
     match KeyRing::read(alloc, &json.tree)? {
@@ -25,7 +25,7 @@ pub fn ring(alloc: Global, step: &Step) -> Result<String> {
     }
 }
 
-/// How many keys there are, and the id and the public value of each.
+/// Returns the number of keys, and the id and the public value of each.
 pub fn keys_of(alloc: Global, ring: &KeyRing) -> Result<String> {
     let mut text = format!(in alloc; "keys {}\n", ring.keys().len())?;
     for key in ring.keys() {
@@ -35,7 +35,7 @@ pub fn keys_of(alloc: Global, ring: &KeyRing) -> Result<String> {
     Ok(text)
 }
 
-/// The threshold and the ids of a role.
+/// Returns the threshold and the ids of a role.
 pub fn role(alloc: Global, step: &Step) -> Result<String> {
     let json = Json::read(alloc, step.text_behind(0))?;
     let mut text = String::new(alloc);
@@ -56,7 +56,7 @@ pub fn push_role(text: &mut String, role: &RoleKeys) -> Result<()> {
     Ok(())
 }
 
-/// The bytes of a public key that is supported, and whether they are read as the same key.
+/// Returns the bytes of a supported public key, and whether they are read as the same key.
 pub fn public_key(alloc: Global, step: &Step) -> Result<String> {
     let bytes = hex::decode(alloc, step.word(0)?)?;
     let Some(public) = Public::read(&bytes) else {

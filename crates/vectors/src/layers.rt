@@ -9,7 +9,7 @@ use std::alloc::Global;
 use std::fs;
 use std::rt::Files;
 
-/// The layers of one file and one key, and the files that rows leave for later ones.
+/// The commands of one file and one key, and the files that rows leave for later ones.
 #[derive(Clone, Copy, Drop)]
 pub struct Layers<'a, R> {
     rt: &'a R,
@@ -17,17 +17,17 @@ pub struct Layers<'a, R> {
 }
 
 impl<'a, R: Files + AllocGlobal + Clone + Drop> Layers<'a, R> {
-    /// The layers over a place of files.
+    /// Returns the commands over a place of files.
     pub fn new(rt: &'a R, alloc: Global) -> Layers<'a, R> {
         Layers { rt, alloc }
     }
 
-    /// The text of a file.
+    /// Returns the text of a file.
     pub(crate) fn text(&self, name: &str) -> Result<String> {
         Ok(fs::read_to_string(self.rt, name)?)
     }
 
-    /// Whether there is a file of that name.
+    /// Returns whether there is a file of that name.
     pub(crate) fn has(&self, name: &str) -> Result<bool> {
         Ok(fs::exists(self.rt, name)?)
     }
@@ -37,8 +37,8 @@ impl<'a, R: Files + AllocGlobal + Clone + Drop> Layers<'a, R> {
         Ok(fs::write(self.rt, name, text)?)
     }
 
-    /// What a step prints of files and keys, or nothing where it has another command. An error says
-    /// why the step can't be done.
+    /// Returns what a step prints of files and keys, or None if it has another command. An error is
+    /// why the step can't be run.
     pub fn printed(&self, step: &Step) -> Result<Option<String>> {
         let printed = match step.name()? {
             "verify" => signatures::verified(self, step),
@@ -56,7 +56,7 @@ impl<'a, R: Files + AllocGlobal + Clone + Drop> Layers<'a, R> {
     }
 }
 
-/// What a step prints of texts and JSON.
+/// Returns what a step prints of texts and JSON.
 fn of_texts(alloc: Global, step: &Step) -> Result<Option<String>> {
     let printed = match step.name()? {
         "canonical" => texts::canonical_text(alloc, step),
@@ -74,7 +74,7 @@ fn of_texts(alloc: Global, step: &Step) -> Result<Option<String>> {
     Ok(Some(printed?))
 }
 
-/// What a step prints of keys, moments and digests.
+/// Returns what a step prints of keys, moments and digests.
 fn of_values(alloc: Global, step: &Step) -> Result<Option<String>> {
     let printed = match step.name()? {
         "key-id" => key_rings::id(alloc, step),

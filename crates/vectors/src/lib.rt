@@ -1,5 +1,5 @@
 //! Rows of worked values of one file and one key: canonical texts, signatures, keys, moments and
-//! what files say. `trials` runs them.
+//! contents of files. `trials` runs them.
 #![tactic(auto)]
 
 mod blocks;

@@ -6,17 +6,17 @@ use moment::Moment;
 use sessions::Step;
 use std::alloc::Global;
 
-/// The moment that a text spells.
+/// Returns the moment that a text encodes.
 pub fn read(alloc: Global, step: &Step) -> Result<String> {
     shown(alloc, Moment::read(step.text_behind(0)))
 }
 
-/// The moment so many seconds after 1970-01-01T00:00:00Z.
+/// Returns the moment that many seconds after 1970-01-01T00:00:00Z.
 pub fn at(alloc: Global, step: &Step) -> Result<String> {
     shown(alloc, Moment::at(step.word(0)?.parse::<u64>()?))
 }
 
-/// Whether the moment of the first seconds is before that of the second ones.
+/// Returns whether the moment of the first seconds is before that of the second ones.
 pub fn before(alloc: Global, step: &Step) -> Result<String> {
     let (one, other) = (moment(step, 0)?, moment(step, 1)?);
     told(alloc, one.is_before(other))
@@ -33,7 +33,7 @@ fn shown(alloc: Global, moment: Option<Moment>) -> Result<String> {
     }
 }
 
-/// The day and the second of a moment.
+/// Returns the day and the second of a moment.
 pub fn spelled(alloc: Global, moment: Moment) -> Result<String> {
     Ok(format!(in alloc; "day {} second {}", moment.day(), moment.second())?)
 }

@@ -1,11 +1,12 @@
-//! How values are read and printed.
+//! The reading and printing of values.
 
 use anyhow::Result;
 use serde_json::Value;
 use std::alloc::Global;
 
-/// A tree of JSON that a row spells.
+/// A tree of JSON, as a row writes it.
 pub struct Json {
+    /// The tree.
     pub tree: Value,
 }
 
@@ -16,25 +17,26 @@ impl Drop for Json {
 }
 
 impl Json {
+    /// Reads the tree of a text.
     pub fn read(alloc: Global, text: &str) -> Result<Json> {
         let tree = Value::from_str(alloc, text)?;
         Ok(Json { tree })
     }
 }
 
-/// The word for a truth.
+/// Returns the word for a truth.
 pub fn yes_or_no(is_so: bool) -> &'static str {
     if is_so { "yes" } else { "no" }
 }
 
-/// The line of a truth.
+/// Returns the line of a truth.
 pub fn told(alloc: Global, is_so: bool) -> Result<String> {
     let word = yes_or_no(is_so);
     Ok(format!(in alloc; "{word}\n")?)
 }
 
-/// Adds the bytes: `\` twice, a byte outside 0x20 to 0x7e as `\x` and two digits, and any other as
-/// it is.
+/// Adds the bytes: `\` twice, a byte outside 0x20 to 0x7e as `\x` and two digits, and any other
+/// unchanged.
 pub fn push_plain(text: &mut String, bytes: &[u8]) -> Result<()> {
     for byte in bytes {
         match *byte {

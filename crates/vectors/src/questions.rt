@@ -1,4 +1,4 @@
-//! Truths of questions, and when two questions are the same.
+//! Results of checks, and whether two checks are the same.
 
 use crate::plain::told;
 use anyhow::{Context, Result, bail};
@@ -13,7 +13,7 @@ const PUBLIC: [u8; 56] = [
     2, 2, 2, 2, 2, 2, 2, 2, 2, 2, 2, 2, 2, 2, 2, 2, 2, 2, 2, 2, 2, 2, 2, 2,
 ];
 
-/// Whether the digest is that of the text.
+/// Returns whether the digest equals that of the text.
 pub fn digest(alloc: Global, step: &Step) -> Result<String> {
     let algorithm = algorithm_of(step.word(0)?)?;
     let digest = hex::decode(alloc, step.word(1)?)?;
@@ -34,7 +34,7 @@ fn algorithm_of(word: &str) -> Result<Algorithm> {
     }
 }
 
-/// Whether two questions are the same.
+/// Returns whether two checks are the same.
 pub fn alike(alloc: Global, step: &Step) -> Result<String> {
     let public = Public::read(&PUBLIC).context("no public key")?;
     let one = ask_of(step.word(0)?, &public)?;
@@ -42,7 +42,7 @@ pub fn alike(alloc: Global, step: &Step) -> Result<String> {
     told(alloc, one.same(&other))
 }
 
-/// The question of a signature in a file at a place, as `a:0`, or of a file's digest, as `a`.
+/// Returns the check of a signature in a file at a place, as `a:0`, or of a file's digest, as `a`.
 fn ask_of<'a>(word: &'a str, public: &'a Public) -> Result<Ask<'a>> {
     match word.split_once(":") {
         Some((file, place)) => Ok(Ask::Signature(SignatureAsk {

@@ -1,4 +1,4 @@
-//! What the readers give of metadata files.
+//! The readings of metadata files.
 
 use crate::key_rings::{keys_of, push_role};
 use crate::layers::Layers;
@@ -15,8 +15,8 @@ use sessions::Step;
 use std::alloc::Global;
 use std::rt::Files;
 
-/// What the good file of a kind is read as, after the change that the lines make: the first one is
-/// the old text, and the second the new one.
+/// Reads the valid file of a kind after the change of the lines: the first line is the old text,
+/// and the second the new one.
 pub fn read<R: Files + AllocGlobal + Clone + Drop>(
     layers: &Layers<'_, R>,
     step: &Step,
@@ -48,7 +48,7 @@ fn read_as(alloc: Global, kind: &str, bytes: Vec<u8>) -> Result<String> {
     }
 }
 
-/// What the file says, after a copy, and whether the copy has its bytes.
+/// Returns the contents of the file, after a copy, and whether the copy has its bytes.
 fn told<A: Reading + Shown + Drop>(alloc: Global, bytes: Vec<u8>) -> Result<String> {
     let given = bytes.clone()?;
     match Part::<A>::read(alloc, bytes) {
@@ -71,9 +71,9 @@ fn copied<A: Reading + Shown + Drop>(
     Ok(text)
 }
 
-/// What is printed of a reading.
+/// The printed form of a reading.
 trait Shown {
-    /// Adds the lines of what the readers give.
+    /// Adds the lines of the reading.
     fn push(&self, alloc: Global, text: &mut String) -> Result<()>;
 }
 

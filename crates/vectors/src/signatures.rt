@@ -44,8 +44,8 @@ impl Vector {
         Ok(format!(in alloc; "{public}\n{message}\n{signature}\n")?)
     }
 
-    /// Makes the change that the words ask for: none, a signature a byte longer or shorter, or bits
-    /// turned in a byte of a part.
+    /// Makes the change of the words: none, a signature a byte longer or shorter, or bits flipped
+    /// in a byte of a part.
     fn change(&mut self, words: &[String]) -> Result<()> {
         match words {
             [] => Ok(()),
@@ -87,7 +87,7 @@ fn turn(bytes: &mut Vec<u8>, at: &str, bits: &str) -> Result<()> {
     Ok(())
 }
 
-/// What stands in a file.
+/// Reads the vector in a file.
 fn vector_in<R: Files + AllocGlobal + Clone + Drop>(
     layers: &Layers<'_, R>,
     name: &str,
@@ -96,7 +96,7 @@ fn vector_in<R: Files + AllocGlobal + Clone + Drop>(
     Vector::read(layers.alloc, text.as_str())
 }
 
-/// Whether the signature in a file is valid, after a change.
+/// Returns whether the signature in a file is valid, after a change.
 pub fn verified<R: Files + AllocGlobal + Clone + Drop>(
     layers: &Layers<'_, R>,
     step: &Step,
@@ -106,7 +106,7 @@ pub fn verified<R: Files + AllocGlobal + Clone + Drop>(
     told(layers.alloc, vector.is_valid()?)
 }
 
-/// The secret key whose identifier and seed have the byte 1 throughout.
+/// Returns the secret key whose identifier and seed have the byte 1 throughout.
 fn secret(alloc: Global, width: &str, height: &str) -> Result<Secret> {
     let width = match width {
         "4" => Width::W4,
@@ -122,8 +122,8 @@ fn secret(alloc: Global, width: &str, height: &str) -> Result<Secret> {
     Ok(Secret::of(alloc, [1; 16], [1; 32], width, height)?)
 }
 
-/// Signs a message six times, leaves the first signature and the sixth in files, and tells of the
-/// first.
+/// Signs a message six times, leaves the first signature and the sixth in files, and returns the
+/// line of the first.
 pub fn sign<R: Files + AllocGlobal + Clone + Drop>(
     layers: &Layers<'_, R>,
     step: &Step,
@@ -151,7 +151,7 @@ fn leave<R: Files + AllocGlobal + Clone + Drop>(
     layers.write(name, text.as_str())
 }
 
-/// The fifth next signature of the message.
+/// Returns the fifth next signature of the message.
 fn fifth_from_here(alloc: Global, secret: &mut Secret, message: &[u8]) -> Result<Vector> {
     for _ in 0..4 {
         secret.sign(message)?;
@@ -159,7 +159,7 @@ fn fifth_from_here(alloc: Global, secret: &mut Secret, message: &[u8]) -> Result
     signed(alloc, secret, message)
 }
 
-/// The next signature of the message.
+/// Returns the next signature of the message.
 fn signed(alloc: Global, secret: &mut Secret, message: &[u8]) -> Result<Vector> {
     Ok(Vector {
         public: Vec::from_slice(alloc, secret.public().bytes())?,
@@ -168,7 +168,7 @@ fn signed(alloc: Global, secret: &mut Secret, message: &[u8]) -> Result<Vector> 
     })
 }
 
-/// What is told of the signature in a file.
+/// Returns the line of the signature in a file.
 pub fn about<R: Files + AllocGlobal + Clone + Drop>(
     layers: &Layers<'_, R>,
     step: &Step,
@@ -177,7 +177,7 @@ pub fn about<R: Files + AllocGlobal + Clone + Drop>(
     tell(layers.alloc, &vector)
 }
 
-/// The root of the key, and the length and the SHA-256 of the signature.
+/// Returns the root of the key, and the length and the SHA-256 of the signature.
 fn tell(alloc: Global, vector: &Vector) -> Result<String> {
     let root = hex::encode(alloc, vector.public.get(24..).context("no root")?)?;
     let digest: [u8; 32] = Sha256::digest(vector.signature.as_slice());
@@ -186,7 +186,7 @@ fn tell(alloc: Global, vector: &Vector) -> Result<String> {
     Ok(format!(in alloc; "root {root}\n{length} bytes of {MOST_SIGNATURE}\nSHA-256 {digest}\n")?)
 }
 
-/// Signs a message with so many leaves of a key of W8 and height 5, and twice more.
+/// Signs a message with a given number of leaves of a key of W8 and height 5, and twice more.
 pub fn leaves(alloc: Global, step: &Step) -> Result<String> {
     let count = step.word(0)?.parse::<u32>()?;
     let message = step.word(1)?.as_bytes();

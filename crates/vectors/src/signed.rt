@@ -1,11 +1,11 @@
-//! Files that nobody signed, made of good ones by a change.
+//! Unsigned files, made of valid ones by a change.
 
 use crate::layers::Layers;
 use anyhow::{Context, Result, bail};
 use std::alloc::Global;
 use std::rt::Files;
 
-/// What the good file of a kind signs.
+/// Returns the `signed` of the valid file of a kind.
 pub fn good<R: Files + AllocGlobal + Clone + Drop>(
     layers: &Layers<'_, R>,
     kind: &str,
@@ -15,7 +15,7 @@ pub fn good<R: Files + AllocGlobal + Clone + Drop>(
     Ok(String::from_str(layers.alloc, text.as_str().trim_end())?)
 }
 
-/// The text with the new part in place of the old, which stands there once.
+/// Returns the text with the new part in place of the old, which is there once.
 pub fn changed(alloc: Global, text: &str, old: &str, new: &str) -> Result<String> {
     let (before, after) = text.split_once(old).context("no place for the change")?;
     if after.split_once(old).is_some() {
@@ -24,7 +24,7 @@ pub fn changed(alloc: Global, text: &str, old: &str, new: &str) -> Result<String
     Ok(format!(in alloc; "{before}{new}{after}")?)
 }
 
-/// A file that signs this text, and that nobody signed.
+/// Returns a file with this `signed` and no signature.
 pub fn file(alloc: Global, signed: &str) -> Result<Vec<u8>> {
     Ok(format!(in alloc; "{{\"signatures\":[],\"signed\":{signed}}}")?.into_bytes())
 }

@@ -6,7 +6,7 @@ use cjson::{Doc, canonical, signed_bytes};
 use sessions::{Step, joined};
 use std::alloc::Global;
 
-/// The canonical text of a tree, or why it has none.
+/// Returns the canonical text of a tree, or why it has none.
 pub fn canonical_text(alloc: Global, step: &Step) -> Result<String> {
     let json = Json::read(alloc, step.text_behind(0))?;
     let mut text = String::new(alloc);
@@ -18,13 +18,13 @@ pub fn canonical_text(alloc: Global, step: &Step) -> Result<String> {
     Ok(text)
 }
 
-/// What the lines are as a document, or their first fault.
+/// Reads the lines as a document, or returns their first fault.
 pub fn document(alloc: Global, step: &Step) -> Result<String> {
     let file = joined(alloc, step.script.as_slice())?;
     read(alloc, file.as_bytes())
 }
 
-/// What the bytes are as a document that are spelled in hexadecimal digits, or their first fault.
+/// Reads the bytes that hexadecimal digits encode as a document, or returns their first fault.
 pub fn document_hex(alloc: Global, step: &Step) -> Result<String> {
     let file = hex::decode(alloc, step.word(0)?)?;
     read(alloc, &file)
@@ -39,7 +39,7 @@ fn read(alloc: Global, file: &[u8]) -> Result<String> {
     Ok(text)
 }
 
-/// Adds what a document signs, the tree of it, and the entries.
+/// Adds what a document signs, its tree, and the entries.
 fn push_document(alloc: Global, text: &mut String, doc: &Doc) -> Result<()> {
     text.push_str("signed ")?;
     push_plain(text, doc.bytes())?;
@@ -56,7 +56,7 @@ fn push_document(alloc: Global, text: &mut String, doc: &Doc) -> Result<()> {
     Ok(())
 }
 
-/// How many bytes are signed of a file in which so many lists stand in one another.
+/// Returns how many bytes are signed of a file with that many nested lists.
 pub fn nests(alloc: Global, step: &Step) -> Result<String> {
     let file = nested(alloc, step.word(0)?.parse::<u32>()?)?;
     Ok(match signed_bytes(alloc, file.as_bytes()) {

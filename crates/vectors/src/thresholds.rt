@@ -10,13 +10,13 @@ use sessions::Step;
 use std::alloc::Global;
 use std::rt::Files;
 
-/// The canonical text of what is signed, which the files here spell otherwise.
+/// The canonical text of what is signed, which the files here write differently.
 const SIGNED: &[u8] = b"{\"a\":1,\"b\":[]}";
 
 /// The file of the members of the object of keys.
 const RING: &str = "ring";
 
-/// Makes a key of a byte, with a type and further members, which signs once. It stands in the ring
+/// Makes a key of a byte, with a type and further members, which signs once. It is in the ring
 /// under its own id, or under that of the line.
 pub fn signer<R: Files + AllocGlobal + Clone + Drop>(
     layers: &Layers<'_, R>,
@@ -32,7 +32,7 @@ pub fn signer<R: Files + AllocGlobal + Clone + Drop>(
     Ok(String::new(alloc))
 }
 
-/// The id of the line, or the key's own where there is no line.
+/// Returns the id of the line, or the key's own if there is no line.
 fn id_for(alloc: Global, step: &Step, key: &str) -> Result<String> {
     match step.script.first() {
         Some(id) => Ok(id.clone()?),
@@ -40,7 +40,7 @@ fn id_for(alloc: Global, step: &Step, key: &str) -> Result<String> {
     }
 }
 
-/// The public key of a byte, and a signature.
+/// Returns the public key of a byte, and a signature.
 fn signed_once(alloc: Global, byte: &str) -> Result<(Public, String)> {
     let byte = byte.parse::<u8>()?;
     let mut secret = Secret::new(alloc, [byte; 16], [byte; 32], Height::H5)?;
@@ -89,7 +89,7 @@ fn add_key<R: Files + AllocGlobal + Clone + Drop>(
     layers.write(RING, members.as_str())
 }
 
-/// What stands in a file of a signer.
+/// Returns a part of a signer's files.
 fn part<R: Files + AllocGlobal + Clone + Drop>(
     layers: &Layers<'_, R>,
     name: &str,
@@ -99,7 +99,7 @@ fn part<R: Files + AllocGlobal + Clone + Drop>(
     layers.text(file.as_str())
 }
 
-/// The id of a signer. A name that no signer has is an id itself.
+/// Returns the id of a signer. A name that no signer has is an id itself.
 fn id_of<R: Files + AllocGlobal + Clone + Drop>(
     layers: &Layers<'_, R>,
     name: &str,
@@ -119,7 +119,7 @@ fn ring<R: Files + AllocGlobal + Clone + Drop>(layers: &Layers<'_, R>) -> Result
     Ok(KeyRing::read(layers.alloc, &json.tree)?.context("no ring")?)
 }
 
-/// The role that lists signers, whose names are joined by commas.
+/// Returns the role that lists signers, whose names are joined by commas.
 fn role<R: Files + AllocGlobal + Clone + Drop>(
     layers: &Layers<'_, R>,
     threshold: &str,
@@ -151,7 +151,7 @@ fn push_comma(text: &mut String) -> Result<()> {
     Ok(())
 }
 
-/// The file with the entries.
+/// Returns the file with the entries.
 fn file<R: Files + AllocGlobal + Clone + Drop>(
     layers: &Layers<'_, R>,
     entries: &[String],
@@ -179,8 +179,8 @@ fn push_entry<R: Files + AllocGlobal + Clone + Drop>(
     Ok(())
 }
 
-/// A signer's signature, `NAME`, or one that is spelled otherwise: `NAME.capitals`, `NAME.short`
-/// without its last digit, `NAME.bad` with a letter in the place of it, or `empty`.
+/// Returns a signer's signature, `NAME`, or a changed one: `NAME.capitals`, `NAME.short` without
+/// its last digit, `NAME.bad` with a letter in the place of it, or `empty`.
 fn signature<R: Files + AllocGlobal + Clone + Drop>(
     layers: &Layers<'_, R>,
     word: &str,
@@ -208,7 +208,7 @@ fn spelled(mut text: String, how: &str) -> Result<String> {
     Ok(text)
 }
 
-/// Whether enough keys signed the file.
+/// Returns whether enough keys signed the file.
 pub fn is_enough<R: Files + AllocGlobal + Clone + Drop>(
     layers: &Layers<'_, R>,
     step: &Step,
@@ -216,7 +216,7 @@ pub fn is_enough<R: Files + AllocGlobal + Clone + Drop>(
     told(layers.alloc, asked(layers, step, &mut Direct)?)
 }
 
-/// Whether enough keys signed the file that is named `root.json`.
+/// Returns whether enough keys signed the file that is named `root.json`.
 fn asked<R: Files + AllocGlobal + Clone + Drop, J: Judge>(
     layers: &Layers<'_, R>,
     step: &Step,
@@ -229,7 +229,7 @@ fn asked<R: Files + AllocGlobal + Clone + Drop, J: Judge>(
     Ok(enough(layers.alloc, &doc, "root.json", &ring, &role, judge)?)
 }
 
-/// Answers as the plain judge does, and notes which signatures it is asked about.
+/// The plain judge, with a record of the signatures that it checks.
 #[derive(Drop)]
 struct Witness {
     asks: String,
@@ -251,7 +251,7 @@ impl Judge for Witness {
     }
 }
 
-/// The same answer, with what the judge was asked.
+/// Returns the same result, with the signatures that the judge checked.
 pub fn asks<R: Files + AllocGlobal + Clone + Drop>(
     layers: &Layers<'_, R>,
     step: &Step,

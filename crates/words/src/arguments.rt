@@ -4,22 +4,24 @@ use clap::builder::ValueParser;
 use clap::{Arg, ArgAction};
 use std::alloc::Global;
 
-/// An argument that has to be there, and stands once.
+/// Returns a required argument.
 pub fn file<'a>(alloc: Global, name: &'a str, help: &'a str) -> Arg<'a> {
     Arg::new(alloc, name).required(true).help(help)
 }
 
-/// An argument that may stand several times.
+/// Returns an argument that may occur several times.
 pub fn several<'a>(alloc: Global, name: &'a str, help: &'a str) -> Arg<'a> {
     Arg::new(alloc, name).action(ArgAction::Append).help(help)
 }
 
+/// Returns the option `--now`.
 pub fn now_option<'a>(alloc: Global) -> Arg<'a> {
     Arg::new(alloc, "now").long("now").value_name("TEXT").help(
         "The moment, as YYYY-MM-DDTHH:MM:SSZ, in place of the clock's",
     )
 }
 
+/// Returns the option `--limit`.
 pub fn limit_option<'a>(alloc: Global) -> Arg<'a> {
     Arg::new(alloc, "limit")
         .long("limit")
@@ -29,6 +31,7 @@ pub fn limit_option<'a>(alloc: Global) -> Arg<'a> {
         .help("How many roles the search for a target visits at most, 1 to 256")
 }
 
+/// Returns the option `--workers`.
 pub fn workers_option<'a>(alloc: Global) -> Arg<'a> {
     Arg::new(alloc, "workers")
         .long("workers")
@@ -38,6 +41,7 @@ pub fn workers_option<'a>(alloc: Global) -> Arg<'a> {
         .help("Threads that check in advance what the first 4 MB of metadata need, 0 to 64")
 }
 
+/// Returns the option `--keep`.
 pub fn keep_option<'a>(alloc: Global) -> Arg<'a> {
     Arg::new(alloc, "keep")
         .long("keep")
@@ -47,6 +51,7 @@ pub fn keep_option<'a>(alloc: Global) -> Arg<'a> {
         .help("Of how many files verdicts are remembered from one to the next, 1 to 4096")
 }
 
+/// Returns a required option with a value.
 pub fn option<'a>(alloc: Global, name: &'a str, value: &'a str, help: &'a str) -> Arg<'a> {
     Arg::new(alloc, name)
         .long(name)

@@ -7,7 +7,7 @@ use crate::texts::{HELP_END, INIT_END, MAKE_END, METADATA, REPLAY_END, TARGETS, 
 use clap::{Arg, ArgMatches, Command, Error};
 use std::alloc::{AllocError, Global};
 
-/// The matches of the words, or what `clap` says in place of them: a mistake, or help.
+/// Parses the arguments. Fails with what `clap` prints instead: a usage error, or help.
 pub fn parse<'a>(alloc: Global, words: &'a [String]) -> Result<ArgMatches<'a>, Error> {
     tufcheck(alloc)?.try_get_matches_from(words)
 }

@@ -1,6 +1,6 @@
-//! The words that `tufcheck` takes: its commands and their arguments.
+//! The command line of `tufcheck`: its commands and their arguments.
 //!
-//! - [`parse`] reads words as a command and its arguments.
+//! - [`parse`] reads a command and its arguments.
 #![tactic(auto)]
 
 mod arguments;

@@ -1,9 +1,12 @@
-//! What the help says.
+//! The texts of the help.
 
+/// Help for `--metadata`.
 pub const METADATA: &str = "The folder of metadata files, which stand directly in it";
 
+/// Help for `--targets`.
 pub const TARGETS: &str = "The folder of target files, with those of the folders below it";
 
+/// The end of the program's help.
 pub const HELP_END: &str = "\
 EXAMPLES:
   tufcheck init 1.root.json --out state
@@ -17,6 +20,7 @@ EXIT STATUS:
   3  the command line, the moment, the state file or the script was refused
   4  a file, a folder, the clock, the output or memory failed";
 
+/// The end of the help of `init`.
 pub const INIT_END: &str = "\
 It prints `root N`, with the root's version, or `end root FAULT`. A refused root writes no state.
 
@@ -29,6 +33,7 @@ EXIT STATUS:
   3  the command line was refused
   4  the root file, the output or memory failed";
 
+/// The end of the help of `verify`.
 pub const VERIFY_END: &str = "\
 It writes the new state first, also where the update stopped, and then prints
   root N                  the version of the trusted root
@@ -51,6 +56,7 @@ EXIT STATUS:
   3  the command line, the moment or the state file was refused
   4  a folder, the clock, the output or memory failed";
 
+/// The end of the help of `replay`.
 pub const REPLAY_END: &str = "\
 Each DIR is a repository, with the folders `metadata` and `targets`. All are read first. Then each
 is verified in order, from the state of the one before and at one moment. It writes the last state,
@@ -70,6 +76,7 @@ EXIT STATUS:
   3  the command line, the moment or the state file was refused
   4  a folder, the clock, the output or memory failed";
 
+/// The end of the help of `make`.
 pub const MAKE_END: &str = "\
 It writes `metadata/` and `targets/` below DIR and prints nothing. A refused script writes no file.
 
