@@ -64,9 +64,13 @@ pub(crate) struct RoleFiles {
 /// What was read in advance, each file once.
 #[derive(Drop)]
 pub struct Ahead {
+    /// The roots after the trusted one, in order.
     pub(crate) roots: Vec<ReadFile<Root>>,
+    /// The timestamp, if it was read.
     pub(crate) timestamp: Option<ReadFile<Timestamp>>,
+    /// The snapshot, if it was read.
     pub(crate) snapshot: Option<ReadFile<Snapshot>>,
+    /// The targets files that were read.
     pub(crate) roles: RoleFiles,
 }
 

@@ -113,6 +113,7 @@ fn large_object(alloc: Global) -> Result<String, Trouble> {
     Ok(json)
 }
 
+/// Returns the nanoseconds since `start`.
 pub(crate) fn nanoseconds<R: Clock>(rt: &R, start: Instant) -> Result<u64, Trouble> {
     let took = start.elapsed(rt)?;
     Ok(u64::try_from(took.as_nanos()).unwrap_or(u64::MAX))

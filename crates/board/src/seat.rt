@@ -13,8 +13,11 @@ use std::marker::Model;
 /// a claim leaves that check taken for good.
 #[derive(Drop)]
 pub struct Seat {
+    /// The table's part of the seat.
     pub(crate) inner: atomic_table::Seat<(), View>,
+    /// The check that the seat has claimed.
     pub(crate) held: Option<usize>,
+    /// The number of verdicts that the seat gave.
     pub(crate) published: usize,
 }
 

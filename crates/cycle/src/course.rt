@@ -39,6 +39,7 @@ impl Model for Course {
 }
 
 impl Course {
+    /// Returns a course with counts of 0.
     pub(crate) fn new(trusted: Trusted, end: End, searches: Vec<Option<Searched>>) -> Course
         ensures { result ≡ record {
           trusted = trusted;
@@ -96,6 +97,7 @@ impl Course {
         self.stats
     }
 
+    /// Returns the new trusted state, and how the cycle ended.
     pub(crate) fn into_state(self) -> (Trusted, End)
         ensures trusted { result.0 ≡ self.trusted }
         ensures end { result.1 ≡ self.end }

@@ -34,9 +34,13 @@ use std::alloc::Global;
 /// the cache if a search is out of memory.
 #[derive(Drop)]
 pub struct Searcher<'a> {
+    /// The allocator.
     pub alloc: Global,
+    /// The trusted state.
     pub trusted: &'a Trusted,
+    /// The repository.
     pub repo: &'a Repo,
+    /// The moment, in UTC.
     pub moment: Moment,
     cache: RoleCache,
     ghost truth: { IsCacheIn (file_in repo.now.metadata) moment trusted.now cache },

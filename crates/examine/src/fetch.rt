@@ -16,7 +16,9 @@ use std::collections::BTreeMap;
 /// A file that was read, and its document.
 #[derive(Drop)]
 pub(crate) struct Candidate<A: Reading> {
+    /// The file.
     pub part: Part<A>,
+    /// Its document.
     pub doc: Doc,
 }
 

@@ -17,7 +17,9 @@ pub struct Entries<'a> {
 /// The text of an entry, and its place in the document.
 #[derive(Clone, Copy)]
 pub struct Placed<'a> {
+    /// The place, from 0.
     pub place: usize,
+    /// The text of `sig`.
     pub sig: &'a str,
 }
 

@@ -167,6 +167,7 @@ impl FromJson for Delegation {
     }
 }
 
+/// Reads a member that is true or false, or false if it is absent.
 pub(crate) fn flag(alloc: Global, value: &Value, name: &str) -> Result<bool, ReadFault>
     ensures { Reads (spec.flag name.now (view value.now)) result }
 {

@@ -22,6 +22,7 @@ pub struct Header {
     pub expires: Moment,
 }
 
+/// Reads the members that all kinds have, of a file of this kind.
 pub(crate) fn read_header(alloc: Global, kind: &str, value: &Value) -> Result<Header, ReadFault>
     ensures { form_of.Reads (spec.header kind.now (view value.now)) result }
 {

@@ -12,9 +12,13 @@ use std::marker::Model;
 /// file (TUF 1.0 section 5). Each is the reading of its bytes, which are within the limit of its
 /// kind.
 pub struct Trusted {
+    /// The root file.
     pub(crate) root: Part<Root>,
+    /// The timestamp file, if one is trusted.
     pub(crate) timestamp: Option<Part<Timestamp>>,
+    /// The snapshot file, if one is trusted.
     pub(crate) snapshot: Option<Part<Snapshot>>,
+    /// The top-level targets file, if one is trusted.
     pub(crate) targets: Option<Part<Targets>>,
 }
 
@@ -52,6 +56,7 @@ impl Model for Trusted {
 }
 
 impl Trusted {
+    /// Returns the state of these files.
     pub(crate) fn of(
         root: Part<Root>,
         timestamp: Option<Part<Timestamp>>,

@@ -21,8 +21,11 @@ use std::collections::BTreeMap;
 /// The input of a cycle: the repository's metadata files by their names, and a moment.
 #[derive(Clone, Copy)]
 pub(crate) struct Round<'a> {
+    /// The allocator.
     pub alloc: Global,
+    /// The repository's metadata files, by name.
     pub files: &'a BTreeMap<String, Vec<u8>>,
+    /// The moment, in UTC.
     pub moment: Moment,
 }
 

@@ -46,9 +46,13 @@ impl FromJson for Hex {
 /// The files that a state's text contains.
 #[derive(Drop)]
 pub(crate) struct Kept {
+    /// The root file.
     pub root: Hex,
+    /// The snapshot file, if one is trusted.
     pub snapshot: Option<Hex>,
+    /// The top-level targets file, if one is trusted.
     pub targets: Option<Hex>,
+    /// The timestamp file, if one is trusted.
     pub timestamp: Option<Hex>,
 }
 

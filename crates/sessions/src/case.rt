@@ -14,6 +14,7 @@ pub struct Step {
     words: Vec<String>,
     /// The lines of its input.
     pub script: Vec<String>,
+    /// The expected lines of its output.
     pub(crate) expected: Vec<String>,
 }
 

@@ -13,6 +13,7 @@ use std::rt::Files;
 #[derive(Clone, Copy, Drop)]
 pub struct Layers<'a, R> {
     rt: &'a R,
+    /// The allocator.
     pub(crate) alloc: Global,
 }
 
