@@ -84,7 +84,7 @@ impl<A: Reading + Drop> Part<A> {
         Ok(Part::new(alloc, bytes, reading)?)
     }
 
-    /// Returns an equal file, which shares the contents of this one. Fails only if out of memory.
+    /// Returns an equal file, which shares the contents of this one. Fails only with `NoMemory`.
     pub fn copy(&self) -> Result<Part<A>, NoMemory>
         ensures equal { IfOk result (λ p. p ≡ self.now) }
     {

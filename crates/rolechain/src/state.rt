@@ -113,7 +113,7 @@ impl Trusted {
         self.timestamp.is_some() && self.snapshot.is_some() && self.targets.is_some()
     }
 
-    /// Returns an equal state, which shares its files with this one. Fails only if out of memory.
+    /// Returns an equal state, which shares its files with this one. Fails only with `NoMemory`.
     pub fn copy(&self) -> Result<Trusted, NoMemory>
         ensures equal { IfOk result (λ t. t ≡ self.now) }
     {
