@@ -1,13 +1,14 @@
 #!/bin/bash
-# Times whole runs of the program. `tufcheck verify` by several numbers of workers: on a repository of 1,024 signatures, where
-# a path is searched in vain through 32 delegated roles that 32 keys sign each, on one of 100 delegated roles, signed by
-# a key each, on one whose targets file has 5 MB, and on that of examples/first.script. Then `tufcheck replay` by no worker of
-# the first repository, once and several times over, and `tufcheck make` of thirty keys, 27 of which sign one file.
+# Times whole runs of the program. `tufcheck verify` by several numbers of workers: on a repository of 1,024 signatures,
+# where a path is searched in vain through 32 delegated roles that 32 keys sign each, on one of 100 delegated roles, signed
+# by a key each, on one whose targets file has 5 MB, and on that of examples/first.script. Then `tufcheck replay` of the
+# first repository without workers, once and several times over, and `tufcheck make` of thirty keys, 27 of which sign one
+# file.
 #
 #   checks/ahead.sh [RUNS]      the runs of each, 11 unless given
 #
 # For each it prints the median and the least of the milliseconds that a run took, from its start to its end, and for workers
-# by the median of the rounds how many times as fast it was as the run by no worker beside it. It asks that each run prints
+# by the median of the rounds how many times as fast it was as the run without workers beside it. Checks that each run prints
 # the same lines and stores the same state. Of each repository it also prints the most memory that a run took, by no worker
 # and by four (which needs GNU time). `rt run` in crates/tufcheck proves and builds the program, once; this takes some
 # minutes. Idle cores are what it measures: nothing else should run meanwhile.
@@ -139,12 +140,12 @@ cycles() {
     done
 }
 
-# replayed FOLDER TIMES PATH: the microseconds of each replay of the repository so many times over, sorted
+# replayed FOLDER TIMES PATH: the microseconds of each replay of the repository TIMES times over, sorted
 replayed() {
     local from to
     for _ in $(seq "$runs"); do
         from=$(date +%s%N)
-        # shellcheck disable=SC2046 # so many words
+        # shellcheck disable=SC2046 # several words
         "$program" replay --state "$1/state" --limit 101 --now 2026-01-01T00:00:00Z --workers 0 --out "$1/new" "$3" \
             $(yes "$1" | head -n "$2") > "$1/lines"
         to=$(date +%s%N)

@@ -1,18 +1,18 @@
 #!/bin/bash
-# Refuses memory to the program, one allocation a run: for N from FIRST on, in steps of STEP, the Nth allocation fails.
+# Makes one allocation of each run of the program fail: for N from FIRST on, in steps of STEP, the Nth allocation.
 #
 #   checks/allocations.sh [FIRST [LAST [STEP]]]      1, 100000 and 1 unless given
 #
-# A run that meets the refusal must print nothing, tell `tufcheck: memory` and end with status 4, or else print all that
-# it prints with ample memory, tell nothing and end with that status (a sort that is refused its buffer does without, and so
-# does a run with workers that is refused its plan). Where it stores a state, it must leave none or the whole one. The
-# sweep ends with the run that asks for memory fewer than N times. Swept are a run without a word, and `make`, `init`,
+# A run in which it fails must print `tufcheck: memory` alone, on standard error, and end with status 4, or else print all
+# that it prints with ample memory and end with that status (a sort without its buffer continues, and so does a run with
+# workers without its plan). If it stores a state, it must leave none or the whole one. The
+# sweep ends with the run that allocates fewer than N times. Swept are a run without arguments, and `make`, `init`,
 # `verify` and `replay` of one repository twice (each by no worker and by two) and `--help` over examples/first.script,
 # and `verify` (by no worker and by two) of two paths that two delegations lead to one role, which is signed for one.
 # The script ends with status 1 at the first run that does otherwise.
 #
-# `rt run` proves and builds the program, once. A small library, made with `cc`, stands before the C library's `malloc`
-# and `realloc` and refuses the Nth call. (`rt try --fail-alloc N` gives the same answers, and builds the program for
+# `rt run` proves and builds the program, once. A small library, made with `cc`, is loaded before the C library's `malloc`
+# and `realloc` and makes the Nth call fail. (`rt try --fail-alloc N` has the same results, and builds the program for
 # each N, which takes a minute or two.)
 set -u
 first=${1:-1} last=${2:-100000} step=${3:-1}
@@ -51,7 +51,7 @@ cc -shared -fPIC -O1 -o "$work/refuse.so" "$work/refuse.c" -ldl || exit 2
 cp "$top/crates/tufcheck/out/tufcheck" "$top/examples/first.script" "$top/crates/trials/data/cases/shared.script" "$work" && cd "$work" || exit 2
 
 # sweep NAME FILE STATE WORD..: sweeps the run with those words, which with ample memory prints that file, ends with the
-# status $good and, where it makes a file `new`, stores that state there.
+# status $good and, if it makes a file `new`, stores that state there.
 good=0
 sweep() {
     local name=$1 wanted=$2 state=$3 whole=0 n status

@@ -5,7 +5,7 @@
 
 For each number of bins it prints the sizes of the files, and for runs of `tufcheck` the seconds from start to end, the
 processor's seconds and the peak memory: `make` of the repository, `verify` of one path and of a hundred by 0 and 4
-workers, and `replay` by no worker of the repository once, and twice in a row. It asks that each run finds every target.
+workers, and `replay` of the repository without workers, once and twice in a row. Checks that each run finds every target.
 `rt run` in crates/tufcheck proves and builds the program. Nothing else should run meanwhile.
 """
 import hashlib
@@ -35,7 +35,7 @@ def name_of(bits, number):
 
 
 def script(targets, bits, content=str.encode):
-    """The script of so many targets in hash bins, each of which has the content of its path."""
+    """The script of that many targets in hash bins, each of which has the content of its path."""
     lines = [f"key {number} 5" for number in range(1, 5)] + ["key 5 10"]
     lines += [f"top {role} 1 {key}" for key, role in enumerate(["root", "timestamp", "snapshot", "targets"], 1)]
     lines += [f"succinct targets 1 5 {bits} bin"]
@@ -47,7 +47,7 @@ def script(targets, bits, content=str.encode):
 
 
 def timed(name, words, good):
-    """Runs the program, prints what it took, and asks for status 0 and so many good targets."""
+    """Runs the program, prints what it took, and checks for status 0 and that many accepted targets."""
     begin = time.monotonic()
     run = subprocess.Popen([PROGRAM, *words], stdout=subprocess.PIPE)
     lines = run.stdout.read()

@@ -10,7 +10,7 @@ HEAD = re.compile(r"( *)(?:pub(?:\(\w+\))? )?(?:const )?fn (\w+)")
 # An open goal, by its place, and a goal whose written answer doesn't hold, by the folder of the answer.
 GOAL = re.compile(r"(?:so far: )?note: (src/\S+?):(\d+):\d+: (?:it is not proved|`search` found no proof)")
 ANSWER = re.compile(r"(?:so far: )?(?:\./)?proofs/(\S+)/Answers\.antt:\d+:\d+: error: `(\w+)")
-# Such an answer may name what the edit took away, which says nothing of the contract.
+# Such an answer may name what the edit took away, which shows nothing about the contract.
 LOST = re.compile(r"has no field|is not in scope|has no `|was not admitted")
 
 
@@ -25,7 +25,7 @@ def replaced(name, text, old, new):
 
 
 def function_at(text, line):
-    """The line of the `fn` of the function in which that line stands, if it stands in one; lines count from 0."""
+    """The line of the `fn` of the function that contains that line, if there is one; lines count from 0."""
     lines = text.split("\n")
     while lines[line].lstrip().startswith("#["):
         line += 1
@@ -95,7 +95,7 @@ def checked(crate, edits):
 
 
 def answered(folder, place, goal):
-    """The functions whose answers stand at that place below proofs/; a goal of a cycle of calls begins with a name."""
+    """The functions whose answers are at that place below proofs/; a goal of a cycle of calls begins with a name."""
     *outer, last = place.split("/")
     name = goal if last.startswith("+") else last
     paths = ["src/" + "/".join(outer[:n]) + ".rt" for n in range(len(outer), 0, -1)]
@@ -138,7 +138,7 @@ def main(crates):
             for name, end in tried(crate, group):
                 counts[end] += 1
                 print(end, name, flush=True)
-        # (those above it are tried over it as it stands)
+        # (those above it are tried over the unchanged crate)
         write(crate, [])
     print(", ".join(f"{count} {end.lower()}" for end, count in counts.items()))
     return 2 if counts["UNTRIED"] else 1 if counts["PROVED"] else 0

@@ -1,12 +1,12 @@
 #!/bin/bash
-# Tries the wrong bodies checks/bodies/CRATE/*.edit: each must be refused by the contract of the function that it edits.
+# Tries the faulty bodies checks/bodies/CRATE/*.edit: each must be refused by the contract of the function that it edits.
 #
 #   checks/bodies.sh [CRATE..]      every crate that has such edits, unless some are named
 #
-# They have the form of must-fail edits, and still tell something, but the gate, which checks a crate again for each
+# They have the form of must-fail edits, and still show something, but the gate, which checks a crate again for each
 # edit, has no minutes for them. Here edits of different functions are made together in a copy of the repository, and one
 # check of the crate must name each edited function with an open goal of its own; that it calls a function that isn't
-# proved doesn't count. What a check of many doesn't name is tried alone, and so is an edit that stands in no function,
+# proved doesn't count. What a check of many doesn't name is tried alone, and so is an edit outside of functions,
 # such as one of a constant.
 #
 # A line for each edit says `refused CRATE/NAME` or `PROVED CRATE/NAME`, and the last line counts them. The script ends

@@ -5,7 +5,7 @@ snapshot of a quarter, half and all of 2,000,000 bytes that is verified after on
   checks/costly.py [CASE..]      all cases unless given, `snapshots` the last of them
 
 Every file is signed as it should be, by the Python beside this script. It prints for each case the seconds from start to
-end by 0 and by 4 workers, the processor's seconds by 0 and the peak memory, and asks for the lines that the workflow gives.
+end by 0 and by 4 workers, the processor's seconds by 0 and the peak memory, and checks for the lines of the workflow.
 `rt run` in crates/tufcheck proves and builds the program. Nothing else should run meanwhile. It takes some minutes.
 """
 import hashlib
@@ -28,7 +28,7 @@ KEY, OTHER = tuf.Key(1), tuf.Key(2)
 
 
 def fill(size, item):
-    """As many items as so many bytes hold, joined by commas; item(n) is the nth."""
+    """As many items as that many bytes hold, joined by commas; item(n) is the nth."""
     items, length = [], 0
     while length < size:
         items.append(item(len(items)))
@@ -37,7 +37,7 @@ def fill(size, item):
 
 
 def targets(member=b"", entries=b"", **members):
-    """A targets file that lists the path, with a member put in front, and entries before the good one."""
+    """A targets file that lists the path, with a member put in front, and entries before the valid one."""
     listed = tuf.canonical(tuf.part("targets", targets={PATH: tuf.target(b"x")}, **members))
     return tuf.signed(b"{" + member + listed[1:], KEY, entries)
 
@@ -79,7 +79,7 @@ def delegating(part, target="b"):
 
 
 def one_role(kind, size, item):
-    """A delegation by so many patterns or prefixes, none of which is for the path."""
+    """A delegation by that many patterns or prefixes, none of which is for the path."""
     role = tuf.canonical(tuf.delegation("r", KEY, **{kind: []}))
     empty = b'"%s":[]' % kind.encode()
     role = role.replace(empty, empty[:-1] + fill(size, item) + b"]")
@@ -177,7 +177,7 @@ VERIFY = ["verify", "--metadata", "metadata", "--targets", "targets", "--now", N
 
 
 def told(name, file, lines, state):
-    """Runs by 0 and by 4 workers from a state, asks for their lines, and prints what they took."""
+    """Runs with 0 and with 4 workers from a state, checks their lines, and prints what they took."""
     runs = [run(*VERIFY, "--state", state, "--workers", workers, PATH) for workers in ("0", "4")]
     for given in runs:
         if given[0] != f"root 1\nend ready\n{lines}\n":

@@ -1,11 +1,11 @@
 #!/usr/bin/env python3
-"""Cuts each metadata file of a repository off at each length from one byte less than the whole down to none.
+"""Truncates each metadata file of a repository at each length from one byte less than the whole down to none.
 
   checks/cuts.py [STEP]      each length unless given, else each STEPth
 
-The repository has a second root, and a delegated role that two wanted paths lead to. Its timestamp says how long the
-snapshot is, its snapshot how long the targets files are, and nothing how long the root and the timestamp are. A run of
-`tufcheck verify`, by no worker and by eight, must tell that file's fault and store the state of what stands before it.
+The repository has a second root, and a delegated role that two wanted paths lead to. Its timestamp lists the length
+of the snapshot, its snapshot those of the targets files, and no file those of the root and the timestamp. A run of
+`tufcheck verify`, without workers and with eight, must print that file's fault and store what was trusted before it.
 `rt run` in crates/tufcheck proves and builds the program. The script ends with status 1 at the first run that does
 otherwise.
 """
@@ -61,7 +61,7 @@ def state_of(files, root, members):
 
 
 def cut(name, step):
-    """Cuts one file at each length, and answers how many runs there were, or what went wrong."""
+    """Truncates one file at each length. Returns how many runs there were, or what went wrong."""
     lines, status, members = CASES[name]
     with tempfile.TemporaryDirectory() as room:
         shutil.copytree("repo", f"{room}/repo")

@@ -1,10 +1,10 @@
 #!/bin/bash
 # Runs the merge gate and then prints its timeline: for each crate its proof, the proof of its tests and its must-fail
-# edits, each with the minute in which it began, the minute in which it ended, and how long that was. So who adds a crate
-# or an edit sees its price.
+# edits, each with the minute in which it began, the minute in which it ended, and how long that was. So whoever adds a crate
+# or an edit sees its cost.
 #
 #   checks/gate-times.sh [LOG [WORD..]]      what the gate prints goes to LOG, gate.log unless given, and the words to
-#                                            rt ci, as --anew in a kit whose gate else takes over what it proved before
+#                                            rt ci, as --anew in a kit whose gate would otherwise reuse earlier proofs
 #
 # It looks at the prover's processes every five seconds, so nothing else should be proved on the machine meanwhile, and a
 # task of less than that may be missing. It takes as long as the gate, and ends with its status.

@@ -29,13 +29,13 @@ def write(name, content):
 
 
 def write_holes(name, size):
-    """Writes a file of so many bytes that takes no room."""
+    """Writes a file of that many bytes that takes no room."""
     with open(name, "wb") as file:
         file.truncate(size)
 
 
 def unhashed(size):
-    """What lists a target of so many bytes by a digest that it hasn't."""
+    """A listing of a target of that many bytes with a wrong digest."""
     return {"hashes": {"sha256": "00" * 32}, "length": size}
 
 

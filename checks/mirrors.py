@@ -9,12 +9,12 @@ The program is crates/tufcheck/out/tufcheck unless given, which `rt run` in crat
 For each mirror, number of wanted paths and number of workers it prints the medians of the seconds from start to end, of
 the processor's seconds and of the peak memory in MB (at least that of this script). A run is killed after 60 seconds
 unless given. It then prints `over 60` and what that run had used, and runs it no more. If the program of `--before`
-fails for want of memory, it prints `memory` likewise.
+runs out of memory, it prints `memory` likewise.
 
-It checks that each other run prints, returns and stores what the workflow gives, which it works out by itself. So the
+It checks that each other run prints, returns and stores what the workflow requires, which it computes itself. So the
 lines and the state are also the same by 0 and by 4 workers, before and after. If not, it exits with status 1.
 
-In a hostile mirror nobody with a key has signed what stands beside the right first root:
+In a hostile mirror no key has signed the files beside the right first root:
 
   keyless    31 roles of 5,000,000 bytes of prefixes of one digit, to which each wanted path leads
   small      the same with 120,000 bytes each, less than 4,000,000 together
@@ -77,7 +77,7 @@ def read(name):
 
 
 def lines_of(mirror, paths):
-    """The lines that the workflow gives for these paths."""
+    """The workflow's lines for these paths."""
     if mirror.stop:
         return f"root 1\nend {mirror.stop} Unsigned\n" + "".join(f'no "{path}" NotSearched\n' for path in paths)
     accepted = sorted({role for path in paths for role in mirror.way(path)[1:]})
@@ -94,7 +94,7 @@ def state_of(*roles):
 
 
 def prepare(program, make, sizes, counts):
-    """Makes a mirror, the state before a run, and what is due: the state after it, the status and the lines."""
+    """Makes a mirror, the state before a run, and what is expected: the state after it, the status and the lines."""
     mirror = make(*sizes)
     if mirror.script:
         write("script", mirror.script.encode())
@@ -123,7 +123,7 @@ def prepared(*given):
 
 
 def run(words, most):
-    """Runs the program for so many seconds at most. Returns its status and what it took."""
+    """Runs the program for at most that many seconds. Returns its status and what it took."""
     begin = time.monotonic()
     with open("lines", "wb") as lines, open("errors", "wb") as errors:
         process = subprocess.Popen(words, stdout=lines, stderr=errors)
@@ -150,7 +150,7 @@ def difference(printed, due):
 
 
 def fault_of(status, count):
-    """How the status, the lines or the state of a run differ from those that are due, or None."""
+    """How the status, the lines or the state of a run differ from the expected ones, or None."""
     if status != int(read("due.status")):
         return f"status {status}, {read('errors').decode(errors='replace').strip() or 'no error'}"
     if not is_same("lines", f"due.lines.{count}"):
@@ -159,7 +159,7 @@ def fault_of(status, count):
 
 
 def verify(program, workers, count, most):
-    """Runs `verify`. Returns what it took, and how it differs from what is due."""
+    """Runs `verify`. Returns what it took, and how it differs from what is expected."""
     if os.path.exists("new"):
         os.remove("new")
     words = [program, "verify", "--state", "state", "--metadata", "metadata", "--targets", "targets", "--now", NOW]

@@ -1,9 +1,9 @@
 #!/usr/bin/env python3
-"""Says which misreadings of the standard second.py beside this script tells from the program.
+"""Prints which misreadings of the standard second.py beside this script distinguishes from the program.
 
   checks/misread.py [COUNT]      300 histories for each misreading unless given
 
-Each misreading is put into a copy of reading.py, and histories are drawn until their number is reached. One that gives the
+Each misreading is put into a copy of reading.py, and histories are drawn until their number is reached. One that has the
 same lines, status and bytes for all of them is named, and the status is then 1. `rt run` in crates/tufcheck proves and
 builds the program.
 """

@@ -4,10 +4,10 @@
   checks/names.py
 
 For each character that a file's name and a word may hold (all below 128 but NUL and the slash, and some above), a role
-`rX` lists a target `pX`, and a last word asks for a target that no role lists. All metadata is signed by the Python
-beside this script. A run of `tufcheck verify`, by no worker and by eight, must find each target and quote the names as
-docs/USERS.md says. Then a file whose name isn't UTF-8 stands in one of the two folders: the run must refuse the
-folder, with status 4, print nothing and store nothing. `rt run` in crates/tufcheck proves and builds the program.
+`rX` lists a target `pX`, and the last argument is a target that no role lists. All metadata is signed by the Python
+beside this script. A run of `tufcheck verify`, without workers and with eight, must find each target and escape the names
+as in docs/USERS.md. Then a file whose name isn't UTF-8 is in one of the two folders: the run must fail with
+status 4, print nothing and store nothing. `rt run` in crates/tufcheck proves and builds the program.
 """
 import hashlib
 import os
@@ -32,7 +32,7 @@ def quoted(name):
 
 
 def delegations():
-    """One delegation a role, by the hash value of its path, so that no character stands for another."""
+    """One delegation a role, by the hash value of its path, so that no character matches another."""
     roles = []
     for number, odd in enumerate(ODD):
         prefix = hashlib.sha256(f"p{odd}".encode()).hexdigest()

@@ -1,13 +1,13 @@
 #!/bin/bash
-# Asks that the trusted state is never lost, however storing it ends: with `--state s --out s` the file `s` is at each
+# Checks that the trusted state is never lost, however storing it ends: with `--state s --out s` the file `s` is at each
 # moment the old state or the new one, whole.
 #
 #   checks/places.sh [KILLS]      500 unless given
 #
-# First each call that opens, writes, syncs, renames or changes the rights of a file is refused in turn (for N from 1 on
-# the Nth call of a run fails with "no space left"): the run must tell its failure and leave the old state or the new one,
+# First each call that opens, writes, syncs, renames or changes the mode of a file fails in turn (for N from 1 on
+# the Nth call of a run fails with "no space left"): the run must print its failure and leave the old state or the new one,
 # and nothing beside it. Then the program is killed KILLS times at a random moment of a run. At last, for the superuser,
-# the state stands in a file system of 64 KiB that is full. A small library, made with `cc`, stands before the C library's
+# the state is in a file system of 64 KiB that is full. A small library, made with `cc`, is loaded before the C library's
 # calls. `rt run` in crates/tufcheck proves and builds the program, once.
 set -u
 kills=${1:-500}
@@ -70,7 +70,7 @@ verify() {
         --now 2026-01-01T00:00:00Z --workers 2 --out "$1/s" abc.txt > printed 2> told
 }
 
-# whole FOLDER: asks that FOLDER/s is the old state or the new one
+# whole FOLDER: checks that FOLDER/s is the old state or the new one
 whole() {
     cmp -s "$1/s" old || cmp -s "$1/s" new || { echo "$1/s: neither the old state nor the new one"; exit 1; }
 }

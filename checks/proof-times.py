@@ -1,14 +1,14 @@
 #!/usr/bin/env python3
-"""Says of which functions the proofs took longest.
+"""Prints which functions took longest to prove.
 
     checks/proof-times.py CRATE [LINES]     the longest, 20 unless given
 
 It reads when the files of crates/CRATE/out/incremental were written, which a check leaves there, and takes the time from one
-file to the next for that of the later. So it tells something only after a check that wrote all of them on one core:
+file to the next for that of the later. So it shows something only after a check that wrote all of them on one core:
 
     rm -rf crates/CRATE/out/incremental && rt check CRATE && checks/proof-times.py CRATE
 
-`Lts` stands for the lifetimes of a function, which has each drop of a value on each way out; `Proof` and `Tie` for what its
+`Lts` is the lifetimes of a function, which has each drop of a value on each way out; `Proof` and `Tie` for what its
 clauses need. Other work on the machine lengthens all of them.
 """
 import pathlib

@@ -1,4 +1,4 @@
-"""Verifies a repository as docs/FORMATS.md says (TUF 1.0 sections 4 and 5, RFC 8554), and tells it in the lines of
+"""Verifies a repository by docs/FORMATS.md (TUF 1.0 sections 4 and 5, RFC 8554), and prints the lines of
 docs/USERS.md, for second.py beside it. It was written from these pages and shares no code with the crates. A file's tree
 is what Python's `json` reads, but for what they say otherwise; a float in it is a `Float`."""
 import hashlib
@@ -147,7 +147,7 @@ def keys(tree):
 
 
 def matcher(tree):
-    """What tells whether a delegation is for a path."""
+    """A test of whether a delegation is for a path."""
     ask(("paths" in tree) != ("path_hash_prefixes" in tree))
     if "paths" in tree:
         patterns = words(tree, "paths")
@@ -258,7 +258,7 @@ def is_valid(public, message, sig):
 
 
 def is_met(file, ring, asked):
-    """Whether as many public values signed the file as the role asks for."""
+    """Whether enough public values signed the file for the role's threshold."""
     signed = set()
     for key_id in set(asked["keyids"]) & ring.keys():
         public = public_of(key_id, ring[key_id])

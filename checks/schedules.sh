@@ -1,12 +1,12 @@
 #!/bin/bash
-# Runs many cycles with workers under drawn schedules, and asks that each tells what a cycle on one thread tells.
+# Runs many cycles with workers under drawn schedules, and checks that each prints what a cycle on one thread prints.
 #
 #   checks/schedules.sh [RUNS [SEED]]      5000 and 1 unless given
 #
-# For each of two repositories, that of one target and that of roles which share keys, so many runs are made by the
-# program `trials`, which is proved and built first: with up to 8 workers, plans of 3 or up to 4,096 questions, and
-# gates that do nothing, hold each worker to the end, or make it wait for a drawn time. The script ends with status 1
-# where a run told something else, and with 2 where the program couldn't be built or run.
+# For each of two repositories, that of one target and that of roles which share keys, the program `trials`, which is
+# proved and built first, makes RUNS runs: with up to 8 workers, plans of 3 or up to 4,096 checks, and gates that do
+# nothing, block each worker until the end, or make it wait for a drawn time. The script ends with status 1 if a run
+# printed something else, and with 2 if the program couldn't be built or run.
 set -u
 runs=${1:-5000} seed=${2:-1}
 top=$(cd "$(dirname "$0")/.." && pwd) || exit 2

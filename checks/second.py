@@ -1,14 +1,14 @@
 #!/usr/bin/env python3
-"""Verifies drawn repositories by the program and by a second reading of the standard, and compares all that they answer.
+"""Verifies drawn repositories by the program and by a second reading of the standard, and compares all their results.
 
   checks/second.py [COUNT [SEED]]      1,000 histories from seed 1 unless given
 
 A history is a first root and then three states of one repository: roots that rotate, files that come and go, delegations
 by patterns, prefixes and bins that meet and lead round, thresholds, keys of both widths, one public value under two ids.
-In most states up to two files are hurt: in what they say, in their signatures, in their bytes, in how they are listed.
+In most states up to two files are damaged: in their contents, in their signatures, in their bytes, in how they are listed.
 Each is verified from the trusted state of the one before, by `tufcheck verify` with 0 or 4 workers and by reading.py
 beside this script, which was written from the pages of docs and shares no code with the crates. The lines, the status and
-the bytes of the new state must be the same. The last lines say how often each end and each verdict came. A history that
+the bytes of the new state must be the same. The last lines count each end and each verdict. A history that
 differs is left in a folder, whose name is printed, and the status is then 1.
 
 Where Debian's python3-securesystemslib is installed, which is the canonical JSON of TUF's reference implementation, each

@@ -1,11 +1,11 @@
 #!/bin/bash
 # Shows the speed of a verification beside what a user would take instead: Bouncy Castle, C over OpenSSL, C with four lanes of
-# SSE. checks/speed/README.md says what each is, and which packages it needs.
+# SSE. checks/speed/README.md describes each, and lists the packages that it needs.
 #
 #   checks/speed.sh [ROUNDS [BENCH]]      11 and crates/bench/out/bench unless given
 #
-# A round is some 500 verifications by one thread. The programs in C and Java verify the same 32 signatures, and ask first
-# that each is accepted and that it is refused with a bit turned; ours verifies the first of them. It prints a line for each
+# A round is some 500 verifications by one thread. The programs in C and Java verify the same 32 signatures, and check first
+# that each is accepted and that it is refused with a bit flipped; ours verifies the first of them. It prints a line for each
 # program as it ends, then a table by the median and the best round, and which programs are missing. The status is 0, or 1
 # where a program that is here failed. It takes a minute or two; nothing else should run meanwhile. What
 # OPENSSL_ia32cap says holds for OpenSSL: `:~0x20000000` leaves out the SHA extensions.

@@ -6,12 +6,12 @@
 
 The programs, the rounds and the seconds after which a run is killed are those of `checks/mirrors.py`, and so are the
 columns and what is checked of each run: its lines, its status and the state that it stores. If one isn't what the
-workflow gives, it exits with status 1. The files are made in a folder below FOLDER, or else below the one for temporary
+workflow requires, it exits with status 1. The files are made in a folder below FOLDER, or else below the one for temporary
 files, and are removed after their case. At most 3 GB of them are there at once, if the file system keeps no room for
 holes. `--scale N` divides the sizes of the large files, and the number of targets of `many`, by N.
 
 The files of a case are written before its runs, so their bytes are read from memory where 3 GB of it are free. A run
-itself may take 8,000,000,000 bytes. If the program of `--before` wants more, `memory` stands in place of its seconds.
+itself may take 8,000,000,000 bytes. If the program of `--before` wants more, `memory` is printed instead of its seconds.
 
 All is signed, and by 0 and by 4 workers each:
 
@@ -60,7 +60,7 @@ def first():
 
 
 def write_drawn(path, size):
-    """Writes a target of so many bytes: a block that its path draws, again and again, each time behind its place.
+    """Writes a target of that many bytes: a block that its path draws, again and again, each time after its place.
     Returns what lists the target."""
     block, digest = random.Random(path).randbytes(BLOCK - 8), hashlib.sha256()
     with open(f"targets/{path}", "wb") as file:
@@ -74,7 +74,7 @@ def write_drawn(path, size):
 
 
 def drawn(count, size):
-    """Targets of so many bytes, and the lines of `sha256sum` that are due."""
+    """Targets of that many bytes, and the expected lines of `sha256sum`."""
     listed = {path: write_drawn(path, size) for path in hostile.numbered(count)}
     hostile.write_signed(listed)
     sums = (f"{it['hashes']['sha256']}  targets/{path}\n" for path, it in listed.items())
@@ -124,7 +124,7 @@ def cases(scale):
 
 
 def summed():
-    """A run of `sha256sum` of the files whose digests are due."""
+    """A run of `sha256sum` of the files whose digests are expected."""
     files = [line.split("  ")[1] for line in mirrors.read("due.sums").decode().splitlines()]
     status, taken = mirrors.run(["sha256sum", *files], 0)
     if status or not mirrors.is_same("lines", "due.sums"):
@@ -133,7 +133,7 @@ def summed():
 
 
 def measure(name, count, options):
-    """Runs the programs in turns, and `sha256sum` where its lines are due. Prints a row for each number of workers, and
+    """Runs the programs in turns, and `sha256sum` if its lines are expected. Prints a row for each number of workers, and
     returns what the last program took by each, and what `sha256sum` took, if anything."""
     sums = []
     beside = (lambda: sums.append(summed())) if os.path.exists("due.sums") else lambda: None

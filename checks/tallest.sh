@@ -1,5 +1,5 @@
 #!/bin/bash
-# Makes the one key of W8 and height 15 and one of W4, and asks that their roots and what they sign are those that another
+# Makes the one key of W8 and height 15 and one of W4, and checks that their roots and signatures are those that another
 # program computed (a Python program that shares no code with the crates).
 #
 #   checks/tallest.sh

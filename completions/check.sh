@@ -1,5 +1,5 @@
 #!/bin/bash
-# Says whether each file here, and the man page, names every subcommand and option that the built program's help names.
+# Checks whether each file here, and the man page, names every subcommand and option that the built program's help names.
 set -euo pipefail
 cd "$(dirname "$0")"
 program=${1:-../crates/tufcheck/out/tufcheck}

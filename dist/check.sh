@@ -7,10 +7,10 @@
 # A line for each thing says `ok`, `failed` with what was seen, or `not tried` with what is missing on this machine. The
 # status is 1 where something failed. It takes a few seconds, and installs nothing.
 #
-# For both: the help, the run without a word, a repository that is made and verified, the man page, the completions of each
-# shell that is here, the libraries, and with strace every file that the program asks for. Then the program runs in a root
+# For both: the help, the run without arguments, a repository that is made and verified, the man page, the completions of each
+# shell that is here, the libraries, and with strace every file that the program opens. Then the program runs in a root
 # folder that has nothing but it and its libraries (for the superuser, or where user namespaces are allowed), and the
-# release is packaged again from the unpacked program, which must give the same bytes.
+# release is packaged again from the unpacked program, which must make the same bytes.
 set -u
 export LC_ALL=C
 top=$(cd "$(dirname "$0")/.." && pwd) || exit 1
@@ -44,7 +44,7 @@ clean() {
     env -i HOME="$work/home" PATH="$root/bin" "$@"
 }
 
-# same EXPECTED: asks that `seen` is that file
+# same EXPECTED: checks that `seen` is that file
 same() {
     cmp -s "$work/seen" "$1"
 }
@@ -66,7 +66,7 @@ completed() {
             "${named%% *}" && printf "%s\n" "${COMPREPLY[@]}"' bash "$@"
 }
 
-# offered: asks that `seen` has each option that the program's help of `verify` names
+# offered: checks that `seen` has each option that the program's help of `verify` names
 offered() {
     local option options
     options=$(clean tufcheck help verify | grep -o -- '--[a-z][a-z]*' | sort -u)

@@ -4,11 +4,11 @@
 #   dist/package.sh [PROGRAM [FOLDER]]      crates/tufcheck/out/tufcheck and dist/out unless given
 #
 # Both have the program, the man page, completions for bash, zsh and fish, the user's page with the pages and the examples
-# that it leads to, and the licenses. The program is taken as it was built; only one of 2,000,000 bytes or more is
-# stripped, which is told. The package depends on what the program links, by the packages of this machine that own it.
+# that it leads to, and the licenses. The built program is packaged unchanged; only one of 2,000,000 bytes or more is
+# stripped, which is printed. The package depends on what the program links, by the packages of this machine that own it.
 #
-# The same files give the same bytes: times are SOURCE_DATE_EPOCH or else the last commit's, the owner is 0, and names are
-# sorted. (Another gzip, tar or dpkg may compress otherwise.) The status is 0, or 1 where something is refused, which is told.
+# The same files make the same bytes: times are SOURCE_DATE_EPOCH or else the last commit's, the owner is 0, and names are
+# sorted. (Another gzip, tar or dpkg may compress otherwise.) The status is 0, or 1 if something is refused, which is printed.
 # Without dpkg-deb the tarball alone is made, and the status is 1.
 set -u
 version=1.0.0
@@ -66,7 +66,7 @@ laid() {
         gzip -9n < "$top/docs/tufcheck.1" > "$1/share/man/man1/tufcheck.1.gz"
 }
 
-# dated ROOT: gives all below ROOT its time
+# dated ROOT: sets the time of all files below ROOT
 dated() {
     find "$1" -exec touch -h -d "@$when" {} +
 }
@@ -76,7 +76,7 @@ dated "$work/$name"
 tar -C "$work" --sort=name --format=ustar --owner=0 --group=0 --numeric-owner --mtime="@$when" -cf "$work/release.tar" "$name" || exit 1
 gzip -9n < "$work/release.tar" > "$out/$name.tar.gz" || exit 1
 
-# depends: the packages that own the libraries which the program links, with the version of the C library that it asks for
+# depends: the packages that own the libraries which the program links, with the version of the C library that it needs
 depends() {
     local library path owner least
     ldd "$work/tufcheck" > "$work/links" 2>&1 || return 0

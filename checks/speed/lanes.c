@@ -97,7 +97,7 @@ void carry(uint8_t values[CHAINS][32], const uint8_t head[20], const uint8_t ste
     }
     for (int lane = 0; lane < 4; lane++) chain[lane] = -1, left[lane] = 0;
     for (;;) {
-        /* Each lane at its end gives its value, and takes the next chain. */
+        /* Each lane at its end stores its value, and takes the next chain. */
         int least = 256;
         for (int lane = 0; lane < 4; lane++) {
             if (left[lane] == 0) {

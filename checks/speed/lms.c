@@ -71,7 +71,7 @@ static int verify(const uint8_t key[KEY], const uint8_t message[MESSAGE], const 
     return memcmp(at, key + 24, 32) == 0;
 }
 
-/* A value that the secret gives for a leaf: the start of a chain, or the seasoning (Appendix A). */
+/* A value of a leaf that is made from the secret: the start of a chain, or the seasoning (Appendix A). */
 static void secret(uint8_t out[32], const uint8_t head[20], unsigned chain) {
     uint8_t bytes[55];
     memcpy(bytes, head, 20);

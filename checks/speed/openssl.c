@@ -7,7 +7,7 @@
 #include <stdlib.h>
 #include <string.h>
 
-/* Which code OpenSSL takes for SHA-256, by the bits that it asks in this order. */
+/* Which code OpenSSL takes for SHA-256, by the bits that it checks in this order. */
 static const char *code(void) {
     const char *found = OPENSSL_info(OPENSSL_INFO_CPU_SETTINGS);
     const char *first = found ? strstr(found, "=0x") : 0, *second = first ? strstr(first, ":0x") : 0;
