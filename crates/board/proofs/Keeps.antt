@@ -122,7 +122,7 @@ each_word F words j n h mine others i = dite (ℕ_discrete i j)
     (λ ne. subst (F i) (sym (words_else words (j + 1) (i + 1) n (λ e. ne (omega arith)))) (others i ne))
 
 module _ (truths : List Bool) (words : List ℕ) (views : List View) (l : IsLawful truths words views) (id : ℕ) (v : View) (at : get_elem? views id ≡ some v) where
-  -- the word of one check changes, which was open or claimed by this seat
+  -- the word of one check changes, which was open or claimed by this seat alone
   pub changes : (j : ℕ) → j < length truths → (open_yet : IsDecided (check_word words j) → ⊥) → ((seat : ℕ) → seat ≢ id → Holds views j seat → ⊥)
       → (n : ℕ) → n ≤ 3 → (n ≡ 2 → truth truths j ≡ true) → (n ≡ 3 → truth truths j ≡ false)
       → (w : View) → (n ≡ 1 ↔ (w.right ≡ Some j)) → ((i : ℕ) → i ≢ j → (v.right ≡ Some i → ⊥) × (w.right ≡ Some i → ⊥))

@@ -136,8 +136,8 @@ pub fn search<J: Judge>(
     Searcher::new(alloc, trusted, repo, now).search(path, limit, judge)
 }
 
-/// Searches from the top-level targets file. If that is out of memory, drops the cache and searches
-/// again.
+/// Searches from the top-level targets file. If that is out of memory and something is cached,
+/// drops the cache and searches again.
 fn search_or_again<J: Judge>(
     query: &Query,
     targets: &Part<Targets>,

@@ -97,7 +97,7 @@ abbrev pub signers : List ℕ → List Entry → List Key → RoleKeys → set.F
 signers message entries keys role =
     set.from_list (map (λ key. key.public) (filter (has_signed message entries role) keys))
 
--- at least as many of them as the role's threshold signed
+-- they are at least as many as the role's threshold
 abbrev pub is_met : List ℕ → List Entry → List Key → RoleKeys → Bool
 is_met message entries keys role =
     nat_le role.threshold (set.len (signers message entries keys role))

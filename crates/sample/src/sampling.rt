@@ -14,7 +14,7 @@ use update::tell_outcome;
 const MOMENT: &str = "2026-01-01T00:00:00Z";
 
 /// Makes the repository, verifies its target as the workflow does (TUF 1.0 section 5), prints the
-/// lines and returns the status, at most 2. Fails if out of memory or if `out` does.
+/// lines and returns the status, at most 2. Fails if out of memory or if `out` can't be written.
 #[tactic(auto, using(crate::proofs::Sampled::renamed))]
 pub fn run<W: Write>(alloc: Global, out: &mut W) -> Result<u8, Failure>
     ensures sampled { IfOk result (λ status. IsSampled (codes "abc.txt" ∷ []) status
