@@ -41,7 +41,7 @@ times_done j (v ∷ vs) = times j v.done + times_done j vs
 abbrev pub Holds : List View → ℕ → ℕ → Type 0
 Holds views j seat = (v : View) × (get_elem? views seat ≡ some v) × (v.right ≡ Some j)
 
--- the seat has seen the verdict of check j, or gave it
+-- the seat has seen or published the verdict of check j
 abbrev pub Knows : View → ℕ → Type 0
 Knows v j = Contains v.seen j ⊎ Contains v.done j
 

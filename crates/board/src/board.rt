@@ -66,7 +66,7 @@ impl Board {
 
     /// Returns what the board has for check `j`. A verdict is the truth of the check, and the seat
     /// records that it saw one. The result is `Taken` if the seat itself has claimed the check, and
-    /// a verdict if the seat saw or gave one before.
+    /// a verdict if the seat saw or published one before.
     #[tactic(auto, using(crate::proofs::Calls::looks))]
     pub fn look(&self, seat: &mut Seat, j: usize) -> Look
         requires seat { IsSeatOf self.now seat.old }

@@ -7,7 +7,7 @@ use crate::view::View;
 use std::marker::Model;
 
 /// A thread's part in the work on one board. It records which check it has claimed, and how many
-/// verdicts it gave.
+/// verdicts it published.
 ///
 /// A seat ends by [`Board::join`](crate::Board::join) or by [`retire`]. A seat that is dropped with
 /// a claim leaves that check taken for good.
@@ -17,7 +17,7 @@ pub struct Seat {
     pub(crate) inner: atomic_table::Seat<(), View>,
     /// The check that the seat has claimed.
     pub(crate) held: Option<usize>,
-    /// The number of verdicts that the seat gave.
+    /// The number of verdicts that the seat published.
     pub(crate) published: usize,
 }
 
@@ -31,8 +31,8 @@ impl Model for Seat {
     ghost invariant = { λ s. IsKept s.inner.me s.held s.published };
 }
 
-/// Returns the number of verdicts that the seat gave, with those of the seats that joined it. No
-/// check is counted twice.
+/// Returns the number of verdicts that the seat published, with those of the seats that joined it.
+/// No check is counted twice.
 pub fn done(seat: &Seat) -> usize
     ensures count { result ≡ length seat.now.view.done }
     ensures once { IsDistinct nat_eq seat.now.view.done }

@@ -11,7 +11,7 @@ pub struct View {
     pub right: Option<usize>,
     /// The checks whose verdicts the seat has seen.
     pub seen: LinkedList<usize>,
-    /// The checks whose verdicts the seat gave, its own and those of seats that joined it.
+    /// The checks whose verdicts the seat published, its own and those of seats that joined it.
     pub done: LinkedList<usize>,
     /// Whether the seat knows of a stop.
     pub halted: bool,
