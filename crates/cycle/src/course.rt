@@ -107,8 +107,8 @@ impl Course {
     }
 
     /// Ends the workflow: a verdict for each wanted path, by the files of the store, which has to
-    /// know enough of each target that a search found. This is the outcome for all files that may be
-    /// the store's. Fails only if out of memory.
+    /// know enough of each target that a search found. This is the outcome for all files that may
+    /// be the store's. Fails only if out of memory.
     pub fn close<S: Store>(self, alloc: Global, store: &S) -> Result<Outcome, NoMemory>
         requires known { All (λ s. IfSome (target_of s)
             (S.knows store.now self.trusted.root.reading.consistent)) self.searches }
