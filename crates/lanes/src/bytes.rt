@@ -1,9 +1,11 @@
-//! Between texts and the words of four of them.
+//! Conversions between texts and the words of several of them.
 
-ghost use Rattle.std.specs.Prelude.{◌≡◌, ℕ, ◌<◌, ◌≤◌, ◌+◌, [], length, slice_index, slice_index_or};
+ghost use Rattle.std.specs.Prelude.{◌≡◌, ◌≢◌, ℕ, ◌<◌, ◌≤◌, ◌+◌, ◌*◌, [], length};
+ghost use Rattle.std.specs.Prelude.{slice_index, slice_index_or};
 ghost use Rattle.sha2.specs.Sha256.{digest_bytes, word_at};
-ghost use Rattle.lanes.specs.Lanes.{IsPrefix, IsRow, lane};
+ghost use Rattle.lanes.specs.Lanes.{IsDigest, IsPrefix, IsRow, lane};
 
+use crate::arrays::{eight, six};
 use std::simd::prelude::*;
 
 fn word(text: &[u8], at: usize) -> u32
@@ -13,77 +15,96 @@ fn word(text: &[u8], at: usize) -> u32
     u32::from_be_bytes([text[at], text[at + 1], text[at + 2], text[at + 3]])
 }
 
-/// The row whose lanes are these.
-fn row<const N: usize>(a: &[u32; N], b: &[u32; N], c: &[u32; N], d: &[u32; N]) -> [u32x4; N]
-    ensures row { IsRow N result }
-    ensures first { lane 0 result ≡ a.now }
-    ensures second { lane 1 result ≡ b.now }
-    ensures third { lane 2 result ≡ c.now }
-    ensures fourth { lane 3 result ≡ d.now }
+fn digest_word(digest: &[u8; 32], k: usize) -> u32
+    requires { k < 8 }
+    ensures digest { IsDigest digest.now }
+    ensures word { result ≡ word_at digest.now (4 * k) }
 {
-    let mut out = [u32x4::splat(0); N];
-    'words: for k in 0..N {
-        out[k] = u32x4::from_array([a[k], b[k], c[k], d[k]]);
+    word(digest, 4 * k)
+}
+
+/// Returns word `k` of the prefix. The last word ends in two bytes 0.
+fn prefix_word(text: &[u8; 22], k: usize) -> u32
+    requires { k < 6 }
+    ensures size { length text.now ≡ 22 }
+    ensures word { result ≡ word_at text.now (4 * k) }
+{
+    if k == 5 {
+        u32::from_be_bytes([text[20], text[21], 0, 0])
+    } else {
+        word(text, 4 * k)
     }
-    out
 }
 
-fn words_of_digest(digest: &[u8; 32]) -> [u32; 8]
-    ensures { digest_bytes result 8 ≡ digest.now }
+/// Returns word `k` of each digest.
+fn digest_column<const N: usize>(digests: &[[u8; 32]; N], k: usize) -> Simd<u32, N>
+    requires { k < 8 }
+    ensures size { length result ≡ N }
+    ensures digests { (i : ℕ) → i < N → IsDigest (slice_index_or digests.now i []) }
+    ensures words { (i : ℕ) → i < N
+        → slice_index result i ≡ word_at (slice_index_or digests.now i []) (4 * k) }
 {
-    let mut out = [0u32; 8];
-    'words: for k in 0..8 {
-        out[k] = word(digest, 4 * k);
+    let mut column = [0u32; N];
+    'lanes: for i in 0..N {
+        column[i] = digest_word(&digests[i], k);
     }
-    out
+    Simd::from_array(column)
 }
 
-fn words_of_prefix(text: &[u8; 22]) -> [u32; 6]
-    ensures { IsPrefix result text.now }
+/// Returns word `k` of each prefix.
+fn prefix_column<const N: usize>(texts: &[[u8; 22]; N], k: usize) -> Simd<u32, N>
+    requires { k < 6 }
+    ensures size { length result ≡ N }
+    ensures texts { (i : ℕ) → i < N → length (slice_index_or texts.now i []) ≡ 22 }
+    ensures words { (i : ℕ) → i < N
+        → slice_index result i ≡ word_at (slice_index_or texts.now i []) (4 * k) }
 {
-    [
-        word(text, 0),
-        word(text, 4),
-        word(text, 8),
-        word(text, 12),
-        word(text, 16),
-        u32::from_be_bytes([text[20], text[21], 0, 0]),
-    ]
+    let mut column = [0u32; N];
+    'lanes: for i in 0..N {
+        column[i] = prefix_word(&texts[i], k);
+    }
+    Simd::from_array(column)
 }
 
-/// The row of four digests: lane `i` has the eight words of digest `i`.
-pub fn digest_words(digests: &[[u8; 32]; 4]) -> [u32x4; 8]
-    ensures row { IsRow 8 result }
-    ensures lanes { (i : ℕ) → i < 4
+/// Returns the row of `N` digests: lane `i` has the eight words of digest `i`.
+pub fn digest_words<const N: usize>(digests: &[[u8; 32]; N]) -> [Simd<u32, N>; 8]
+    ensures row { IsRow N 8 result }
+    ensures lanes { (i : ℕ) → i < N
         → digest_bytes (lane i result) 8 ≡ slice_index_or digests.now i [] }
 {
-    row(
-        &words_of_digest(&digests[0]),
-        &words_of_digest(&digests[1]),
-        &words_of_digest(&digests[2]),
-        &words_of_digest(&digests[3]),
+    eight(
+        digest_column(digests, 0),
+        digest_column(digests, 1),
+        digest_column(digests, 2),
+        digest_column(digests, 3),
+        digest_column(digests, 4),
+        digest_column(digests, 5),
+        digest_column(digests, 6),
+        digest_column(digests, 7),
     )
 }
 
-/// The row of four prefixes: lane `i` has the words of prefix `i`, whose last word ends in two
-/// bytes 0.
-pub fn prefix_words(texts: &[[u8; 22]; 4]) -> [u32x4; 6]
-    ensures row { IsRow 6 result }
-    ensures lanes { (i : ℕ) → i < 4
+/// Returns the row of `N` prefixes: lane `i` has the six words of prefix `i`, the last of which
+/// ends in two bytes 0.
+pub fn prefix_words<const N: usize>(texts: &[[u8; 22]; N]) -> [Simd<u32, N>; 6]
+    ensures row { IsRow N 6 result }
+    ensures lanes { (i : ℕ) → i < N
         → IsPrefix (lane i result) (slice_index_or texts.now i []) }
 {
-    row(
-        &words_of_prefix(&texts[0]),
-        &words_of_prefix(&texts[1]),
-        &words_of_prefix(&texts[2]),
-        &words_of_prefix(&texts[3]),
+    six(
+        prefix_column(texts, 0),
+        prefix_column(texts, 1),
+        prefix_column(texts, 2),
+        prefix_column(texts, 3),
+        prefix_column(texts, 4),
+        prefix_column(texts, 5),
     )
 }
 
-/// The digest whose words are in lane `i`, 0 to 3.
-pub fn digest(words: &[u32x4; 8], i: usize) -> [u8; 32]
-    requires row { IsRow 8 words.now }
-    requires lane { i < 4 }
+/// Returns the digest whose words are in lane `i`.
+pub fn digest<const N: usize>(words: &[Simd<u32, N>; 8], i: usize) -> [u8; 32]
+    requires row { IsRow N 8 words.now }
+    requires lane { i < N }
     ensures value { result ≡ digest_bytes (lane i words.now) 8 }
 {
     let mut out = [0u8; 32];
@@ -92,4 +113,43 @@ pub fn digest(words: &[u32x4; 8], i: usize) -> [u8; 32]
         out[4 * k..4 * k + 4].copy_from_slice(&word.to_be_bytes());
     }
     out
+}
+
+/// Returns the vector with another word in lane `i`.
+#[inline(always)]
+fn with_lane<const N: usize>(x: Simd<u32, N>, i: usize, word: u32) -> Simd<u32, N>
+    requires { i < N }
+    ensures size { length result ≡ N }
+    ensures lane { slice_index result i ≡ word }
+    ensures others { (j : ℕ) → j ≢ i → slice_index result j ≡ slice_index x.entry j }
+{
+    let mut lanes = x.to_array();
+    lanes[i] = word;
+    Simd::from_array(lanes)
+}
+
+/// Puts a digest into lane `i` of a row of digests. The other lanes are unchanged.
+pub fn put_digest<const N: usize>(words: &mut [Simd<u32, N>; 8], i: usize, digest: &[u8; 32])
+    requires row { IsRow N 8 words.old }
+    requires lane { i < N }
+    ensures row { IsRow N 8 words.new }
+    ensures lane { digest_bytes (lane i words.new) 8 ≡ digest.now }
+    ensures others { (j : ℕ) → j ≢ i → lane j words.new ≡ lane j words.old }
+{
+    'words: for k in 0..8 {
+        words[k] = with_lane(words[k], i, digest_word(digest, k));
+    }
+}
+
+/// Puts a prefix into lane `i` of a row of prefixes. The other lanes are unchanged.
+pub fn put_prefix<const N: usize>(words: &mut [Simd<u32, N>; 6], i: usize, text: &[u8; 22])
+    requires row { IsRow N 6 words.old }
+    requires lane { i < N }
+    ensures row { IsRow N 6 words.new }
+    ensures lane { IsPrefix (lane i words.new) text.now }
+    ensures others { (j : ℕ) → j ≢ i → lane j words.new ≡ lane j words.old }
+{
+    'words: for k in 0..6 {
+        words[k] = with_lane(words[k], i, prefix_word(text, k));
+    }
 }

@@ -1,19 +1,22 @@
-//! SHA-256 of four messages at once (FIPS 180-4), for messages of one block.
+//! SHA-256 of several messages at once (FIPS 180-4), for messages of one block.
 //!
-//! - [`compress4`] is the compression of four blocks.
-//! - [`step4`] is the digest of four messages of 55 bytes: a prefix, a counter and a digest.
-//! - [`prefix_words`], [`digest_words`] and [`digest`] go between bytes and rows of vectors.
+//! - [`compress`] is the compression of several blocks.
+//! - [`chain_step`] is the digest of messages of 55 bytes: a prefix, a counter and a digest.
+//! - [`prefix_words`], [`put_prefix`], [`digest_words`], [`put_digest`] and [`digest`] convert
+//!   between bytes and rows of vectors.
 //!
-//! A vector has four lanes, one for each message, and a row is an array of vectors. Nothing here
-//! takes memory.
+//! A vector has `N` lanes, one for each message, and a row is an array of vectors. The caller
+//! chooses `N`; which one is fastest depends on the processor that the program is built for. No
+//! function allocates.
 #![tactic(auto)]
 
+mod arrays;
 mod block;
 mod bytes;
 mod consts;
 mod step;
 mod word;
 
-pub use block::compress4;
-pub use bytes::{digest, digest_words, prefix_words};
-pub use step::step4;
+pub use block::compress;
+pub use bytes::{digest, digest_words, prefix_words, put_digest, put_prefix};
+pub use step::chain_step;

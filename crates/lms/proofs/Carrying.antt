@@ -1,8 +1,10 @@
 -- Chains that go on.
-use Rattle.std.proofs.Common.{◌≡◌, ℕ, ◌+◌, ◌-◌, ◌<◌, ◌≤◌, List, [], ◌∷◌, ◌++◌, slice_index, get_or, slice_set, length, refl, sym, ap, ◌∙◌, append_assoc, add-one, arith, inl, inr}
+use Rattle.std.proofs.Common.{◌≡◌, ◌≢◌, ℕ, ◌+◌, ◌-◌, ◌<◌, ◌≤◌, List, [], ◌∷◌, ◌++◌, slice_index, get_or, slice_set, length, refl, sym, ap, ◌∙◌, append_assoc, add-one, arith, inl, inr}
 use Rattle.std.proofs.lemmas.Bool.{cases_eq}
 use Rattle.std.proofs.lemmas.List.{get_or-set_same, get_or-set_other}
-use Rattle.sha2.specs.Sha256.{sha256}
+use Rattle.sha2.specs.Sha256.{digest_bytes, sha256}
+use Rattle.lanes.specs.Lanes.{IsPrefix, lane}
+use Rattle.lms.specs.Carried.{AreCarried, HasRoom, IsCarried, IsLater, Leaf, Lanes}
 use Rattle.lms.specs.Lms.{u16str, u32str, chain, AreOn, IsOn, row_of}
 use Rattle.lms.proofs.Chains.{chain_join, chain_none, chain_more}
 
@@ -72,3 +74,101 @@ row_none xs = refl
 pub row_more : (xs : List (List ℕ)) (n : ℕ) → row_of xs (n + 1) ≡ row_of xs n ++ get_or xs n []
 unfolding row_of
 row_more xs n = rw add-one refl
+
+-- ---- chains in lanes
+
+pub later_self : (s : Leaf) → IsLater s s
+later_self s = record { same_id = refl; same_q = refl; same_ends = refl; on = all_from_start s.ends s.id s.q s.digits s.values }
+
+-- no lane has a chain
+pub carried_none : (n : ℕ) (s : Leaf) (lanes : Lanes n) (ps vs : List (List ℕ))
+    → ((l : ℕ) → l < n → slice_index lanes.chosen l ≡ 67) → AreCarried n s lanes ps vs
+carried_none n s lanes ps vs none = λ l lt used. absurd (omega (arith, none l lt))
+
+-- a chain is put into a lane
+pub carried_begun : (s now : Leaf) (i n : ℕ) (p v : List ℕ) → IsLater s now → i < 67
+    → IsPrefix p (now.id ++ u32str now.q ++ u16str i) → digest_bytes v 8 ≡ get_or now.values i []
+    → HasRoom now i n → IsCarried s i (slice_index now.digits i) n p v
+carried_begun s now i n p v later lt begun value room = record {
+  begun = rw (← later.same_id, ← later.same_q) begun;
+  on = rw value (later.on i lt);
+  end = rw (← later.same_ends) room.end;
+  byte = room.byte;
+}
+
+-- lane l has another chain
+pub carried_set : (n : ℕ) (s : Leaf) (lanes : Lanes n) (ps vs qs ws : List (List ℕ)) (l i r k : ℕ)
+    → length lanes.chosen ≡ n → length lanes.reached ≡ n → length lanes.left ≡ n → l < n
+    → IsCarried s i r k (lane l qs) (lane l ws)
+    → ((j : ℕ) → j ≢ l → lane j qs ≡ lane j ps) → ((j : ℕ) → j ≢ l → lane j ws ≡ lane j vs)
+    → AreCarried n s lanes ps vs
+    → AreCarried n s (record {
+      chosen = slice_set lanes.chosen l i;
+      reached = slice_set lanes.reached l r;
+      left = slice_set lanes.left l k;
+    }) qs ws
+carried_set n s lanes ps vs qs ws l i r k c_size r_size l_size lt new same_ps same_vs old = λ j j_lt used.
+    elim (cases_eq j l) [
+      | inl same ↦
+          let e : l ≡ j = sym same in
+          rw (
+            ← e,
+            get_or-set_same lanes.chosen l i 0 (omega (arith, c_size)),
+            get_or-set_same lanes.reached l r 0 (omega (arith, r_size)),
+            get_or-set_same lanes.left l k 0 (omega (arith, l_size)),
+          )
+          new
+      | inr other ↦
+          let kept = get_or-set_other lanes.chosen l j i 0 other in
+          rw (kept, get_or-set_other lanes.reached l j r 0 other, get_or-set_other lanes.left l j k 0 other, same_ps j other, same_vs j other)
+          (old j j_lt (rw kept at used))
+    ]
+
+-- lane l has no chain any more
+pub carried_free : (n : ℕ) (s : Leaf) (lanes : Lanes n) (ps vs : List (List ℕ)) (l : ℕ) → length lanes.chosen ≡ n → l < n
+    → AreCarried n s lanes ps vs
+    → AreCarried n s (record { chosen = slice_set lanes.chosen l 67; reached = lanes.reached; left = lanes.left }) ps vs
+carried_free n s lanes ps vs l size lt old = λ j j_lt used.
+    elim (cases_eq j l) [
+      | inl same ↦
+          let none : slice_index (slice_set lanes.chosen l 67) j ≡ 67 =
+          rw same (get_or-set_same lanes.chosen l 67 0 (omega (arith, size))) in
+          absurd (omega (arith, none, used))
+      | inr other ↦
+          let kept = get_or-set_other lanes.chosen l j 67 0 other in
+          rw kept (old j j_lt (rw kept at used))
+    ]
+
+-- a chain has gone on
+pub carried_on : (s : Leaf) (i r n count t m : ℕ) (p v w : List ℕ)
+    → IsCarried s i r n p v → t ≡ r + count → m + count ≡ n
+    → digest_bytes w 8 ≡ chain s.id s.q i r count (digest_bytes v 8) → IsCarried s i t m p w
+carried_on s i r n count t m p v w old reached left value =
+    let room = old.end in
+    let byte = old.byte in
+    let end = slice_index s.ends i in
+    record {
+      begun = old.begun;
+      on = rw reached
+          (on_join s.id s.q i end _ r (r + count) _ (digest_bytes v 8) (digest_bytes w 8) old.on
+          (on_by s.id s.q i end r count (digest_bytes v 8) (digest_bytes w 8) (omega arith) value));
+      end = omega arith;
+      byte = omega arith;
+    }
+
+-- a chain is written back
+pub later_set : (s now : Leaf) (i r n : ℕ) (p v y : List ℕ) → length now.digits ≡ 67 → length now.values ≡ 67
+    → i < 67 → y ≡ digest_bytes v 8 → IsLater s now → IsCarried s i r n p v
+    → IsLater s (record {
+      id = now.id;
+      q = now.q;
+      digits = slice_set now.digits i r;
+      ends = now.ends;
+      values = slice_set now.values i y;
+    })
+later_set s now i r n p v y d_size v_size lt same later carried = record {
+  same_id = later.same_id;
+  same_q = later.same_q;
+  same_ends = later.same_ends;
+  on = all_set s.ends s.id s.q s.digits now.digits s.values now.values i r y d_size v_size later.on lt (rw same carried.on);
+}

@@ -1,8 +1,8 @@
-//! SHA-256 in four lanes.
+//! SHA-256 in lanes.
 
 use crate::plain::yes_or_no;
 use anyhow::{Result, bail};
-use lanes::{digest, digest_words, prefix_words, step4};
+use lanes::{chain_step, digest, digest_words, prefix_words};
 use sessions::Step;
 use sha2::{Digest, Sha256};
 use std::alloc::Global;
@@ -59,7 +59,7 @@ fn in_lanes(messages: &[[u8; 55]; 4]) -> [[u8; 32]; 4] {
         u32::from(d[22]),
     ]);
     let values = digest_words(&[back(a), back(b), back(c), back(d)]);
-    let words = step4(&prefixes, counters, &values);
+    let words = chain_step(&prefixes, counters, &values);
     [
         digest(&words, 0),
         digest(&words, 1),
