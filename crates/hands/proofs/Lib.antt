@@ -1,5 +1,6 @@
 pub mod Deals
-pub mod Owned
 pub mod PartLemmas
+pub mod Sharing
+pub mod Trying
 pub mod Turning
 mod WorkedValues

@@ -1,9 +1,8 @@
 -- What follows of even parts.
-use Rattle.std.proofs.Common.{◌≡◌, ◌∙◌, ℕ, zero, suc, nat_lt, if◌then◌else◌, List, [], ◌∷◌, ◌++◌, ◌+◌, ◌/◌, ◌%◌, ◌<◌, ◌≤◌, map, arith, refl, sym, ap, subst, length-append}
+use Rattle.std.proofs.Common.{◌≡◌, ◌∙◌, ℕ, zero, suc, nat_lt, if◌then◌else◌, List, [], ◌∷◌, ◌++◌, ◌+◌, ◌/◌, ◌%◌, ◌<◌, ◌≤◌, map, arith, refl, sym, ap, subst}
 use Rattle.std.specs.List.{range_with_len}
-use Rattle.std.specs.Prelude.{All, length, set, get_or}
+use Rattle.std.specs.Prelude.{All}
 use Rattle.std.proofs.lemmas.List.Elements.{All-append}
-use Rattle.std.proofs.lemmas.List.{set-get_or}
 use Rattle.std.proofs.lemmas.Grind.{common_steps}
 use Rattle.hands.specs.Parts.{Part, start_of, part_of, even_parts, size_of, AreEven, EachOnce}
 use Rattle.hands.proofs.Deals.{range-snoc}
@@ -81,20 +80,5 @@ even count workers = record {
 pub even_in : (count workers : ℕ) (ps : List Part) → ps ≡ even_parts count workers → AreEven ps
 even_in count workers ps e = subst AreEven (sym e) (even count workers)
 
-pub parts_counts : (count workers : ℕ) → All (λ p. p.count ≡ count) (even_parts count workers)
-parts_counts count workers =
-    parts_all count workers (λ k ps. All (λ p. p.count ≡ count) ps) (λ k d h. absurd (omega arith))
-    (λ k ps below was. all_more (λ p. p.count ≡ count) ps (part_of count workers k) was refl) workers (omega arith)
-
-pub parts_len : (count workers : ℕ) → length (even_parts count workers) ≡ workers
-parts_len count workers =
-    parts_all count workers (λ k ps. length ps ≡ k) refl (λ k ps below was. ap (λ n. n) (length-append ps (part_of count workers k ∷ []) ∙ ap (λ n. n + 1) was)) workers (omega arith)
-
 pub end_within : (count workers k : ℕ) → k < workers → start_of count workers (k + 1) ≤ count
 end_within count workers k below = within count workers (k + 1) (omega arith) (omega arith)
-
-pub set_again : (ps : List Part) (k : ℕ) (d : Part) → set ps k (get_or ps k d) ≡ ps
-set_again ps k d = set-get_or ps k d
-
--- what hands of even parts are known by
-pub ruleset dealt = (even_in, parts_counts, parts_len)

@@ -3,18 +3,10 @@ use lib.ListN.{get_elem?}
 use mathlib.Core.Option.{some}
 use Rattle.std.specs.Prelude.{ℕ, Bool, ◌&&◌, ◌+◌, ◌-◌, ◌*◌, ◌/◌, ◌%◌, ◌≡◌, ◌≤◌, min, List, map, count_by, nat_le, nat_lt, if◌then◌else◌, All, ◌<◌, ◌==◌, true, [], ◌∷◌, ◌++◌, length}
 use Rattle.std.specs.List.{range_with_len}
-use Rattle.std.specs.declared.alloc.Global.{Global}
-use Rattle.crossbeam_deque.specs.Handles.{view, Pass, IsPassOf, stealer_deque, worker_flavor, worker_view}
-use Rattle.crossbeam_deque.specs.declared.handles.Worker.{Worker}
-use Rattle.crossbeam_deque.specs.declared.handles.Stealer.{Stealer}
-use Rattle.hands.specs.declared.rule.Rule.{Rule}
 use Rattle.hands.specs.declared.rule.Took.{Took}
 
--- the numbers from `from` up to `end`, which isn't one of them, of those below `count`, dealt to so
--- many workers
+-- the numbers from `from` up to `end`, which isn't one of them
 pub record Part : Type 0 where
-  pub count : ℕ
-  pub workers : ℕ
   pub from : ℕ
   pub end : ℕ
 
@@ -25,16 +17,15 @@ start_of count workers k = k * (count / workers) + min k (count % workers)
 -- part k ends where the next one begins
 abbrev pub part_of : ℕ → ℕ → ℕ → Part
 part_of count workers k =
-    record {
-      count = count;
-      workers = workers;
-      from = start_of count workers k;
-      end = start_of count workers (k + 1);
-    }
+    record { from = start_of count workers k; end = start_of count workers (k + 1) }
 
 -- the parts of all workers, in order
 abbrev pub even_parts : ℕ → ℕ → List Part
 even_parts count workers = map (part_of count workers) (range_with_len 0 workers)
+
+-- the part's numbers, in order
+abbrev pub numbers : Part → List ℕ
+numbers p = range_with_len p.from (p.end - p.from)
 
 -- how many numbers the part has
 abbrev pub size_of : Part → ℕ
@@ -108,26 +99,7 @@ Takes v xs w =
 abbrev pub Pushes : Took → List ℕ → Took → Type 0
 Pushes v xs w = w ≡ took (v.pushed ++ xs) v.taken v.alone
 
--- # What a hand keeps of its own deque and of the others'.
-
--- a worker's own deque
-abbrev pub Deck : Type 0
-Deck = Worker ℕ Global Took Rule
-
--- a way to steal from a deque
-abbrev pub Thief : Type 0
-Thief = Stealer ℕ Global Took Rule
-
--- a deque, first in first out, to which the part's numbers were pushed in order, and nothing else
--- ever
-pub record IsOwn (count from end : ℕ) (own : Deck) : Type 0 where
-  pub flavor : worker_flavor own ≡ 0
-  pub part : (worker_view own).pushed ≡ range_with_len from (end - from)
-  pub below : All (λ n. n < count) (worker_view own).pushed
-  pub order : from ≤ end
-  pub most : end ≤ count
-
--- a way to a deque to which only numbers below the count were pushed
-pub record IsOther (count : ℕ) (thief : Thief) (pass : Pass ℕ Took Global) : Type 0 where
-  pub of : IsPassOf (stealer_deque thief) pass
-  pub below : All (λ n. n < count) (view pass).pushed
+-- a moment that the rule allows, at which the deque is empty and a thread knows this of it
+abbrev pub FoundEmpty : Took → Type 0
+FoundEmpty v =
+    (views : List Took) × (thread : ℕ) × Dealt [] views × (get_elem? views thread ≡ some v)

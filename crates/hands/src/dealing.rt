@@ -1,7 +1,8 @@
 //! The hands of all workers.
 
-ghost use Rattle.std.specs.Prelude.{◌≡◌, ◌≤◌, ◌<◌, ◌+◌, IfOk, All, vec_len};
-ghost use Rattle.hands.specs.Parts.{start_of, even_parts, AreEven, EachOnce};
+ghost use Rattle.std.specs.Prelude.{◌≡◌, ◌≤◌, ◌<◌, ◌+◌, ◌%◌, map, IfOk, All, vec_len};
+ghost use Rattle.hands.specs.Parts.{start_of, AreEven, EachOnce};
+ghost use Rattle.hands.specs.Sources.{share_in, shares, shares_at, own_parts, Untaken};
 
 use crate::hand::Hand;
 use cjson::NoMemory;
@@ -9,13 +10,15 @@ use std::alloc::Global;
 
 /// A hand for each worker, of which there is at least one. Together they hold each number below
 /// `count` once, in order, in parts whose sizes differ by at most one, the longer ones first. Each
-/// hand can steal from every other one. It refuses only for want of memory.
-#[tactic(auto, using(crate::proofs::PartLemmas::dealt))]
+/// hand can steal from every other one, and tries them from the next one upwards and round. It fails
+/// only if out of memory.
 pub fn deal(alloc: Global, count: usize, workers: usize) -> Result<Vec<Hand>, NoMemory>
     requires some { 0 < workers }
-    ensures parts { IfOk result (λ v. v.items ≡ even_parts count workers) }
-    ensures even { IfOk result (λ v. AreEven v.items) }
-    ensures once { IfOk result (λ v. EachOnce count v.items) }
+    ensures shares { IfOk result (λ v. map share_in v.items ≡ shares count workers) }
+    ensures even { IfOk result (λ v. AreEven (own_parts v.items)) }
+    ensures once { IfOk result (λ v. EachOnce count (own_parts v.items)) }
+    ensures untaken { IfOk result (λ v. All Untaken v.items) }
+    ensures counts { IfOk result (λ v. All (λ h. h.count ≡ count) v.items) }
 {
     let mut hands = hands_apart(alloc, count, workers)?;
     for k in 0..workers {
@@ -25,10 +28,10 @@ pub fn deal(alloc: Global, count: usize, workers: usize) -> Result<Vec<Hand>, No
 }
 
 /// Hands that can't steal yet.
-#[tactic(auto, using(crate::proofs::PartLemmas::parts_more))]
 fn hands_apart(alloc: Global, count: usize, workers: usize) -> Result<Vec<Hand>, NoMemory>
     requires { 0 < workers }
-    ensures { IfOk result (λ v. v.items ≡ even_parts count workers) }
+    ensures shares { IfOk result (λ v. map share_in v.items ≡ shares_at count workers 0 1) }
+    ensures untaken { IfOk result (λ v. All Untaken v.items) }
 {
     let mut hands = Vec::with_capacity(alloc, workers)?;
     let mut from = 0;
@@ -56,13 +59,32 @@ fn end_of(count: usize, workers: usize, k: usize, from: usize) -> usize
 /// Gives hand `k` a way to each of the others, from the next one upwards and round.
 fn link(hands: &mut Vec<Hand>, count: usize, k: usize) -> Result<(), NoMemory>
     requires hand { k < vec_len hands.old }
-    requires counts { All (λ p. p.count ≡ count) hands.old.items }
-    ensures same { hands.new.items ≡ hands.old.items }
+    requires shares { map share_in hands.old.items ≡ shares_at count (vec_len hands.old) k 1 }
+    requires untaken { All Untaken hands.old.items }
+    ensures shares { IfOk result (λ _.
+        map share_in hands.new.items ≡ shares_at count (vec_len hands.old) (k + 1) 1) }
+    ensures untaken { IfOk result (λ _. All Untaken hands.new.items) }
 {
-    let workers = hands.len();
-    for step in 1..workers {
-        add_way(hands, count, k, next_of(k, step, workers))?;
+    for step in 1..hands.len() {
+        add_way(hands, count, k, step)?;
     }
+    Ok(())
+}
+
+/// Gives hand `k` a way to the hand at this distance.
+fn add_way(hands: &mut Vec<Hand>, count: usize, k: usize, step: usize) -> Result<(), NoMemory>
+    requires hand { k < vec_len hands.old }
+    requires some { 0 < step }
+    requires step { step < vec_len hands.old }
+    requires shares { map share_in hands.old.items ≡ shares_at count (vec_len hands.old) k step }
+    requires untaken { All Untaken hands.old.items }
+    ensures shares { IfOk result (λ _.
+        map share_in hands.new.items ≡ shares_at count (vec_len hands.old) k (step + 1)) }
+    ensures untaken { IfOk result (λ _. All Untaken hands.new.items) }
+{
+    let other = next_of(k, step, hands.len());
+    let way = hands[other].way()?;
+    hands[k].add(way)?;
     Ok(())
 }
 
@@ -70,24 +92,12 @@ fn link(hands: &mut Vec<Hand>, count: usize, k: usize) -> Result<(), NoMemory>
 fn next_of(k: usize, step: usize, workers: usize) -> usize
     requires hand { k < workers }
     requires step { step < workers }
-    ensures { result < workers }
+    ensures hand { result ≡ (k + step) % workers }
+    ensures below { result < workers }
 {
     if step < workers - k {
         k + step
     } else {
         step - (workers - k)
     }
-}
-
-/// Gives hand `k` a way to hand `other`.
-#[tactic(auto, using(crate::proofs::PartLemmas::set_again))]
-fn add_way(hands: &mut Vec<Hand>, count: usize, k: usize, other: usize) -> Result<(), NoMemory>
-    requires hand { k < vec_len hands.old }
-    requires other { other < vec_len hands.old }
-    requires counts { All (λ p. p.count ≡ count) hands.old.items }
-    ensures same { hands.new.items ≡ hands.old.items }
-{
-    let way = hands[other].way()?;
-    hands[k].add(way)?;
-    Ok(())
 }

@@ -1,10 +1,12 @@
 //! A deque of numbers under its protocol.
 
-ghost use Rattle.std.specs.Prelude.{◌≡◌, ◌≤◌, ◌-◌, true, false, ◌∷◌, [], IfOk, IfSome, IfNone};
+ghost use Rattle.std.specs.Prelude.{◌≡◌, ◌≤◌, ◌<◌, ◌-◌, ◌⊎◌, true, false, ◌∷◌, []};
+ghost use Rattle.std.specs.Prelude.{IfOk, IfSome, IfNone};
 ghost use Rattle.std.specs.List.{range_with_len};
 ghost use Rattle.crossbeam_deque.specs.Handles.{view, IsPassOf, worker_deque, stealer_deque};
-ghost use Rattle.crossbeam_deque.specs.Handles.{worker_flavor, worker_view, SameWorker};
-ghost use Rattle.hands.specs.Parts.{took, Takes};
+ghost use Rattle.crossbeam_deque.specs.Handles.{worker_flavor, stealer_flavor, worker_view};
+ghost use Rattle.crossbeam_deque.specs.Handles.{taken, SameWorker};
+ghost use Rattle.hands.specs.Parts.{took, Takes, FoundEmpty};
 
 use crate::rule::{Cut, Pushed, Rule, Taken, Took};
 use cjson::NoMemory;
@@ -44,23 +46,27 @@ pub fn another(deck: &mut Deck) -> Pass<usize, Took>
     deck.another::<Cut>()
 }
 
-/// The next number of one's own deque.
+/// The next number of one's own deque, or none if it was found empty.
 pub fn pop(deck: &mut Deck) -> Option<usize>
     requires fifo { worker_flavor deck.old ≡ 0 }
     ensures same { SameWorker deck.old deck.new }
     ensures some { IfSome result (λ n.
         Takes (worker_view deck.old) (n ∷ []) (worker_view deck.new)) }
     ensures none { IfNone result (worker_view deck.new ≡ worker_view deck.old) }
+    ensures empty { IfNone result (FoundEmpty (worker_view deck.old)) }
 {
     deck.pop_as::<Taken>()
 }
 
-/// Tries once to take a number from another's deque.
+/// Tries once to take a number from another's deque. None if it was found empty, or a number left it
+/// during the try.
 pub fn steal(thief: &Thief, pass: &mut Pass<usize, Took>) -> Option<usize>
+    requires fifo { stealer_flavor thief.now ≡ 0 }
     requires pass { IsPassOf (stealer_deque thief.now) pass.old }
     ensures same { IsPassOf (stealer_deque thief.now) pass.new }
     ensures some { IfSome result (λ n. Takes (view pass.old) (n ∷ []) (view pass.new)) }
     ensures none { IfNone result (view pass.new ≡ view pass.old) }
+    ensures why { IfNone result (FoundEmpty (view pass.old) ⊎ (taken pass.old < taken pass.new)) }
 {
     match thief.steal_as::<Taken>(pass) {
         Steal::Success(n) => Some(n),

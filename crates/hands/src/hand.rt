@@ -1,72 +1,36 @@
 //! A worker's numbers.
 
-ghost use Rattle.std.specs.Prelude.{◌≡◌, ◌≤◌, ◌<◌, IfOk, IfSome};
-ghost use Rattle.hands.specs.Parts.{HasTurn};
+ghost use Rattle.std.specs.Prelude.{◌≡◌, ◌≤◌, ◌<◌, [], IfOk, IfSome, IfNone};
+ghost use Rattle.hands.specs.Parts.{HasTurn, FoundEmpty};
+ghost use Rattle.hands.specs.Sources.{Source, known, parts_in, part_from, sources, Share, share_in};
+ghost use Rattle.hands.specs.Sources.{with_way, Untaken, FirstGave, EachGaveNone, TookAll};
 
-use crate::deck::{Deck, Thief, another, deck_of, pop, steal};
-use crate::rule::Took;
+use crate::source::{Other, Own};
 use crate::turn::turn_of;
 use cjson::NoMemory;
-use crossbeam_deque::Pass;
 use std::alloc::Global;
 use std::marker::Model;
 
-/// A way to another worker's deque. Contracts see the count that its numbers are below.
-#[derive(Drop)]
-pub(crate) struct Other {
-    count: usize,
-    thief: Thief,
-    pass: Pass<usize, Took>,
-}
-
-impl Model for Other {
-    ghost use Rattle.std.specs.Prelude.{ℕ};
-    ghost use Rattle.hands.specs.Parts.{IsOther};
-
-    ghost Value = { ℕ };
-
-    ghost view = { λ o. o.count };
-
-    ghost invariant = { λ o. IsOther o.count o.thief o.pass };
-}
-
-impl Other {
-    /// Tries once.
-    fn steal(&mut self) -> Option<usize>
-        ensures same { self.new ≡ self.old }
-        ensures below { IfSome result (λ n. n < self.old) }
-    {
-        steal(&self.thief, &mut self.pass)
-    }
-}
-
 /// A worker's numbers: a deque to which its whole part was pushed, and ways to steal from the other
-/// workers' deques. Contracts see the part, which stays what it is when numbers are taken.
+/// workers' deques. Contracts see of each deque its part, and what this hand took.
 #[derive(Drop)]
 pub struct Hand {
     count: usize,
     workers: usize,
-    from: usize,
-    end: usize,
-    own: Deck,
+    own: Own,
     others: Vec<Other>,
-    // The deque that is tried first next: 0 for its own, and then the others' in order.
-    first: usize,
 }
 
 impl Model for Hand {
-    ghost use Rattle.std.specs.Prelude.{◌≡◌, ◌<◌, All};
-    ghost use Rattle.hands.specs.Parts.{Part};
-    ghost use Rattle.hands.specs.Parts.{IsOwn};
+    ghost use Rattle.hands.specs.Sources.{Held, IsHeld};
 
-    ghost Value = { Part };
+    ghost Value = { Held };
 
     ghost view = { λ h.
-        record { count = h.count; workers = h.workers; from = h.from; end = h.end } };
+        record { count = h.count; workers = h.workers; own = h.own; others = h.others.items } };
 
-    ghost invariant = { λ h.
-        IsOwn h.count h.from h.end h.own × All (λ o. o ≡ h.count) h.others.items
-        × (0 < h.workers) };
+    ghost invariant = { λ h. IsHeld
+        (record { count = h.count; workers = h.workers; own = h.own; others = h.others.items }) };
 }
 
 impl Hand {
@@ -82,73 +46,61 @@ impl Hand {
         requires some { 0 < workers }
         requires order { from ≤ end }
         requires below { end ≤ count }
-        ensures part { IfOk result (λ h.
-            h ≡ record { count = count; workers = workers; from = from; end = end }) }
+        ensures share { IfOk result (λ h. share_in h ≡
+            record { count = count; workers = workers; part = part_from from end; others = [] }) }
+        ensures untaken { IfOk result Untaken }
     {
         Ok(Hand {
             count,
             workers,
-            from,
-            end,
-            own: deck_of(alloc, from, end)?,
+            own: Own::of_part(alloc, from, end)?,
             others: Vec::new(alloc),
-            first: 0,
         })
     }
 
-    /// A way to this hand's deque.
+    /// A way to this hand's deque, for another worker.
     pub(crate) fn way(&mut self) -> Result<Other, NoMemory>
-        ensures same { self.new ≡ self.old }
-        ensures count { IfOk result (λ o. o ≡ self.old.count) }
+        requires others { 1 < self.old.workers }
+        ensures share { share_in self.new ≡ share_in self.old }
+        ensures untaken { Untaken self.old → Untaken self.new }
+        ensures part { IfOk result (λ w. w.part ≡ (share_in self.old).part) }
+        ensures most { IfOk result (λ w. w.part.end ≤ self.old.count) }
+        ensures taken { IfOk result (λ w. w.taken ≡ []) }
     {
-        let pass = another(&mut self.own);
-        Ok(Other {
-            count: self.count,
-            thief: self.own.stealer()?,
-            pass,
-        })
+        self.own.way()
     }
 
     /// Adds a way to another hand's deque, behind those that are there.
     pub(crate) fn add(&mut self, other: Other) -> Result<(), NoMemory>
-        requires count { other ≡ self.old.count }
-        ensures same { self.new ≡ self.old }
+        requires most { other.part.end ≤ self.old.count }
+        requires taken { other.taken ≡ [] }
+        ensures share { IfOk result (λ _.
+            share_in self.new ≡ with_way (share_in self.old) other.part) }
+        ensures untaken { IfOk result (λ _. Untaken self.old → Untaken self.new) }
     {
         self.others.push(other)?;
         Ok(())
     }
 
-    /// The next number: one of its own, then one of each other hand's from the next one upwards and
-    /// round, and then again one of its own, so that all parts shrink evenly. There is one try at
-    /// each. None where no try gave a number, so another hand may have some left. It waits for
-    /// nobody and takes no memory.
+    /// The next number: one of its own, and one of another hand's only if its own deque is empty.
+    /// Then each other deque is tried once, from the next hand's upwards and round, until one gives
+    /// a number. None where no try gave one: an only worker then has taken all numbers, and another
+    /// hand may have some left, since a try fails too if a number leaves the deque meanwhile. It
+    /// waits for nobody and takes no memory.
+    #[tactic(auto, using(crate::proofs::Trying::only_took, crate::proofs::Trying::below_held))]
     pub fn next(&mut self) -> Option<usize>
-        ensures same { self.new ≡ self.old }
+        ensures some { IfSome result (λ n. FirstGave n (sources self.old) (sources self.new)) }
+        ensures none { IfNone result (EachGaveNone (sources self.old) (sources self.new)) }
+        ensures own { self.new.own.taken ≡ self.old.own.taken → FoundEmpty (known self.old.own) }
+        ensures only { self.old.workers ≡ 1 → IfNone result (TookAll self.old.own) }
         ensures below { IfSome result (λ n. n < self.old.count) }
+        ensures count { self.new.count ≡ self.old.count }
+        ensures workers { self.new.workers ≡ self.old.workers }
     {
-        for _ in 0..=self.others.len() {
-            let place = self.first;
-            self.first = if place < self.others.len() {
-                place + 1
-            } else {
-                0
-            };
-            if let Some(n) = self.take(place) {
-                return Some(n);
-            }
+        if let Some(n) = self.own.pop() {
+            return Some(n);
         }
-        None
-    }
-
-    /// Tries one deque: its own at place 0, and the others' behind it.
-    fn take(&mut self, place: usize) -> Option<usize>
-        ensures same { self.new ≡ self.old }
-        ensures below { IfSome result (λ n. n < self.old.count) }
-    {
-        if place == 0 {
-            return pop(&mut self.own);
-        }
-        self.others.get_mut(place - 1)?.steal()
+        steal_first(&mut self.others)
     }
 
     /// Where a number comes if the parts of all workers are taken in turns: the first number of
@@ -160,4 +112,19 @@ impl Hand {
     {
         turn_of(self.count, self.workers, n)
     }
+}
+
+/// A number of the first of these deques that gives one. Each is tried once.
+#[tactic(auto, using(crate::proofs::Trying::tries))]
+fn steal_first(others: &mut Vec<Other>) -> Option<usize>
+    ensures some { IfSome result (λ n. FirstGave n others.old.items others.new.items) }
+    ensures none { IfNone result (EachGaveNone others.old.items others.new.items) }
+    ensures parts { parts_in others.new.items ≡ parts_in others.old.items }
+{
+    for place in 0..others.len() {
+        if let Some(stolen) = others[place].steal() {
+            return Some(stolen);
+        }
+    }
+    None
 }

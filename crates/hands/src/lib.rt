@@ -2,8 +2,8 @@
 //! may steal.
 //!
 //! - [`deal`] makes a [`Hand`] for each worker.
-//! - [`Hand::next`] gives a worker its next number: one of its own, and then one of each other
-//!   hand.
+//! - [`Hand::next`] gives a worker its next number: one of its own, and one of another hand's only
+//!   if its own deque is empty.
 //! - [`Hand::turn`] says where a number comes if the parts are taken in turns.
 #![tactic(auto)]
 
@@ -11,6 +11,7 @@ mod dealing;
 mod deck;
 mod hand;
 mod rule;
+mod source;
 mod turn;
 
 pub use dealing::deal;

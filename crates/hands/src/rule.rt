@@ -41,9 +41,11 @@ impl Outcome<usize, Took> for Pushed {
 pub struct Taken;
 
 impl Outcome<usize, Took> for Taken {
-    ghost use Rattle.hands.specs.Parts.{Takes};
+    ghost use Rattle.hands.specs.Parts.{Takes, FoundEmpty};
 
     ghost then = { Takes };
+
+    ghost empty = { FoundEmpty };
 }
 
 /// A second thread may take, which took nothing yet. Nothing is pushed from then on.

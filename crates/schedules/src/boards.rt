@@ -149,7 +149,6 @@ fn one_worker(alloc: Global, step: &Step) -> Result<String> {
 }
 
 /// Returns a hand for each worker.
-#[tactic(auto, using(hands::proofs::PartLemmas::parts_counts))]
 fn hands_for(alloc: Global, count: usize, workers: usize) -> Result<Vec<Hand>, NoMemory>
     requires { 0 < workers }
     ensures { IfOk result (λ v. All (λ h. h.count ≡ count) v.items) }

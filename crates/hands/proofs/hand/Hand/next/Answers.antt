@@ -1,5 +1,5 @@
-use Rattle.std.proofs.Common.{rules}
+use Rattle.hands.proofs.Trying.{below_held}
 use Rattle.hands.proofs.hand.Hand.next.Goals as goal
 
-pub returns-in-Some-clause-below : goal.returns-in-Some-clause-below
-returns-in-Some-clause-below = search rules
+pub returns-clause-below : goal.returns-clause-below
+returns-clause-below c = rw (← c.self.view_is) (below_held _ _ _ c.self.invariant c.steal_first.ensures.some)
