@@ -54,8 +54,8 @@ abbrev pub with_way : Share → Part → Share
 with_way s p =
     record { count = s.count; workers = s.workers; part = s.part; others = s.others ++ p ∷ [] }
 
--- the share of hand k with ways to the hands at the distances below `far`: from the next hand upwards
--- and round
+-- the share of hand k with ways to the hands at the distances below `far`: from the next hand
+-- upwards and round
 abbrev pub share_to : ℕ → ℕ → ℕ → ℕ → Share
 share_to count workers k far =
     record {

@@ -10,8 +10,8 @@ use std::alloc::Global;
 
 /// A hand for each worker, of which there is at least one. Together they hold each number below
 /// `count` once, in order, in parts whose sizes differ by at most one, the longer ones first. Each
-/// hand can steal from every other one, and tries them from the next one upwards and round. It fails
-/// only if out of memory.
+/// hand can steal from every other one, and tries them from the next one upwards and round. It
+/// fails only if out of memory.
 pub fn deal(alloc: Global, count: usize, workers: usize) -> Result<Vec<Hand>, NoMemory>
     requires some { 0 < workers }
     ensures shares { IfOk result (λ v. map share_in v.items ≡ shares count workers) }

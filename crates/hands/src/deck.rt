@@ -58,8 +58,8 @@ pub fn pop(deck: &mut Deck) -> Option<usize>
     deck.pop_as::<Taken>()
 }
 
-/// Tries once to take a number from another's deque. None if it was found empty, or a number left it
-/// during the try.
+/// Tries once to take a number from another's deque. None if it was found empty, or a number left
+/// it during the try.
 pub fn steal(thief: &Thief, pass: &mut Pass<usize, Took>) -> Option<usize>
     requires fifo { stealer_flavor thief.now ≡ 0 }
     requires pass { IsPassOf (stealer_deque thief.now) pass.old }

@@ -25,7 +25,8 @@ impl Model for Own {
 
     ghost Value = { Source };
 
-    ghost view = { λ o. source_of (part_from o.from o.end) (worker_view o.deck) (taken o.deck.end.pass) };
+    ghost view = { λ o.
+        source_of (part_from o.from o.end) (worker_view o.deck) (taken o.deck.end.pass) };
 
     ghost invariant = { λ o. IsOwn (part_from o.from o.end) o.deck };
 }
@@ -93,7 +94,8 @@ impl Model for Other {
 }
 
 impl Other {
-    /// Tries once to take its next number. None if it was found empty, or a number left it meanwhile.
+    /// Tries once to take its next number. None if it was found empty, or a number left it during
+    /// the try.
     #[tactic(auto, using(crate::proofs::Trying::gave_some))]
     pub(crate) fn steal(&mut self) -> Option<usize>
         ensures some { IfSome result (λ n. Gave n self.old self.new) }
