@@ -12,7 +12,7 @@ use std::rt::Files;
 use std::sync::Wait;
 use std::thread::Threads;
 use system::Machine;
-use update::{Folders, replay, verify};
+use update::{Folders, Host};
 
 /// Verifies the folders of the file system that the words name.
 pub fn verify_on_disk<T: Threads + Wait + Sync, W: Write>(
@@ -27,15 +27,12 @@ pub fn verify_on_disk<T: Threads + Wait + Sync, W: Write>(
     let terms = terms(alloc, words)?;
     let metadata = String::from_str(alloc, word(words, "metadata")?)?;
     let targets = String::from_str(alloc, word(words, "targets")?)?;
-    let mut folders = folders_of(rt, metadata, targets);
-    verify(
-        threads,
-        alloc,
-        &mut Machine::new(rt),
-        &terms,
-        &mut folders,
+    let mut host = Host {
+        system: Machine::new(rt),
+        folders: folders_of(rt, metadata, targets),
         out,
-    )
+    };
+    host.verify(threads, alloc, &terms)
 }
 
 /// Verifies the repositories of the file system that the words name, one after another.
@@ -51,16 +48,12 @@ pub fn replay_on_disk<T: Threads + Wait + Sync, W: Write>(
     let terms = terms(alloc, words)?;
     let keep = number(words, "keep")?;
     let repositories = all_of(alloc, words, "DIR")?;
-    let folders = all_folders(rt, alloc, repositories.as_slice())?;
-    replay(
-        threads,
-        alloc,
-        &mut Machine::new(rt),
-        &terms,
-        keep,
-        folders,
+    let mut host = Host {
+        system: Machine::new(rt),
+        folders: all_folders(rt, alloc, repositories.as_slice())?,
         out,
-    )
+    };
+    host.replay(threads, alloc, &terms, keep)
 }
 
 /// The two folders of each repository.

@@ -15,7 +15,7 @@ use std::io::Write;
 use std::sync::Wait;
 use std::thread::Threads;
 use system::Machine;
-use update::init;
+use update::Host;
 
 /// Does what the words after the program's name ask for, or without a word verifies the sample
 /// repository, and answers the exit status: 0 where all wanted targets are good, 1 where one is
@@ -68,8 +68,12 @@ fn perform_command<T: Threads + Wait + Sync, W: Write>(
     let (name, words) = matches.subcommand().ok_or(Failure::Words)?;
     match name {
         "init" => {
-            let (root, state) = (word(words, "ROOT")?, word(words, "out")?);
-            init(alloc, &mut Machine::new(rt), root, state, out)
+            let mut host = Host {
+                system: Machine::new(rt),
+                folders: (),
+                out,
+            };
+            host.init(alloc, word(words, "ROOT")?, word(words, "out")?)
         }
         "make" => make(rt, alloc, word(words, "SCRIPT")?, word(words, "DIR")?),
         "replay" => replay_on_disk(rt, threads, alloc, words, out),

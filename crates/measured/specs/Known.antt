@@ -95,6 +95,11 @@ pub record IsKnown (names : List (List ℕ)) (holds : List ℕ → List ℕ → 
   pub wanted : (name : List ℕ) → IfSome (get_by_text k.files name)
       (λ o. IfSome o (IsWanted (found name) (holds name)))
 
+-- what was so known stays so
+abbrev pub StaysKnown : List (List ℕ) → (List ℕ → List ℕ → Bool) → (List ℕ → Bool)
+    → Known → Known → Type 0
+StaysKnown names holds found old new = IsKnown names holds found old → IsKnown names holds found new
+
 -- the name has the value, and every other name has what it had
 pub record Puts (name : List ℕ) (value : Option Wanted) (old new : Known) : Type 0 where
   pub there : get_by_text new.files name ≡ Some value

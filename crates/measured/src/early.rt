@@ -2,7 +2,7 @@
 
 ghost use Rattle.std.specs.Prelude.{◌≡◌, ◌<◌, ℕ, List, Bool, All, IfSome, string_bytes};
 ghost use Rattle.folder.specs.Measures.{IsMeasureOf};
-ghost use Rattle.measured.specs.Known.{IsKnown};
+ghost use Rattle.measured.specs.Known.{StaysKnown};
 
 use crate::known::{Known, Wanted, entry_of, put};
 use folder::{Folder, Measure, Need};
@@ -28,8 +28,7 @@ pub(crate) fn read_early<R: Threads + Sync, F: Folder + Sync>(
 ) -> Result<(), AllocError>
     requires threads { 0 < threads }
     ensures known { (names : List (List ℕ)) (found : List ℕ → Bool)
-        → IsKnown names (F.holds folder.now) found known.old
-        → IsKnown names (F.holds folder.now) found known.new }
+        → StaysKnown names (F.holds folder.now) found known.old known.new }
 {
     let mut jobs = jobs_of(alloc, known)?;
     measure_all(rt, alloc, folder, jobs.as_mut_slice(), threads);
@@ -83,7 +82,7 @@ fn keep_all(jobs: Vec<Job>, known: &mut Known) -> Result<(), AllocError>
     ensures known { (names : List (List ℕ)) (holds : List ℕ → List ℕ → Bool)
         (found : List ℕ → Bool) → All (λ j. IfSome j.measure
         (IsMeasureOf j.need (holds (string_bytes j.name)))) jobs.items
-        → IsKnown names holds found known.old → IsKnown names holds found known.new }
+        → StaysKnown names holds found known.old known.new }
 {
     for job in jobs {
         keep(job, known)?;
@@ -96,7 +95,7 @@ fn keep(job: Job, known: &mut Known) -> Result<(), AllocError>
     ensures known { (names : List (List ℕ)) (holds : List ℕ → List ℕ → Bool)
         (found : List ℕ → Bool)
         → IfSome job.measure (IsMeasureOf job.need (holds (string_bytes job.name)))
-        → IsKnown names holds found known.old → IsKnown names holds found known.new }
+        → StaysKnown names holds found known.old known.new }
 {
     let Job {
         name,

@@ -8,7 +8,7 @@ ghost use Rattle.folder.specs.Folders.{HasFailed};
 ghost use Rattle.cycle.specs.Workflow.{Target, target_of};
 ghost use Rattle.measured.specs.Closed.{is_found_by, is_found};
 ghost use Rattle.measured.specs.Known as spec;
-ghost use Rattle.measured.specs.Known.{Grows, IsCovered, IsKnown};
+ghost use Rattle.measured.specs.Known.{Grows, IsCovered, StaysKnown};
 
 use crate::known::{Known, Wanted, entry_of, place, put};
 use crate::need::{NOTHING, covers, widened};
@@ -35,8 +35,7 @@ pub(crate) fn note_all(
     known: &mut Known,
 ) -> Result<(), AllocError>
     ensures known { (names : List (List ℕ)) (holds : List ℕ → List ℕ → Bool)
-        → IsKnown names holds (is_found consistent searches.now) known.old
-        → IsKnown names holds (is_found consistent searches.now) known.new }
+        → StaysKnown names holds (is_found consistent searches.now) known.old known.new }
 {
     for search in searches {
         note(alloc, search, consistent, known)?;
@@ -54,7 +53,7 @@ fn note(
     ensures known { (names : List (List ℕ)) (holds : List ℕ → List ℕ → Bool)
         (found : List ℕ → Bool)
         → ((name : List ℕ) → is_found_by consistent name search.now ≡ true → found name ≡ true)
-        → IsKnown names holds found known.old → IsKnown names holds found known.new }
+        → StaysKnown names holds found known.old known.new }
 {
     let Some(target) = target_of(search) else {
         return Ok(());
@@ -94,8 +93,8 @@ pub(crate) fn read_all<F: Folder>(
     known: &mut Known,
 ) -> Result<(), Failure>
     ensures known { (names : List (List ℕ))
-        → IsKnown names (F.holds folder.old) (is_found consistent searches.now) known.old
-        → IsKnown names (F.holds folder.old) (is_found consistent searches.now) known.new }
+        → StaysKnown names (F.holds folder.old) (is_found consistent searches.now)
+        known.old known.new }
     ensures covered { OnOk result (All (IsCovered known.new consistent) searches.now) }
     ensures failed { IfErr result (λ f. f ≡ Failure.Folder
         → HasFailed (F.failures folder.old) (F.failures folder.new)) }
@@ -120,8 +119,7 @@ fn read<F: Folder>(
 ) -> Result<(), Failure>
     ensures known { (names : List (List ℕ)) (found : List ℕ → Bool)
         → ((name : List ℕ) → is_found_by consistent name search.now ≡ true → found name ≡ true)
-        → IsKnown names (F.holds folder.old) found known.old
-        → IsKnown names (F.holds folder.old) found known.new }
+        → StaysKnown names (F.holds folder.old) found known.old known.new }
     ensures covered { OnOk result (IsCovered known.new consistent search.now) }
     ensures grows { Grows known.old known.new }
     ensures failed { IfErr result (λ f. f ≡ Failure.Folder
@@ -150,8 +148,8 @@ fn read_file<F: Folder>(
 ) -> Result<(), Failure>
     requires there { is_some (get_by_text known.old.files (string_bytes name)) ≡ true }
     ensures known { (names : List (List ℕ)) (found : List ℕ → Bool)
-        → found (string_bytes name) ≡ true → IsKnown names (F.holds folder.old) found known.old
-        → IsKnown names (F.holds folder.old) found known.new }
+        → found (string_bytes name) ≡ true
+        → StaysKnown names (F.holds folder.old) found known.old known.new }
     ensures measured { OnOk result (option_map_or (λ o. spec.is_measured o target.now)
         (get_by_text known.new.files (string_bytes name)) false ≡ true) }
     ensures grows { Grows known.old known.new }

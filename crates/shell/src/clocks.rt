@@ -16,7 +16,7 @@ use std::thread::Threads;
 use std::time::Duration;
 use std::{fs, io};
 use system::{System, store, whole_seconds};
-use update::{Folders, Start, moment, verify_from};
+use update::{Folders, Host, Start, moment};
 
 /// The files of a session beside a clock that shows one time since 1970, or that can't be read.
 #[derive(Clone, Copy, Drop)]
@@ -40,6 +40,8 @@ impl<'a, R> Clock for Stopped<'a, R> {
 
 impl<'a, R: Files + AllocGlobal> System for Stopped<'a, R> {
     ghost gives = { λ _ _ _. true };
+
+    ghost refuses = { λ _ _. true };
 
     ghost keeps = { λ _ _ _. true };
 
@@ -196,21 +198,19 @@ fn failing_folders<'a, T>(
 fn verified<T: Threads + Wait + Sync>(
     shell: &Shell<'_, T>,
     start: &Start<'_>,
-    mut folders: Folders<FailingFolder<'_>, FailingFolder<'_>>,
+    folders: Folders<FailingFolder<'_>, FailingFolder<'_>>,
 ) -> Result<Told> {
-    let mut system = Stopped {
+    let system = Stopped {
         rt: shell.rt,
         time: None,
     };
     let mut told = Told::nothing(shell.alloc);
-    match verify_from(
-        shell.threads,
-        shell.alloc,
-        &mut system,
-        start,
-        &mut folders,
-        &mut told.out,
-    ) {
+    let mut host = Host {
+        system,
+        folders,
+        out: &mut told.out,
+    };
+    match host.verify_from(shell.threads, shell.alloc, start) {
         Ok(status) => told.status = status,
         Err(failure) => {
             tell_failure(failure, &mut told.err)?;

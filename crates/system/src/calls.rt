@@ -1,14 +1,19 @@
 //! What a run asks of the system beside its folders and its streams: single files, and the clock.
 
-ghost use Rattle.std.specs.Prelude.{◌≡◌, ◌≢◌, List, ℕ, Bool, true, IfOk, IfSome, OnErr, OnOk};
+ghost use Rattle.std.specs.Prelude.{◌≡◌, ◌≢◌, List, ℕ, Bool, true};
+ghost use Rattle.std.specs.Prelude.{IfErr, IfOk, IfSome, OnErr, OnOk};
+ghost use Rattle.std.specs.IoError.{error_kind};
 
-use std::io;
+use std::io::{self, ErrorKind};
 
-/// Single files, and the clock. What may be read and shown, and what was stored, is the system's
-/// meaning.
+/// Single files, and the clock. What may be read, refused and shown, and what was stored, is the
+/// system's meaning.
 pub trait System {
     /// Whether `read` may give the bytes for the path.
     ghost gives: { Self → List ℕ → List ℕ → Bool };
+
+    /// Whether `read` may fail for the path, other than by being out of memory.
+    ghost refuses: { Self → List ℕ → Bool };
 
     /// Whether the file of the path was stored with the bytes.
     ghost keeps: { Self → List ℕ → List ℕ → Bool };
@@ -18,7 +23,9 @@ pub trait System {
 
     /// The bytes of the file of that path.
     fn read(&self, path: &str) -> io::Result<Vec<u8>>
-        ensures given { IfOk result (λ bytes. gives self.now path.now bytes.items ≡ true) };
+        ensures given { IfOk result (λ bytes. gives self.now path.now bytes.items ≡ true) }
+        ensures refused { IfErr result (λ e. error_kind e ≢ ErrorKind.OutOfMemory
+            → refuses self.now path.now ≡ true) };
 
     /// Stores the bytes as the file of that path, in place of what it held. What was stored for
     /// other paths stays, and after a refusal all of it does.

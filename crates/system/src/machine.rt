@@ -25,6 +25,8 @@ impl<'a, R> Machine<'a, R> {
 impl<'a, R: Files + Clock + AllocGlobal> System for Machine<'a, R> {
     ghost gives = { λ _ _ _. true };
 
+    ghost refuses = { λ _ _. true };
+
     ghost keeps = { λ _ _ _. true };
 
     ghost shows = { λ _ _. true };

@@ -1,16 +1,23 @@
 //! One cycle after another, each on a repository that lies in two folders.
 
-ghost use Rattle.std.specs.Prelude.{◌≡◌, ◌≢◌, ◌≤◌, ◌⊎◌, ⊤, true, All, IfErr, IfOk, OnErr};
-ghost use Rattle.std.specs.Prelude.{option_map, map, string_bytes};
+ghost use Rattle.std.specs.Prelude.{◌≡◌, ◌≢◌, ◌≤◌, ◌<◌, ◌⊎◌, true, IfErr, IfOk, IfSome, OnErr};
+ghost use Rattle.std.specs.Prelude.{length, map, slice_get, string_bytes};
 ghost use Rattle.std.specs.List.{AllZip};
 ghost use Rattle.examine.specs.Checks.{file_in};
-ghost use Rattle.update.specs.Told.{AreMetadata, AreMirrors, AreOutcomesOn, AreTold, Begins};
-ghost use Rattle.update.specs.Told.{IsListed, IsOutcomeOn, IsReplayed, MayBeSeen, OthersKept};
-ghost use Rattle.update.specs.Told.{from_state, last_state, start_from, start_of};
+ghost use Rattle.update.specs.Causes.{AreWrong, IsCauseToRead, IsCauseToReplay};
+ghost use Rattle.update.specs.Causes.{IsCauseToReplayFrom};
+ghost use Rattle.update.specs.Cycles.{AreOutcomesOn, IsReplayed, IsReplayedFrom};
+ghost use Rattle.update.specs.Cycles.{IsUntouchedOrCycled, IsUntouchedOrCycledFrom};
+ghost use Rattle.update.specs.Cycles.{from_state, last_state};
+ghost use Rattle.update.specs.Opened.{IsOpened};
+ghost use Rattle.update.specs.Runs.{IsOutcomeOn, start_of};
+ghost use Rattle.update.specs.Same.{IsCauseToClose, IsCauseToEnd, IsSame};
+ghost use Rattle.update.specs.World.{IsUntouched, OthersKept};
 
-use crate::start::{Folders, Start, Terms, begin, limits_of, load_metadata};
+use crate::host::{Folders, HasMirrors, HasWorld, Host};
+use crate::start::{Opened, Start, Terms, limits_of};
 use crate::state::keep_state;
-use cycle::{Keeper, Limits, Open, Outcome, Repo};
+use cycle::{Keeper, Limits, Open, Outcome};
 use failure::Failure;
 use folder::Folder;
 use measured::close;
@@ -21,160 +28,143 @@ use std::sync::Wait;
 use std::thread::Threads;
 use system::System;
 
-/// Of how many files a keeper remembers verdicts at most.
+/// Maximum number of files in the verdict cache.
 const KEPT: usize = 4096;
 
-/// What a replay begins with: what its first cycle begins with, and of how many files verdicts are
-/// remembered from cycle to cycle (1 to 4,096).
+/// What a replay begins with: what its first cycle begins with, and the number of files whose
+/// verdicts are cached from cycle to cycle (1 to 4,096).
 #[derive(Drop)]
 pub struct Cycles<'a> {
     pub start: Start<'a>,
     pub keep: usize,
 }
 
-/// Replays what the words name: reads the moment, then the state file, and then the folders, as
-/// [`replay_from`] does. If one of them fails, nothing was stored or printed. If out of memory or
-/// by an output error, that holds too, or the last state was stored whole. What is stored for other
-/// paths stays.
-pub fn replay<
-    R: Threads + Wait + Sync,
-    S: System,
-    M: Folder + Drop,
-    T: Folder + Drop + Sync,
-    W: Write,
->(
-    rt: &R,
-    alloc: Global,
-    system: &mut S,
-    terms: &Terms<'_>,
-    keep: usize,
-    folders: Vec<Folders<M, T>>,
-    out: &mut W,
-) -> Result<u8, Failure>
-    ensures known { IfOk result (λ status. status ≤ 2) }
-    ensures replayed { IfOk result (λ status. Begins (S.gives system.old terms.now.state.now)
-        (S.shows system.old) (option_map (λ t. t.now) terms.now.moment) (λ trusted moment.
-        IsReplayed (AreMirrors (λ f. AreMetadata (M.lists f.metadata) (M.holds f.metadata))
-        (λ f. MayBeSeen (T.lists f.targets) (T.holds f.targets)) folders.items)
-        (start_from terms.now trusted moment) (S.keeps system.new terms.now.out.now)
-        (λ os. AreTold os (map string_bytes terms.now.wanted.items) status (W.contents out.old)
-        (W.contents out.new)))) }
-    ensures order { OnErr result (((S.keeps system.new ≡ S.keeps system.old)
-        × (W.contents out.new ≡ W.contents out.old))
-        ⊎ Begins (S.gives system.old terms.now.state.now)
-        (S.shows system.old) (option_map (λ t. t.now) terms.now.moment) (λ trusted moment.
-        IsReplayed (AreMirrors (λ f. AreMetadata (M.lists f.metadata) (M.holds f.metadata))
-        (λ f. MayBeSeen (T.lists f.targets) (T.holds f.targets)) folders.items)
-        (start_from terms.now trusted moment) (S.keeps system.new terms.now.out.now)
-        (λ _. ⊤))) }
-    ensures others { OthersKept terms.now.out.now (S.keeps system.old) (S.keeps system.new) }
-    ensures quiet { IfErr result (λ f. f ≢ Failure.Memory → f ≢ Failure.Output
-        → (S.keeps system.new ≡ S.keeps system.old)
-        × (W.contents out.new ≡ W.contents out.old)) }
-{
-    let start = begin(alloc, system, terms)?;
-    replay_from(rt, alloc, system, &Cycles { start, keep }, folders, out)
+impl<S: System, M: Folder, T: Folder + Sync, W: Write> Host<S, Vec<Folders<M, T>>, W> {
+    /// Replays what the words name: reads the moment, then the state file, and then the folders, as
+    /// [`replay_from`](Host::replay_from) does. If one of them fails, nothing was stored or
+    /// printed. If out of memory or by an output error, that holds too, or the last state was
+    /// stored whole. What is stored for other paths stays.
+    pub fn replay<R: Threads + Wait + Sync>(
+        &mut self,
+        rt: &R,
+        alloc: Global,
+        terms: &Terms<'_>,
+        keep: usize,
+    ) -> Result<u8, Failure>
+        ensures known { IfOk result (λ status. status ≤ 2) }
+        ensures replayed { IfOk result (IsReplayed terms.now
+            (⟦<Self as HasWorld>⟧.world self.old) (⟦<Self as HasWorld>⟧.world self.new)) }
+        ensures order { OnErr result (IsUntouchedOrCycled terms.now
+            (⟦<Self as HasWorld>⟧.world self.old) (⟦<Self as HasWorld>⟧.world self.new)) }
+        ensures others { OthersKept terms.now.out.now
+            (⟦<Self as HasWorld>⟧.world self.old).keeps
+            (⟦<Self as HasWorld>⟧.world self.new).keeps }
+        ensures quiet { IfErr result (λ f. f ≢ Failure.Memory → f ≢ Failure.Output → IsUntouched
+            (⟦<Self as HasWorld>⟧.world self.old) (⟦<Self as HasWorld>⟧.world self.new)) }
+        ensures cause { IfErr result (IsCauseToReplay terms.now keep
+            (⟦<Self as HasWorld>⟧.world self.old) (⟦<Self as HasWorld>⟧.world self.new)) }
+    {
+        let start = self.begin(alloc, terms)?;
+        self.replay_from(rt, alloc, &Cycles { start, keep })
+    }
+
+    /// Verifies what each pair of folders holds, in order, each time from the state of the cycle
+    /// before. Stores the last state, and prints for each cycle the line `cycle K`, counted from 1,
+    /// and its lines. Returns the status of the last one, or 0 if there is none. Cached verdicts
+    /// have no influence on any of it.
+    ///
+    /// All metadata folders are loaded and the names of all target files are listed before the
+    /// first cycle. A target file that a cycle's searches found is read in that cycle, and no other
+    /// is. Otherwise all is as for [`verify_from`](Host::verify_from), with the last state.
+    pub fn replay_from<R: Threads + Wait + Sync>(
+        &mut self,
+        rt: &R,
+        alloc: Global,
+        cycles: &Cycles<'_>,
+    ) -> Result<u8, Failure>
+        ensures known { IfOk result (λ status. status ≤ 2) }
+        ensures replayed { IfOk result (IsReplayedFrom cycles.now.start
+            (⟦<Self as HasWorld>⟧.world self.old) (⟦<Self as HasWorld>⟧.world self.new)) }
+        ensures order { OnErr result (IsUntouchedOrCycledFrom cycles.now.start
+            (⟦<Self as HasWorld>⟧.world self.old) (⟦<Self as HasWorld>⟧.world self.new)) }
+        ensures others { OthersKept cycles.now.start.state.now
+            (⟦<Self as HasWorld>⟧.world self.old).keeps
+            (⟦<Self as HasWorld>⟧.world self.new).keeps }
+        ensures quiet { IfErr result (λ f. f ≢ Failure.Memory → f ≢ Failure.Output → IsUntouched
+            (⟦<Self as HasWorld>⟧.world self.old) (⟦<Self as HasWorld>⟧.world self.new)) }
+        ensures cause { IfErr result (IsCauseToReplayFrom cycles.now
+            (⟦<Self as HasWorld>⟧.world self.old) (⟦<Self as HasWorld>⟧.world self.new)) }
+    {
+        let opened = open_all(alloc, &mut self.folders)?;
+        let mut keeper = keeper_of(alloc, cycles)?;
+        let outcomes = outcomes(
+            rt,
+            alloc,
+            &cycles.start,
+            opened,
+            &mut self.folders,
+            &mut keeper,
+        )?;
+        keep_state(
+            alloc,
+            &mut self.system,
+            cycles.start.state,
+            keeper.trusted(),
+        )?;
+        tell_cycles(
+            alloc,
+            outcomes.as_slice(),
+            cycles.start.wanted,
+            &mut self.out,
+        )
+    }
 }
 
-/// Verifies what each pair of folders holds, in order, each time from the state of the cycle
-/// before. Stores the last state, and prints for each cycle the line `cycle K`, counted from 1, and
-/// its lines. Returns the status of the last one, or 0 if there is none. Cached verdicts have no
-/// influence on any of it.
-///
-/// All metadata folders are loaded and the names of all target files are listed before the first
-/// cycle. A target file that a cycle's searches found is read in that cycle, and no other is.
-/// Otherwise all is as for [`verify_from`](crate::verify_from), with the last state.
-pub fn replay_from<
-    R: Threads + Wait + Sync,
-    S: System,
-    M: Folder + Drop,
-    T: Folder + Drop + Sync,
-    W: Write,
->(
-    rt: &R,
+/// Opens all repositories, in order.
+fn open_all<M: Folder, T: Folder>(
     alloc: Global,
-    system: &mut S,
-    cycles: &Cycles<'_>,
-    folders: Vec<Folders<M, T>>,
-    out: &mut W,
-) -> Result<u8, Failure>
-    ensures known { IfOk result (λ status. status ≤ 2) }
-    ensures replayed { IfOk result (λ status. IsReplayed
-        (AreMirrors (λ f. AreMetadata (M.lists f.metadata) (M.holds f.metadata))
-        (λ f. MayBeSeen (T.lists f.targets) (T.holds f.targets)) folders.items)
-        (start_of cycles.now.start) (S.keeps system.new cycles.now.start.state.now)
-        (λ os. AreTold os (map string_bytes cycles.now.start.wanted.now) status
-        (W.contents out.old)
-        (W.contents out.new))) }
-    ensures order { OnErr result (((S.keeps system.new ≡ S.keeps system.old)
-        × (W.contents out.new ≡ W.contents out.old)) ⊎ IsReplayed
-        (AreMirrors (λ f. AreMetadata (M.lists f.metadata) (M.holds f.metadata))
-        (λ f. MayBeSeen (T.lists f.targets) (T.holds f.targets)) folders.items)
-        (start_of cycles.now.start) (S.keeps system.new cycles.now.start.state.now) (λ _. ⊤)) }
-    ensures others { OthersKept cycles.now.start.state.now (S.keeps system.old)
-        (S.keeps system.new) }
-    ensures quiet { IfErr result (λ f. f ≢ Failure.Memory → f ≢ Failure.Output
-        → (S.keeps system.new ≡ S.keeps system.old)
-        × (W.contents out.new ≡ W.contents out.old)) }
-{
-    let opened = open_all(alloc, folders)?;
-    let mut keeper = keeper_of(alloc, cycles)?;
-    let outcomes = outcomes(rt, alloc, &cycles.start, opened, &mut keeper)?;
-    keep_state(alloc, system, cycles.start.state, keeper.trusted())?;
-    tell_cycles(alloc, outcomes.as_slice(), cycles.start.wanted, out)
-}
-
-/// A pair of folders whose metadata was loaded, and of whose target files the names were listed.
-#[derive(Drop)]
-pub struct Opened<T> {
-    repo: Repo,
-    targets: T,
-    names: Vec<String>,
-}
-
-/// All pairs of folders, in order.
-fn open_all<M: Folder + Drop, T: Folder + Drop>(
-    alloc: Global,
-    folders: Vec<Folders<M, T>>,
-) -> Result<Vec<Opened<T>>, Failure>
-    ensures opened { IfOk result (λ all. AllZip
-        (λ f o. AreMetadata (M.lists f.metadata) (M.holds f.metadata) o.repo.metadata
-        × IsListed (T.lists f.targets) (T.holds f.targets) (T.lists o.targets) (T.holds o.targets)
-        (map string_bytes o.names.items)) folders.items all.items) }
-    ensures refused { IfErr result (λ f. (f ≡ Failure.Memory) ⊎ (f ≡ Failure.Folder)) }
+    folders: &mut Vec<Folders<M, T>>,
+) -> Result<Vec<Opened>, Failure>
+    ensures opened { IfOk result (λ all. AllZip IsOpened
+        (⟦<Vec<Folders<M, T>> as HasMirrors>⟧.mirrors folders.old) all.items) }
+    ensures same { AllZip IsSame (⟦<Vec<Folders<M, T>> as HasMirrors>⟧.mirrors folders.old)
+        (⟦<Vec<Folders<M, T>> as HasMirrors>⟧.mirrors folders.new) }
+    ensures cause { IfErr result (IsCauseToRead
+        (⟦<Vec<Folders<M, T>> as HasMirrors>⟧.mirrors folders.old)
+        (⟦<Vec<Folders<M, T>> as HasMirrors>⟧.mirrors folders.new)) }
 {
     let mut all = Vec::new(alloc);
-    for pair in folders {
-        all.push(open(alloc, pair)?)?;
+    for k in 0..folders.len() {
+        all.push(open_at(alloc, folders, k)?)?;
     }
     Ok(all)
 }
 
-/// A pair of folders.
-fn open<M: Folder + Drop, T: Folder + Drop>(
+/// Opens the repository at that place.
+fn open_at<M: Folder, T: Folder>(
     alloc: Global,
-    mut pair: Folders<M, T>,
-) -> Result<Opened<T>, Failure>
-    ensures metadata { IfOk result (λ o. AreMetadata (M.lists pair.metadata)
-        (M.holds pair.metadata) o.repo.metadata) }
-    ensures targets { IfOk result (λ o. IsListed (T.lists pair.targets) (T.holds pair.targets)
-        (T.lists o.targets) (T.holds o.targets) (map string_bytes o.names.items)) }
-    ensures refused { IfErr result (λ f. (f ≡ Failure.Memory) ⊎ (f ≡ Failure.Folder)) }
+    folders: &mut Vec<Folders<M, T>>,
+    k: usize,
+) -> Result<Opened, Failure>
+    requires place { k < length folders.old.items }
+    ensures opened { IfOk result (λ o. IfSome
+        (slice_get (⟦<Vec<Folders<M, T>> as HasMirrors>⟧.mirrors folders.old) k)
+        (λ m. IsOpened m o)) }
+    ensures same { AllZip IsSame (⟦<Vec<Folders<M, T>> as HasMirrors>⟧.mirrors folders.old)
+        (⟦<Vec<Folders<M, T>> as HasMirrors>⟧.mirrors folders.new) }
+    ensures cause { IfErr result (IsCauseToRead
+        (⟦<Vec<Folders<M, T>> as HasMirrors>⟧.mirrors folders.old)
+        (⟦<Vec<Folders<M, T>> as HasMirrors>⟧.mirrors folders.new)) }
 {
-    let (repo, names) = load_metadata(alloc, &mut pair)?;
-    let Folders { targets, .. } = pair;
-    Ok(Opened {
-        repo,
-        targets,
-        names,
-    })
+    folders[k].open(alloc)
 }
 
-/// A keeper of the state that the cycles begin with. A number of remembered files that is none is a
-/// mistake of the caller.
+/// A keeper of the state that the cycles begin with. Fails as `Words` if the number of cached files
+/// is out of its range.
 fn keeper_of(alloc: Global, cycles: &Cycles<'_>) -> Result<Keeper, Failure>
     ensures state { IfOk result (λ k. k ≡ cycles.now.start.trusted) }
-    ensures refused { IfErr result (λ f. (f ≡ Failure.Words) ⊎ (f ≡ Failure.Memory)) }
+    ensures refused { IfErr result (λ f. (f ≡ Failure.Memory)
+        ⊎ ((f ≡ Failure.Words) × ((cycles.now.keep < 1) ⊎ (4096 < cycles.now.keep)))) }
 {
     if cycles.keep == 0 || cycles.keep > KEPT {
         return Err(Failure::Words);
@@ -185,53 +175,59 @@ fn keeper_of(alloc: Global, cycles: &Cycles<'_>) -> Result<Keeper, Failure>
 
 /// The outcomes of all cycles of a keeper of the start's state, by the number of workers that the
 /// start names.
-fn outcomes<R: Threads + Wait + Sync, T: Folder + Drop + Sync>(
+fn outcomes<R: Threads + Wait + Sync, M: Folder, T: Folder + Sync>(
     rt: &R,
     alloc: Global,
     start: &Start<'_>,
-    opened: Vec<Opened<T>>,
+    opened: Vec<Opened>,
+    folders: &mut Vec<Folders<M, T>>,
     keeper: &mut Keeper,
 ) -> Result<Vec<Outcome>, Failure>
     requires state { keeper.old ≡ start.now.trusted }
-    requires listed { All (λ o. T.lists o.targets (map string_bytes o.names.items) ≡ true)
-        opened.items }
-    ensures outcomes { IfOk result (λ all. AreOutcomesOn (AllZip (λ o m.
-        (m.metadata ≡ o.repo.metadata)
-        × MayBeSeen (T.lists o.targets) (T.holds o.targets) m.targets)
-        opened.items) (start_of start.now) all.items) }
+    requires opened { AllZip IsOpened
+        (⟦<Vec<Folders<M, T>> as HasMirrors>⟧.mirrors folders.old) opened.items }
+    ensures outcomes { IfOk result (λ all. AreOutcomesOn
+        (⟦<Vec<Folders<M, T>> as HasMirrors>⟧.mirrors folders.old)
+        (start_of start.now) all.items) }
     ensures state { IfOk result (λ all. keeper.new
         ≡ last_state (start_of start.now) all.items) }
+    ensures cause { IfErr result (IsCauseToClose
+        (AreWrong start.now.limit start.now.workers)
+        (⟦<Vec<Folders<M, T>> as HasMirrors>⟧.mirrors folders.old)
+        (⟦<Vec<Folders<M, T>> as HasMirrors>⟧.mirrors folders.new)) }
 {
     let limits = limits_of(start)?;
     let mut all = Vec::new(alloc);
     for one in opened {
-        all.push(outcome(rt, alloc, start, &limits, one, keeper)?)?;
+        let targets = &mut folders[all.len()].targets;
+        all.push(outcome(rt, alloc, start, &limits, one, targets, keeper)?)?;
     }
     Ok(all)
 }
 
 /// The outcome of one cycle from the keeper's state, which is then the outcome's.
-fn outcome<R: Threads + Wait + Sync, T: Folder + Drop + Sync>(
+fn outcome<R: Threads + Wait + Sync, T: Folder + Sync>(
     rt: &R,
     alloc: Global,
     start: &Start<'_>,
     limits: &Limits,
-    one: Opened<T>,
+    one: Opened,
+    targets: &mut T,
     keeper: &mut Keeper,
 ) -> Result<Outcome, Failure>
-    requires listed { T.lists one.targets (map string_bytes one.names.items) ≡ true }
+    requires listed { T.lists targets.old (map string_bytes one.names.items) ≡ true }
     requires limit { limits.now.roles ≡ start.now.limit }
     requires workers { start.now.workers ≤ 64 }
-    ensures outcome { IfOk result (IsOutcomeOn
-        (MayBeSeen (T.lists one.targets) (T.holds one.targets))
+    ensures outcome { IfOk result (IsOutcomeOn (T.lists targets.old) (T.holds targets.old)
         (from_state (start_of start.now) keeper.old) (file_in one.repo.metadata)) }
     ensures state { IfOk result (λ o. keeper.new ≡ o.trusted) }
+    ensures same_lists { T.lists targets.new ≡ T.lists targets.old }
+    ensures same_bytes { T.holds targets.new ≡ T.holds targets.old }
+    ensures counts { T.failures targets.old ≤ T.failures targets.new }
+    ensures cause { IfErr result (IsCauseToEnd ⊥ (T.failures targets.old)
+        (T.failures targets.new)) }
 {
-    let Opened {
-        repo,
-        mut targets,
-        names,
-    } = one;
+    let Opened { repo, names } = one;
     let course = keeper.follow(
         rt,
         &repo,
@@ -241,5 +237,5 @@ fn outcome<R: Threads + Wait + Sync, T: Folder + Drop + Sync>(
         start.workers,
         &Open,
     )?;
-    close(rt, alloc, course, &mut targets, names, start.workers)
+    close(rt, alloc, course, targets, names, start.workers)
 }

@@ -1,17 +1,21 @@
 //! What a verification begins with.
 
-ghost use Rattle.std.specs.Prelude.{◌≡◌, ◌≤◌, ◌⊎◌, true, IfErr, IfOk, option_map, map};
-ghost use Rattle.std.specs.Prelude.{string_bytes};
-ghost use Rattle.update.specs.Told.{AreMetadata, IsMomentOf, IsNoMoment, IsRead};
-ghost use Rattle.update.specs.Told.{start_from, start_of};
+ghost use Rattle.std.specs.Prelude.{◌≡◌, ◌≤◌, true, IfErr, IfOk, map, string_bytes};
+ghost use Rattle.std.specs.List.{AllZip};
+ghost use Rattle.update.specs.Causes.{AreWrong, IsCauseToBegin, IsCauseToRead};
+ghost use Rattle.update.specs.Moments.{IsMomentOf};
+ghost use Rattle.update.specs.Runs.{AreMetadata, IsRead, moment_text, start_from, start_of};
+ghost use Rattle.update.specs.Same.{IsSame};
 
 use crate::clock::moment;
+use crate::host::{Folders, HasMirrors, HasWorld, Host};
 use crate::state::read_state;
 use cycle::{Limits, Moment, Repo, Trusted};
 use failure::Failure;
 use folder::{Folder, load_starts};
 use std::alloc::Global;
 use std::collections::BTreeMap;
+use std::io::Write;
 use system::System;
 
 /// How many checks a plan has at most.
@@ -23,13 +27,6 @@ const MOST_LOOKED_AT: u64 = 5_000_001;
 
 /// How many workers a run has at most.
 const WORKERS: usize = 64;
-
-/// The folder of metadata files and the folder of target files.
-#[derive(Drop)]
-pub struct Folders<M, T> {
-    pub metadata: M,
-    pub targets: T,
-}
 
 /// What the words name: the path of the file with the trusted state, the text of the moment, how
 /// many roles a search visits at most (1 to 256), how many threads check ahead (0 to 64), the path
@@ -57,58 +54,71 @@ pub struct Start<'a> {
     pub state: &'a str,
 }
 
-/// What the words name, with the moment and the trusted state that are read.
-pub(crate) fn begin<'a, S: System>(
-    alloc: Global,
-    system: &S,
-    terms: &'a Terms<'_>,
-) -> Result<Start<'a>, Failure>
-    ensures read { IfOk result (λ s. IsRead (S.gives system.now terms.now.state.now) s.trusted) }
-    ensures moment { IfOk result (λ s. IsMomentOf (S.shows system.now)
-        (option_map (λ t. t.now) terms.now.moment) s.moment) }
-    ensures start { IfOk result (λ s. start_of s ≡ start_from terms.now s.trusted s.moment) }
-    ensures place { IfOk result (λ s. s.state.now ≡ terms.now.out.now) }
-    ensures refused { IfErr result (λ f. IsNoMoment (option_map (λ t. t.now) terms.now.moment) f
-        ⊎ (f ≡ Failure.Memory) ⊎ (f ≡ Failure.State)) }
-{
-    let moment = moment(system, terms.moment)?;
-    Ok(Start {
-        trusted: read_state(alloc, system, terms.state)?,
-        moment,
-        wanted: terms.wanted.as_slice(),
-        limit: terms.limit,
-        workers: terms.workers,
-        state: terms.out,
-    })
+impl<S: System, F: HasMirrors, W: Write> Host<S, F, W> {
+    /// What the words name, with the moment and then the trusted state that are read.
+    pub(crate) fn begin<'a>(
+        &self,
+        alloc: Global,
+        terms: &'a Terms<'_>,
+    ) -> Result<Start<'a>, Failure>
+        ensures read { IfOk result (λ s. IsRead
+            ((⟦<Self as HasWorld>⟧.world self.now).gives terms.now.state.now) s.trusted) }
+        ensures moment { IfOk result (λ s. IsMomentOf
+            (⟦<Self as HasWorld>⟧.world self.now).shows (moment_text terms.now) s.moment) }
+        ensures start { IfOk result
+            (λ s. start_of s ≡ start_from terms.now s.trusted s.moment) }
+        ensures place { IfOk result (λ s. s.state.now ≡ terms.now.out.now) }
+        ensures numbers { IfOk result (λ s. (s.limit ≡ terms.now.limit)
+            × (s.workers ≡ terms.now.workers)) }
+        ensures cause { IfErr result (IsCauseToBegin terms.now
+            (⟦<Self as HasWorld>⟧.world self.now)) }
+    {
+        let moment = moment(&self.system, terms.moment)?;
+        Ok(Start {
+            trusted: read_state(alloc, &self.system, terms.state)?,
+            moment,
+            wanted: terms.wanted.as_slice(),
+            limit: terms.limit,
+            workers: terms.workers,
+            state: terms.out,
+        })
+    }
 }
 
-/// The metadata files, each up to the bytes that the workflow looks at, and the names of the target
-/// files.
-#[tactic(auto, using(crate::proofs::Told::of_load))]
-pub(crate) fn load_metadata<M: Folder, T: Folder>(
-    alloc: Global,
-    folders: &mut Folders<M, T>,
-) -> Result<(Repo, Vec<String>), Failure>
-    ensures metadata { IfOk result (λ r. AreMetadata (M.lists folders.old.metadata)
-        (M.holds folders.old.metadata) r.0.metadata) }
-    ensures names { IfOk result (λ r. T.lists folders.old.targets
-        (map string_bytes r.1.items) ≡ true) }
-    ensures same_lists { T.lists folders.new.targets ≡ T.lists folders.old.targets }
-    ensures same_bytes { T.holds folders.new.targets ≡ T.holds folders.old.targets }
-    ensures refused { IfErr result (λ f. (f ≡ Failure.Memory) ⊎ (f ≡ Failure.Folder)) }
-{
-    let metadata = load_starts(alloc, &mut folders.metadata, ".json", MOST_LOOKED_AT)?;
-    let names = folders.targets.names(alloc)?;
-    let targets = BTreeMap::new(alloc);
-    Ok((Repo { metadata, targets }, names))
+/// The metadata that was loaded of a repository, and the names of its target files.
+#[derive(Drop)]
+pub struct Opened {
+    pub(crate) repo: Repo,
+    pub(crate) names: Vec<String>,
 }
 
-/// The limits of a run. More than 64 workers are a mistake of the caller, and so is a limit that is
-/// none.
+impl<M: Folder, T: Folder> Folders<M, T> {
+    /// Loads the metadata files, each up to the bytes that the workflow looks at, and lists the
+    /// target files.
+    pub(crate) fn open(&mut self, alloc: Global) -> Result<Opened, Failure>
+        ensures metadata { IfOk result (λ o. AreMetadata (M.lists self.old.metadata)
+            (M.holds self.old.metadata) o.repo.metadata) }
+        ensures names { IfOk result (λ o. T.lists self.old.targets
+            (map string_bytes o.names.items) ≡ true) }
+        ensures same { AllZip IsSame (⟦<Self as HasMirrors>⟧.mirrors self.old)
+            (⟦<Self as HasMirrors>⟧.mirrors self.new) }
+        ensures cause { IfErr result (IsCauseToRead (⟦<Self as HasMirrors>⟧.mirrors self.old)
+            (⟦<Self as HasMirrors>⟧.mirrors self.new)) }
+    {
+        let metadata = load_starts(alloc, &mut self.metadata, ".json", MOST_LOOKED_AT)?;
+        let names = self.targets.names(alloc)?;
+        let targets = BTreeMap::new(alloc);
+        let repo = Repo { metadata, targets };
+        Ok(Opened { repo, names })
+    }
+}
+
+/// The limits of a run. Fails as `Words` if a number is out of its range.
 pub(crate) fn limits_of(start: &Start<'_>) -> Result<Limits, Failure>
     ensures roles { IfOk result (λ l. l.roles ≡ start.now.limit) }
     ensures workers { IfOk result (λ _. start.now.workers ≤ 64) }
     ensures refused { IfErr result (λ f. f ≡ Failure.Words) }
+    ensures cause { IfErr result (λ _. AreWrong start.now.limit start.now.workers) }
 {
     if start.workers > WORKERS {
         return Err(Failure::Words);

@@ -1,11 +1,18 @@
-use Rattle.std.proofs.Common.{map, string_bytes}
+use Rattle.std.proofs.Common.{◌≡◌, length, map, take}
 use Rattle.std.specs.List.{AllZip}
-use Rattle.update.specs.Told.{AreMetadata}
-use Rattle.update.specs.Told.{IsListed}
+use Rattle.update.specs.Opened.{IsOpened}
+use Rattle.update.specs.Same.{IsSame}
+use Rattle.update.specs.World.{Mirror}
 use Rattle.update.proofs.replaying.open_all.Given as goal
 
-abbrev pub invariant-loop-pair : goal.invariant-loop-pair
-invariant-loop-pair g l =
-    AllZip (λ f o. AreMetadata (g.M.Folder.lists f.metadata) (g.M.Folder.holds f.metadata) o.repo.metadata
-    × IsListed (g.T.Folder.lists f.targets) (g.T.Folder.holds f.targets) (g.T.Folder.lists o.targets) (g.T.Folder.holds o.targets) (map string_bytes o.names.items))
-    l.yielded l.all.items
+abbrev pub invariant-loop-k : goal.invariant-loop-k
+invariant-loop-k g l =
+    let mirrors = map {B = Mirror} (λ f. record {
+      metadata = record { lists = g.M.Folder.lists f.metadata; holds = g.M.Folder.holds f.metadata; failures = g.M.Folder.failures f.metadata };
+      targets = record { lists = g.T.Folder.lists f.targets; holds = g.T.Folder.holds f.targets; failures = g.T.Folder.failures f.targets };
+    }) in
+    record {
+      opened : AllZip IsOpened (take l.k (mirrors l.fn.folders.items)) l.all.items;
+      same : AllZip IsSame (mirrors l.fn.folders.items) (mirrors l.folders.items);
+      len : length l.folders.items ≡ length l.fn.folders.items;
+    }

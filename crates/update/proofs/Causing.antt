@@ -1,0 +1,76 @@
+-- Why a run fails, out of why its steps do.
+use Rattle.std.proofs.Common.{◌≡◌, ◌≤◌, ◌⊎◌, inl, inr, List, [], ◌∷◌, ℕ, Result, Err, IfErr, arith, subst, sym}
+use Rattle.std.specs.List.{AllZip}
+use Rattle.failure.specs.declared.failure.Failure.{Failure}
+use Rattle.failure.specs.declared.failure.Failure.TheVariants as failure
+use Rattle.folder.specs.Folders.{HasFailed}
+use Rattle.update.specs.Causes.{AreWrong, AreWrongToKeep, IsCauseFrom, IsCauseToRead, SomeFailed}
+use Rattle.update.specs.Same.{IsCauseToClose, IsCauseToEnd, IsSame}
+use Rattle.update.specs.World.{Mirror}
+
+-- ---- folders
+
+counted : (a b c : ℕ) → a ≤ b → HasFailed b c → HasFailed a c
+counted a b c le (inl less) = inl (omega arith)
+counted a b c le (inr full) = inr full
+
+pub same_failed : (a b c : List Mirror) → AllZip IsSame a b → SomeFailed b c → SomeFailed a c
+same_failed [] [] c h f = f
+same_failed [] (n ∷ b) c h f = absurd h
+same_failed (m ∷ a) [] c h f = absurd h
+same_failed (m ∷ a) (n ∷ b) [] h f = absurd f
+same_failed (m ∷ a) (n ∷ b) (o ∷ c) h (inl (inl f)) = inl (inl (counted _ _ _ h.0.metadata.failures f))
+same_failed (m ∷ a) (n ∷ b) (o ∷ c) h (inl (inr f)) = inl (inr (counted _ _ _ h.0.targets.failures f))
+same_failed (m ∷ a) (n ∷ b) (o ∷ c) h (inr f) = inr (same_failed a b c h.1 f)
+
+pub same_read : (a b c : List Mirror) (f : Failure) → AllZip IsSame a b → IsCauseToRead b c f → IsCauseToRead a c f
+same_read a b c failure.Words h is = absurd is
+same_read a b c failure.Now h is = absurd is
+same_read a b c failure.State h is = absurd is
+same_read a b c (failure.Script line) h is = absurd is
+same_read a b c failure.Input h is = absurd is
+same_read a b c failure.Folder h is = same_failed a b c h is
+same_read a b c failure.Clock h is = absurd is
+same_read a b c failure.Output h is = absurd is
+same_read a b c failure.Memory h is = tt
+
+pub same_close : (wrong : Type 0) (a b c : List Mirror) (f : Failure) → AllZip IsSame a b → IsCauseToClose wrong b c f → IsCauseToClose wrong a c f
+same_close wrong a b c failure.Words h is = is
+same_close wrong a b c failure.Now h is = is
+same_close wrong a b c failure.State h is = is
+same_close wrong a b c (failure.Script line) h is = is
+same_close wrong a b c failure.Input h is = is
+same_close wrong a b c failure.Folder h is = same_failed a b c h is
+same_close wrong a b c failure.Clock h is = is
+same_close wrong a b c failure.Output h is = is
+same_close wrong a b c failure.Memory h is = is
+
+-- what holds of an error holds of a result that is this error
+pub carried : {A : Type 0} (P : Failure → Type 0) (r : Result A Failure) (e : Failure) → r ≡ Err e → P e → IfErr r P
+carried P r e is p = subst (λ r. IfErr r P) (sym is) p
+
+-- ---- cycles
+
+pub closing : (limit workers keep : ℕ) (old new : List Mirror) (f : Failure) → IsCauseToClose (AreWrong limit workers) old new f → IsCauseFrom (AreWrongToKeep limit workers keep) old new f
+closing limit workers keep old new failure.Words is = inl is
+closing limit workers keep old new failure.Now is = is
+closing limit workers keep old new failure.State is = is
+closing limit workers keep old new (failure.Script line) is = is
+closing limit workers keep old new failure.Input is = is
+closing limit workers keep old new failure.Folder is = is
+closing limit workers keep old new failure.Clock is = is
+closing limit workers keep old new failure.Output is = absurd is
+closing limit workers keep old new failure.Memory is = is
+
+-- a failure of one repository's target files, among all
+pub ending_one : (wrong : Type 0) (old new : List Mirror) (before after : ℕ) (f : Failure) → (HasFailed before after → SomeFailed old new)
+    → IsCauseToEnd ⊥ before after f → IsCauseToClose wrong old new f
+ending_one wrong old new before after failure.Words failed is = absurd is
+ending_one wrong old new before after failure.Now failed is = is
+ending_one wrong old new before after failure.State failed is = is
+ending_one wrong old new before after (failure.Script line) failed is = is
+ending_one wrong old new before after failure.Input failed is = is
+ending_one wrong old new before after failure.Folder failed is = failed is
+ending_one wrong old new before after failure.Clock failed is = is
+ending_one wrong old new before after failure.Output failed is = is
+ending_one wrong old new before after failure.Memory failed is = tt

@@ -1,0 +1,88 @@
+-- One verification after another, each from the state of the one before.
+use Rattle.std.specs.List.{AllZip}
+use Rattle.std.specs.Bool.{⊤}
+use Rattle.std.specs.Io.KnownBytes.{Appends}
+use Rattle.std.specs.Prelude.{◌≡◌, ◌⊎◌, ℕ, List, Bool, true, Option, map, string_bytes, [], ◌∷◌}
+use Rattle.examine.specs.Checks.{file_in}
+use Rattle.report.specs.Lines.{last_status, cycles_text}
+use Rattle.update.specs.Runs.{AreMetadata, Begins, IsOutcomeIn, IsUntouched, Loaded, MayBeSeen, Mirror, Outcome, Seen, Start, State, World, start_from, start_of, state_text}
+use Rattle.update.specs.declared.start.Terms.{Terms}
+use Rattle.update.specs.declared.start.Start as program
+
+-- what was read of a repository: its metadata files, and what was seen of its target files
+pub record Contents : Type 0 where
+  pub metadata : Loaded
+  pub targets : Seen
+
+-- the folders may give it
+pub record MayGive (mirror : Mirror) (c : Contents) : Type 0 where
+  pub metadata : AreMetadata mirror.metadata.lists mirror.metadata.holds c.metadata
+  pub targets : MayBeSeen mirror.targets.lists mirror.targets.holds c.targets
+
+-- the same start with another state
+abbrev pub from_state : Start → State → Start
+from_state s trusted = record s { trusted = trusted }
+
+-- what the next cycle begins with
+abbrev pub after : Start → Outcome → Start
+after s o = from_state s o.trusted
+
+-- the state after the cycles
+abbrev pub last_state : Start → List Outcome → State
+last_state s [] = s.trusted
+last_state s (o ∷ os) = last_state (after s o) os
+
+-- the outcomes of the cycles, each from the state of the one before
+abbrev pub AreOutcomesIn : Start → List Contents → List Outcome → Type 0
+AreOutcomesIn s [] [] = Unit {0}
+AreOutcomesIn s [] (o ∷ os) = ⊥
+AreOutcomesIn s (c ∷ cs) [] = ⊥
+AreOutcomesIn s (c ∷ cs) (o ∷ os) =
+    IsOutcomeIn s (file_in c.metadata) c.targets o × AreOutcomesIn (after s o) cs os
+
+-- what was read of the repositories, and the outcomes of the cycles
+pub record AreOutcomesOn (mirrors : List Mirror) (start : Start) (os : List Outcome) : Type 0 where
+  pub contents : List Contents
+  pub given : AllZip MayGive mirrors contents
+  pub of_workflow : AreOutcomesIn start contents os
+
+-- the lines of the cycles were printed, and the status is that of the last one
+pub record AreTold (os : List Outcome) (wanted : List (List ℕ)) (status : ℕ)
+    (old new : Option (List ℕ)) : Type 0 where
+  pub lines : Appends old new (cycles_text wanted os)
+  pub answered : status ≡ last_status os
+
+-- the outcomes of the cycles: the state after them is stored, and more holds of them
+pub record AreStored (mirrors : List Mirror) (start : Start) (keeps : List ℕ → Bool)
+    (follows : List Outcome → Type 0) : Type 0 where
+  pub outcomes : List Outcome
+  pub of_cycles : AreOutcomesOn mirrors start outcomes
+  pub kept : keeps (state_text (last_state start outcomes)) ≡ true
+  pub then : follows outcomes
+
+-- # The cycles on the repositories, in order.
+
+-- the state after them is stored, and more holds of their outcomes
+abbrev pub CyclesStoreFrom : program.Start → World → World → (List Outcome → Type 0) → Type 0
+CyclesStoreFrom s old new = AreStored old.mirrors (start_of s) (new.keeps s.state.now)
+
+-- their lines were printed too, and this is the status
+abbrev pub IsReplayedFrom : program.Start → World → World → ℕ → Type 0
+IsReplayedFrom s old new status = CyclesStoreFrom s old new
+    (λ os. AreTold os (map string_bytes s.wanted.now) status old.printed new.printed)
+
+-- nothing was stored or printed, or the last state was stored
+abbrev pub IsUntouchedOrCycledFrom : program.Start → World → World → Type 0
+IsUntouchedOrCycledFrom s old new = IsUntouched old new ⊎ CyclesStoreFrom s old new (λ _. ⊤)
+
+-- the same from the state and the moment that the words name
+abbrev pub CyclesStore : Terms → World → World → (List Outcome → Type 0) → Type 0
+CyclesStore terms old new follows = Begins terms old (λ trusted moment.
+    AreStored old.mirrors (start_from terms trusted moment) (new.keeps terms.out.now) follows)
+
+abbrev pub IsReplayed : Terms → World → World → ℕ → Type 0
+IsReplayed terms old new status = CyclesStore terms old new
+    (λ os. AreTold os (map string_bytes terms.wanted.items) status old.printed new.printed)
+
+abbrev pub IsUntouchedOrCycled : Terms → World → World → Type 0
+IsUntouchedOrCycled terms old new = IsUntouched old new ⊎ CyclesStore terms old new (λ _. ⊤)

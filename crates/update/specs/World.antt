@@ -1,0 +1,33 @@
+-- What a run reads, stores and prints.
+use Rattle.std.specs.Prelude.{ℕ, List, Bool, Option, ◌≡◌, ◌≢◌}
+
+-- what a folder may give, lists of names and the bytes of files, and how many of its calls failed
+pub record Folder : Type 0 where
+  pub lists : List (List ℕ) → Bool
+  pub holds : List ℕ → List ℕ → Bool
+  pub failures : ℕ
+
+-- the two folders of a repository
+pub record Mirror : Type 0 where
+  pub metadata : Folder
+  pub targets : Folder
+
+-- Which bytes the file of a path may give, and which file may not be read. Which second of Unix
+-- time the clock may show. With which bytes the file of a path was stored. The folders, in order,
+-- and what was printed, where that is known.
+pub record World : Type 0 where
+  pub gives : List ℕ → List ℕ → Bool
+  pub refuses : List ℕ → Bool
+  pub shows : ℕ → Bool
+  pub keeps : List ℕ → List ℕ → Bool
+  pub mirrors : List Mirror
+  pub printed : Option (List ℕ)
+
+-- nothing was stored or printed
+abbrev pub IsUntouched : World → World → Type 0
+IsUntouched old new = (new.keeps ≡ old.keeps) × (new.printed ≡ old.printed)
+
+-- what is stored at each other place is as it was
+abbrev pub OthersKept : List ℕ → (List ℕ → List ℕ → Bool) → (List ℕ → List ℕ → Bool) → Type 0
+OthersKept place old new =
+    (other held : List ℕ) → other ≢ place → new other held ≡ old other held
