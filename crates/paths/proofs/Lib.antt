@@ -1,0 +1,2 @@
+pub mod Parting
+mod WorkedValues
