@@ -1,3 +1,4 @@
+pub mod Spelling
 mod Numbered
 mod WorkedValues
 mod Statuses

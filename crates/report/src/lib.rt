@@ -2,12 +2,18 @@
 //!
 //! - [`tell`] prints the lines of an outcome and returns the status, and [`tell_cycles`] does for
 //!   one cycle after another.
+//! - [`show`] prints what a trusted state has, and when it expires; [`moment_text`] returns the text
+//!   of a moment.
 //! - [`root_line`], [`push_end`] and [`push_verdict`] make single lines, and [`put`] writes a text.
 #![tactic(auto)]
 
 mod cycles;
 mod lines;
+mod moments;
 mod quote;
+mod shown;
 
 pub use cycles::tell_cycles;
 pub use lines::{push_end, push_verdict, put, root_line, tell};
+pub use moments::moment_text;
+pub use shown::show;

@@ -205,7 +205,7 @@ fn push_refused(
     writeln!(text, "no {path} {fault} {role}")
 }
 
-fn step_name(step: Step) -> &'static str
+pub(crate) fn step_name(step: Step) -> &'static str
     ensures word { result.now ≡ spec.step_word step }
 {
     match step {
