@@ -1,0 +1,55 @@
+//! The trusted state, shown.
+
+ghost use Rattle.std.specs.Prelude.{◌≡◌, ◌≢◌, ◌≤◌, IfErr, IfOk, option_map};
+ghost use Rattle.update.specs.Shown as spec;
+ghost use Rattle.update.specs.World.{IsUntouched};
+
+use crate::host::{HasMirrors, HasWorld, Host};
+use crate::state::read_state;
+use cycle::Moment;
+use failure::Failure;
+use report::show;
+use std::alloc::Global;
+use std::io::Write;
+use system::System;
+
+impl<S: System, F: HasMirrors, W: Write> Host<S, F, W> {
+    /// Prints the lines of the trusted state in a file: a version and the moment of expiry for the
+    /// root and for each other file that is trusted. Returns 1 if `before` is given and one of them
+    /// expires before the moment that it spells, else 0. Stores nothing.
+    ///
+    /// Reads the moment, and then the state. Fails as `Now` if `before` spells no moment, as
+    /// `State` if the state file can't be read or holds none, and if out of memory or by an output
+    /// error.
+    #[tactic(auto, using(crate::proofs::Viewing::viewing))]
+    pub fn show(&mut self, alloc: Global, state: &str, before: Option<&str>) -> Result<u8, Failure>
+        ensures known { IfOk result (λ status. status ≤ 1) }
+        ensures shown { IfOk result (spec.IsShown state.now
+            (option_map (λ t. t.now) before.entry)
+            (⟦<Self as HasWorld>⟧.world self.old) (⟦<Self as HasWorld>⟧.world self.new)) }
+        ensures untouched { (⟦<Self as HasWorld>⟧.world self.new).keeps
+            ≡ (⟦<Self as HasWorld>⟧.world self.old).keeps }
+        ensures quiet { IfErr result (λ f. f ≢ Failure.Memory → f ≢ Failure.Output → IsUntouched
+            (⟦<Self as HasWorld>⟧.world self.old) (⟦<Self as HasWorld>⟧.world self.new)) }
+        ensures cause { IfErr result (spec.IsCauseToShow state.now
+            (option_map (λ t. t.now) before.entry) (⟦<Self as HasWorld>⟧.world self.old)) }
+    {
+        let before = moment_before(before)?;
+        let trusted = read_state(alloc, &self.system, state)?;
+        show(alloc, &trusted, before, &mut self.out)
+    }
+}
+
+/// The moment that the text spells, if there is a text.
+fn moment_before(text: Option<&str>) -> Result<Option<Moment>, Failure>
+    ensures moment { IfOk result (spec.IsBefore (option_map (λ t. t.now) text.entry)) }
+    ensures refused { IfErr result (spec.IsNoBefore (option_map (λ t. t.now) text.entry)) }
+{
+    match text {
+        Some(text) => match Moment::read(text) {
+            Some(moment) => Ok(Some(moment)),
+            None => Err(Failure::Now),
+        },
+        None => Ok(None),
+    }
+}
