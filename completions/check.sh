@@ -4,9 +4,11 @@ set -euo pipefail
 cd "$(dirname "$0")"
 program=${1:-../crates/tufcheck/out/tufcheck}
 words=$("$program" --help | sed -n '/^Commands:/,/^$/s/^  \([a-z]*\) .*/\1/p')
-for command in $words; do
+commands=$words
+words+=" $("$program" --help | grep -o -- '--[a-z-]*' | sort -u | tr '\n' ' ')"
+for command in $commands; do
     [ "$command" = help ] && continue
-    words+=" $("$program" help "$command" | grep -o -- '--[a-z]*' | sort -u | tr '\n' ' ')"
+    words+=" $("$program" help "$command" | grep -o -- '--[a-z-]*' | sort -u | tr '\n' ' ')"
 done
 status=0
 for file in tufcheck.bash _tufcheck tufcheck.fish ../docs/tufcheck.1; do

@@ -2,20 +2,21 @@
 _tufcheck() {
     local word=${COMP_WORDS[COMP_CWORD]} before=${COMP_WORDS[COMP_CWORD - 1]}
     case $before in
-    --state | --out) mapfile -t COMPREPLY < <(compgen -f -- "$word"); return ;;
+    --state | --out | --paths-from) mapfile -t COMPREPLY < <(compgen -f -- "$word"); return ;;
     --metadata | --targets) mapfile -t COMPREPLY < <(compgen -d -- "$word"); return ;;
-    --now | --limit | --workers | --keep) return ;;
+    --now | --before | --limit | --workers | --keep) return ;;
     esac
     if ((COMP_CWORD == 1)); then
-        mapfile -t COMPREPLY < <(compgen -W "init verify replay make help --help -h" -- "$word")
+        mapfile -t COMPREPLY < <(compgen -W "init verify replay show make help --help -h --version -V" -- "$word")
         return
     fi
     case ${COMP_WORDS[1]} in
     init) mapfile -t COMPREPLY < <(compgen -W "--out --help -h" -f -- "$word") ;;
-    verify) mapfile -t COMPREPLY < <(compgen -W "--state --metadata --targets --now --limit --workers --out --help -h" -- "$word") ;;
-    replay) mapfile -t COMPREPLY < <(compgen -W "--state --now --limit --workers --keep --out --help -h" -d -- "$word") ;;
+    verify) mapfile -t COMPREPLY < <(compgen -W "--state --metadata --targets --now --limit --workers --paths-from --null --out --help -h" -- "$word") ;;
+    replay) mapfile -t COMPREPLY < <(compgen -W "--state --now --limit --workers --keep --paths-from --null --out --help -h" -d -- "$word") ;;
+    show) mapfile -t COMPREPLY < <(compgen -W "--before --help -h" -f -- "$word") ;;
     make) mapfile -t COMPREPLY < <(compgen -W "--help -h" -f -- "$word") ;;
-    help) mapfile -t COMPREPLY < <(compgen -W "init verify replay make" -- "$word") ;;
+    help) mapfile -t COMPREPLY < <(compgen -W "init verify replay show make" -- "$word") ;;
     esac
 }
 complete -o filenames -F _tufcheck tufcheck

@@ -69,7 +69,7 @@ completed() {
 # offered: checks that `seen` has each option that the program's help of `verify` names
 offered() {
     local option options
-    options=$(clean tufcheck help verify | grep -o -- '--[a-z][a-z]*' | sort -u)
+    options=$(clean tufcheck help verify | grep -o -- '--[a-z][a-z-]*' | sort -u)
     [ -n "$options" ] || return 1
     for option in $options; do
         grep -q -x -e "$option" -e "${option}[[:space:]].*" "$work/seen" || { echo "lacks $option" >> "$work/seen"; return 1; }

@@ -2,6 +2,7 @@
 
 ghost use Rattle.std.specs.Prelude.{◌≤◌, IfOk};
 
+use crate::listed::push_listed;
 use crate::terms::{all_of, number, terms, word};
 use clap::ArgMatches;
 use failure::Failure;
@@ -24,7 +25,8 @@ pub fn verify_on_disk<T: Threads + Wait + Sync, W: Write>(
 ) -> Result<u8, Failure>
     ensures known { IfOk result (λ status. status ≤ 2) }
 {
-    let terms = terms(alloc, words)?;
+    let mut terms = terms(alloc, words)?;
+    push_listed(rt, alloc, words, &mut terms.wanted)?;
     let metadata = String::from_str(alloc, word(words, "metadata")?)?;
     let targets = String::from_str(alloc, word(words, "targets")?)?;
     let mut host = Host {
@@ -45,7 +47,8 @@ pub fn replay_on_disk<T: Threads + Wait + Sync, W: Write>(
 ) -> Result<u8, Failure>
     ensures known { IfOk result (λ status. status ≤ 2) }
 {
-    let terms = terms(alloc, words)?;
+    let mut terms = terms(alloc, words)?;
+    push_listed(rt, alloc, words, &mut terms.wanted)?;
     let keep = number(words, "keep")?;
     let repositories = all_of(alloc, words, "DIR")?;
     let mut host = Host {

@@ -19,9 +19,10 @@ use update::Host;
 
 /// Does what the words after the program's name ask for, or without a word verifies the sample
 /// repository, and answers the exit status: 0 where all wanted targets are good, 1 where one is
-/// refused, 2 where the update stopped or the root was refused, 3 for a mistake of the caller and 4
-/// for a refusal of the system. The lines go to `out`, and what is said of a mistake or a refusal
-/// goes to `err`. Files and clock are those of `rt`, and what checks ahead is started by `threads`.
+/// refused or a file that is shown expires too soon, 2 where the update stopped or the root was
+/// refused, 3 for a mistake of the caller and 4 for a refusal of the system. The lines go to `out`,
+/// and what is said of a mistake or a refusal goes to `err`. Files, clock and standard input are
+/// those of `rt`, and what checks ahead is started by `threads`.
 pub fn perform<T: Threads + Wait + Sync, W: Write, E: Write>(
     rt: &HostRuntime,
     threads: &T,
@@ -77,8 +78,26 @@ fn perform_command<T: Threads + Wait + Sync, W: Write>(
         }
         "make" => make(rt, alloc, word(words, "SCRIPT")?, word(words, "DIR")?),
         "replay" => replay_on_disk(rt, threads, alloc, words, out),
+        "show" => show(rt, alloc, words, out),
         _ => verify_on_disk(rt, threads, alloc, words, out),
     }
+}
+
+/// Shows the trusted state that the words name.
+fn show<W: Write>(
+    rt: &HostRuntime,
+    alloc: Global,
+    words: &ArgMatches<'_>,
+    out: &mut W,
+) -> Result<u8, Failure>
+    ensures known { IfOk result (λ status. status ≤ 1) }
+{
+    let mut host = Host {
+        system: Machine::new(rt),
+        folders: (),
+        out,
+    };
+    host.show(alloc, word(words, "STATE")?, words.get_str("before"))
 }
 
 /// The status, after a failure was told.
@@ -96,8 +115,8 @@ pub(crate) fn status_of<E: Write>(done: Result<u8, Failure>, err: &mut E) -> u8
     }
 }
 
-/// Prints what `clap` says of the words: help to `out` with status 0, a mistake to `err` with
-/// status 3.
+/// Prints what `clap` says of the words: help or the version to `out` with status 0, a mistake to
+/// `err` with status 3.
 fn refuse_words<W: Write, E: Write>(
     alloc: Global,
     error: &clap::Error,

@@ -5,6 +5,7 @@
 
 mod disks;
 mod dispatch;
+mod listed;
 mod making;
 mod process;
 mod terms;

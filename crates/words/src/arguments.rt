@@ -2,7 +2,7 @@
 
 use clap::builder::ValueParser;
 use clap::{Arg, ArgAction};
-use std::alloc::Global;
+use std::alloc::{AllocError, Global};
 
 /// Returns a required argument.
 pub fn file<'a>(alloc: Global, name: &'a str, help: &'a str) -> Arg<'a> {
@@ -19,6 +19,31 @@ pub fn now_option<'a>(alloc: Global) -> Arg<'a> {
     Arg::new(alloc, "now").long("now").value_name("TEXT").help(
         "The moment, as YYYY-MM-DDTHH:MM:SSZ, in place of the clock's",
     )
+}
+
+/// Returns the option `--before`.
+pub fn before_option<'a>(alloc: Global) -> Arg<'a> {
+    Arg::new(alloc, "before")
+        .long("before")
+        .value_name("TEXT")
+        .help("Status 1 if a file expires before this moment, as YYYY-MM-DDTHH:MM:SSZ")
+}
+
+/// Returns the option `--paths-from`.
+pub fn paths_from_option<'a>(alloc: Global) -> Arg<'a> {
+    Arg::new(alloc, "paths-from")
+        .long("paths-from")
+        .value_name("FILE")
+        .help("A file with further wanted paths, one a line; `-` is standard input")
+}
+
+/// Returns the option `--null`.
+pub fn null_option<'a>(alloc: Global) -> Result<Arg<'a>, AllocError> {
+    Arg::new(alloc, "null")
+        .long("null")
+        .action(ArgAction::SetTrue)
+        .help("Each path of that file ends with a NUL byte, and not with a line feed")
+        .requires_arg("paths-from")
 }
 
 /// Returns the option `--limit`.

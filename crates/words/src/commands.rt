@@ -1,13 +1,17 @@
 //! The commands.
 
 use crate::arguments::{
-    file, keep_option, limit_option, now_option, option, several, workers_option,
+    before_option, file, keep_option, limit_option, now_option, null_option, option,
+    paths_from_option, several, workers_option,
 };
-use crate::texts::{HELP_END, INIT_END, MAKE_END, METADATA, REPLAY_END, TARGETS, VERIFY_END};
+use crate::texts::{
+    HELP_END, INIT_END, MAKE_END, METADATA, REPLAY_END, SHOW_END, TARGETS, VERIFY_END,
+};
+use crate::version::VERSION;
 use clap::{Arg, ArgMatches, Command, Error};
 use std::alloc::{AllocError, Global};
 
-/// Parses the arguments. Fails with what `clap` prints instead: a usage error, or help.
+/// Parses the arguments. Fails with what `clap` prints instead: a usage error, help or the version.
 pub fn parse<'a>(alloc: Global, words: &'a [String]) -> Result<ArgMatches<'a>, Error> {
     tufcheck(alloc)?.try_get_matches_from(words)
 }
@@ -15,6 +19,7 @@ pub fn parse<'a>(alloc: Global, words: &'a [String]) -> Result<ArgMatches<'a>, E
 fn tufcheck<'a>(alloc: Global) -> Result<Command<'a>, AllocError> {
     Command::new(alloc, "tufcheck")
         .about("Verifies an update repository of TUF 1.0 with LMS signatures")
+        .version(VERSION)
         .after_help(HELP_END)
         .bin_name("tufcheck")?
         .no_binary_name(true)
@@ -22,6 +27,7 @@ fn tufcheck<'a>(alloc: Global) -> Result<Command<'a>, AllocError> {
         .subcommand(init_command(alloc)?)?
         .subcommand(verify_command(alloc)?)?
         .subcommand(replay_command(alloc)?)?
+        .subcommand(show_command(alloc)?)?
         .subcommand(make_command(alloc)?)
 }
 
@@ -44,6 +50,8 @@ fn verify_command<'a>(alloc: Global) -> Result<Command<'a>, AllocError> {
         now_option(alloc),
         limit_option(alloc),
         workers_option(alloc),
+        paths_from_option(alloc),
+        null_option(alloc)?,
         option(alloc, "out", "STATE", "Where the new state is written"),
         several(alloc, "PATH", "The wanted targets").num_args(0..),
     ]?;
@@ -61,11 +69,21 @@ fn replay_command<'a>(alloc: Global) -> Result<Command<'a>, AllocError> {
         limit_option(alloc),
         workers_option(alloc),
         keep_option(alloc),
+        paths_from_option(alloc),
+        null_option(alloc)?,
         option(alloc, "out", "STATE", "Where the last state is written"),
         file(alloc, "PATH", "The wanted target"),
         repositories.required(true).num_args(1..),
     ]?;
     command.args(arguments)
+}
+
+fn show_command<'a>(alloc: Global) -> Result<Command<'a>, AllocError> {
+    Command::new(alloc, "show")
+        .about("Prints the versions of the trusted files and when they expire")
+        .after_help(SHOW_END)
+        .arg(file(alloc, "STATE", "The trusted state"))?
+        .arg(before_option(alloc))
 }
 
 fn make_command<'a>(alloc: Global) -> Result<Command<'a>, AllocError> {

@@ -6,5 +6,6 @@
 mod arguments;
 mod commands;
 mod texts;
+mod version;
 
 pub use commands::parse;

@@ -11,13 +11,14 @@ pub const HELP_END: &str = "\
 EXAMPLES:
   tufcheck init 1.root.json --out state
   tufcheck verify --state state --metadata repo/metadata --targets repo/targets --out state abc.txt
+  tufcheck show state
   tufcheck make first.script repo
 
 EXIT STATUS:
   0  all wanted targets are good, the files were made, or help was asked for
-  1  some wanted target was refused
+  1  some wanted target was refused, or `show` found a file that expires before --before
   2  the update stopped, or `init` refused the root file
-  3  the command line, the moment, the state file or the script was refused
+  3  the command line, the moment, the state file, the script or a listed path was refused
   4  a file, a folder, the clock, the output or memory failed";
 
 /// The end of the help of `init`.
@@ -42,19 +43,23 @@ It writes the new state first, also where the update stopped, and then prints
   ok NAME LENGTH ROLE     or `no NAME WHY`, for each wanted target in order
 
 Put `--` before the first PATH where one begins with `-`. Links in the folders are passed over.
+The paths of --paths-from come after these, in its order. Each ends with a line feed, or with NUL if
+there is --null; behind the last one it may be missing. A path that is empty or isn't UTF-8 is a
+mistake.
 Workers check signatures, and digests of targets of up to 16 MB, in advance. For them at most 4 MB
 of metadata are read twice. Lines, state and status are the same for any number of workers.
 
 EXAMPLES:
   tufcheck verify --state state --metadata repo/metadata --targets repo/targets --out state abc.txt
   tufcheck verify --state old --metadata m --targets t --now 2026-01-01T00:00:00Z --out new -- -c
+  tufcheck verify --state old --metadata m --targets t --paths-from list --out new
 
 EXIT STATUS:
   0  all wanted targets are good
   1  some wanted target was refused
   2  the update stopped
-  3  the command line, the moment or the state file was refused
-  4  a folder, the clock, the output or memory failed";
+  3  the command line, a listed path, the moment or the state file was refused
+  4  the file of paths, a folder, the clock, the output or memory failed";
 
 /// The end of the help of `replay`.
 pub const REPLAY_END: &str = "\
@@ -62,7 +67,8 @@ Each DIR is a repository, with the folders `metadata` and `targets`. All are rea
 is verified in order, from the state of the one before and at one moment. It writes the last state,
 also where an update stopped, and then prints for each DIR, from 1,
   cycle K
-and the lines of `verify`. What it remembers changes no line.
+and the lines of `verify`. What it remembers changes no line. The paths of --paths-from come after
+PATH, as for `verify`.
 
 EXAMPLES:
   tufcheck replay --state state --out state abc.txt monday tuesday wednesday
@@ -73,8 +79,26 @@ EXIT STATUS:
   0  the wanted target is good
   1  the wanted target was refused
   2  the last update stopped
+  3  the command line, a listed path, the moment or the state file was refused
+  4  the file of paths, a folder, the clock, the output or memory failed";
+
+pub const SHOW_END: &str = "\
+It prints, for the root and for each other file that is trusted,
+  root VERSION EXPIRES
+  timestamp VERSION EXPIRES
+  snapshot VERSION EXPIRES
+  targets VERSION EXPIRES
+where EXPIRES is the moment at which the file expires, as YYYY-MM-DDTHH:MM:SSZ. It stores nothing.
+
+EXAMPLES:
+  tufcheck show state
+  tufcheck show state --before 2026-01-08T00:00:00Z
+
+EXIT STATUS:
+  0  the state was shown, and no file in it expires before the moment of --before
+  1  the state was shown, and some file in it does
   3  the command line, the moment or the state file was refused
-  4  a folder, the clock, the output or memory failed";
+  4  the output or memory failed";
 
 /// The end of the help of `make`.
 pub const MAKE_END: &str = "\

@@ -1,0 +1,45 @@
+#!/bin/bash
+# Compares the version that the program prints with what else names it: the release's scripts, the man page, the users' page,
+# the changelog, and the logic of the kit in the README. The one place of the version is crates/words/src/version.rt.
+#
+#   checks/version.sh [PROGRAM]      crates/tufcheck/out/tufcheck unless given; without a built program it isn't asked
+#
+# It prints a line for each place that differs, and the status is then 1. It takes a second.
+set -u
+export LC_ALL=C
+cd "$(dirname "$0")/.." || exit 1
+text=$(sed -n 's/^pub const VERSION: &str = "\(.*\)";$/\1/p' crates/words/src/version.rt)
+version=${text%% *} logic=${text##* } program=${1:-crates/tufcheck/out/tufcheck}
+logic=${logic%)}
+status=0
+[[ $version =~ ^[0-9]+\.[0-9]+\.[0-9]+$ && $logic =~ ^[0-9a-f]{16}$ ]] ||
+    { echo "crates/words/src/version.rt: no version and logic"; exit 1; }
+
+# names FILE LINE: whether the file has that line
+names() {
+    grep -q -x -F -e "$2" "$1" && return
+    echo "$1 lacks: $2"
+    status=1
+}
+
+# holds FILE TEXT: whether the text stands in the file
+holds() {
+    grep -q -F -e "$2" "$1" && return
+    echo "$1 lacks: $2"
+    status=1
+}
+
+names dist/package.sh "version=$version"
+names docs/tufcheck.1 ".TH TUFCHECK 1 \"\" \"tufcheck $version\""
+holds docs/USERS.md "tufcheck_${version}_amd64.deb"
+holds docs/USERS.md "tufcheck-$version-x86_64-linux.tar.gz"
+holds README.md "logic \`$logic\`"
+grep -q -x -F -e "## [$version]" CHANGELOG.md || grep -q -F -e "the next is $version" CHANGELOG.md ||
+    { echo "CHANGELOG.md names no $version"; status=1; }
+if command -v rt > /dev/null; then
+    [[ $(rt version) == *"logic $logic" ]] || { echo "rt version: $(rt version)"; status=1; }
+fi
+if [ -x "$program" ]; then
+    [ "$("$program" --version)" = "tufcheck $text" ] || { echo "$program: $("$program" --version)"; status=1; }
+fi
+exit $status

@@ -1,0 +1,41 @@
+//! Wanted paths that a file lists.
+
+use clap::ArgMatches;
+use failure::{Failure, of_io};
+use paths::read_list;
+use std::alloc::Global;
+use std::io::Read;
+use system::Machine;
+use update::read_file;
+
+/// Adds the paths of the file that `--paths-from` names, in order. Fails as `Input` if the file
+/// can't be read, and as `Words` if a path in it is empty or isn't UTF-8.
+pub fn push_listed(
+    rt: &HostRuntime,
+    alloc: Global,
+    words: &ArgMatches<'_>,
+    wanted: &mut Vec<String>,
+) -> Result<(), Failure> {
+    let Some(file) = words.get_str("paths-from") else {
+        return Ok(());
+    };
+    let list = bytes_of(rt, alloc, file)?;
+    let mark = if words.get_flag("null") { 0 } else { b'\n' };
+    let listed = read_list(alloc, list.as_slice(), mark)?;
+    for path in listed.ok_or(Failure::Words)? {
+        wanted.push(path)?;
+    }
+    Ok(())
+}
+
+/// The bytes of the file; `-` is standard input, up to its end.
+fn bytes_of(rt: &HostRuntime, alloc: Global, file: &str) -> Result<Vec<u8>, Failure> {
+    if file != "-" {
+        return read_file(&Machine::new(rt), file, Failure::Input);
+    }
+    let mut bytes = Vec::new(alloc);
+    match rt.stdin().read_to_end(&mut bytes) {
+        Ok(_) => Ok(bytes),
+        Err(error) => Err(of_io(&error, Failure::Input)),
+    }
+}
