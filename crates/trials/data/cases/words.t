@@ -21,13 +21,28 @@ Help is no mistake.
   ...
   EXIT STATUS:
   ...
+  $ tufcheck help show
+  ...
+  Usage: tufcheck show [OPTIONS] <STATE>
+  ...
 
-Mistakes of the command line are told in the words of its parser.
-  $ tufcheck bogus
+The version is no mistake either.
+  $ tufcheck --version
+  tufcheck 1.0.0 (rattle logic dac8208d650f15bf)
+  $ tufcheck -V
+  tufcheck 1.0.0 (rattle logic dac8208d650f15bf)
+  $ narrow 3 --version
+  ! tufcheck: output
+  [4]
+  $ tufcheck --version show
+  tufcheck 1.0.0 (rattle logic dac8208d650f15bf)
+  $ tufcheck show --version
   ! error: ...
   ...
   [3]
-  $ tufcheck --version
+
+Mistakes of the command line are told in the words of its parser.
+  $ tufcheck bogus
   ! error: ...
   ...
   [3]
