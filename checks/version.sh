@@ -1,6 +1,7 @@
 #!/bin/bash
-# Compares the version that the program prints with what else names it: the release's scripts, the man page, the users' page,
-# the changelog, and the logic of the kit in the README. The one place of the version is crates/words/src/version.rt.
+# Compares the version that the program prints with what else names it: the release's scripts, the man page, the pages for
+# users and on formats, the changelog, and the logic of the kit in the README. The one place of the version is
+# crates/words/src/version.rt.
 #
 #   checks/version.sh [PROGRAM]      crates/tufcheck/out/tufcheck unless given; without a built program it isn't asked
 #
@@ -31,6 +32,7 @@ holds() {
 
 names dist/package.sh "version=$version"
 names docs/tufcheck.1 ".TH TUFCHECK 1 \"\" \"tufcheck $version\""
+names docs/FORMATS.md "- Implementation Version: $version"
 holds docs/USERS.md "tufcheck_${version}_amd64.deb"
 holds docs/USERS.md "tufcheck-$version-x86_64-linux.tar.gz"
 holds README.md "logic \`$logic\`"
