@@ -61,7 +61,7 @@ laid() {
         install -D -m 644 -t "$doc" "$top"/docs/{USERS,SCRIPTS,OPERATING,SIGNING,FORMATS,BENCHMARKS}.md &&
         install -D -m 644 -t "$doc/examples" "$top"/examples/*.script &&
         sed -i 's,](\.\./examples),](examples),' "$doc/SCRIPTS.md" &&
-        sed -i -E 's,\[([A-Z]+)\]\((\.\./)?(ATTACKS|PROOFS|SECURITY)\.md\),\1,g' "$doc/FORMATS.md" &&
+        sed -i -E 's,\[([A-Z]+)\]\((\.\./)?(ATTACKS|DECISIONS|PROOFS|SECURITY)\.md\),\1,g' "$doc"/{BENCHMARKS,FORMATS}.md &&
         cat "$top/dist/notices" "$top/LICENSE" > "$doc/copyright" &&
         mkdir -p "$1/share/man/man1" &&
         gzip -9n < "$top/docs/tufcheck.1" > "$1/share/man/man1/tufcheck.1.gz"
