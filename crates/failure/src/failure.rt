@@ -20,10 +20,11 @@ use thiserror::Error;
 /// Why a run ends early. [`tell_failure`] prints the text after `tufcheck: `.
 #[derive(Clone, Copy, Debug, PartialEq, Eq, Error)]
 pub enum Failure {
-    /// An argument isn't UTF-8, or is unknown or invalid.
+    /// An argument isn't UTF-8, unknown or out of its range, or a listed path is empty or isn't
+    /// UTF-8.
     #[error("a word of the command line isn't known")]
     Words,
-    /// The text of `--now` hasn't the form of `expires`.
+    /// The text of `--now` or `--before` hasn't the form of `expires`.
     #[error("the text of the moment isn't of its form")]
     Now,
     /// The state file can't be read, or isn't one.
@@ -32,7 +33,8 @@ pub enum Failure {
     /// The script is invalid at this line, counted from 1.
     #[error("the script can't be followed at line {0}")]
     Script(usize),
-    /// The root file or the script can't be read, or the script isn't UTF-8.
+    /// The root file, the script or the file of `--paths-from` can't be read, or the script isn't
+    /// UTF-8.
     #[error("the root file or the script can't be read")]
     Input,
     /// A folder, or a file in it, can't be read, or a name in it isn't UTF-8.

@@ -1,6 +1,6 @@
 //! Files on the disk that are replaced as a whole.
 
-ghost use Rattle.std.specs.Prelude.{◌≡◌, true};
+ghost use Rattle.std.specs.Prelude.{◌≡◌, true, false};
 
 use crate::place::{Place, replace};
 use std::fs::{self, File, OpenFile, OpenOptions, Permissions};
@@ -43,6 +43,8 @@ impl<'a, R: Files + AllocGlobal> Place for Plain<'a, R> {
     ghost holds = { λ _ _. true };
 
     ghost beside = { λ _ _. true };
+
+    ghost is_left = { λ _. false };
 
     fn write_beside(&mut self, bytes: &[u8]) -> io::Result<()> {
         let mut file = self.new_beside()?;

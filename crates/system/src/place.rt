@@ -1,11 +1,10 @@
 //! A file that is replaced as a whole.
 
-ghost use Rattle.std.specs.Prelude.{◌≡◌, List, ℕ, Bool, true, OnErr, OnOk};
+ghost use Rattle.std.specs.Prelude.{◌≡◌, List, ℕ, Bool, true, false, OnErr, OnOk};
 
 use std::io;
 
-/// The place of a file, and a file beside it that may take its place. What each may hold is the
-/// place's meaning.
+/// The place of a file, and a temporary file beside it that may take its place.
 pub trait Place {
     /// Whether the place may hold the bytes.
     ghost holds: { Self → List ℕ → Bool };
@@ -13,26 +12,32 @@ pub trait Place {
     /// Whether the file beside it may hold the bytes.
     ghost beside: { Self → List ℕ → Bool };
 
-    /// Writes the bytes into a new file beside the place, up to the device.
+    /// Whether a file beside it may be left.
+    ghost is_left: { Self → Bool };
+
+    /// Writes the bytes to a new file beside the place, and flushes it to the device.
     fn write_beside(&mut self, bytes: &[u8]) -> io::Result<()>
         ensures place { holds self.new ≡ holds self.old }
         ensures beside { OnOk result (beside self.new bytes.now ≡ true) };
 
-    /// Puts the file beside in the place, in one step.
+    /// Moves the file beside to the place, in one step.
     fn take_over(&mut self) -> io::Result<()>
         ensures moved { OnOk result (holds self.new ≡ beside self.old) }
+        ensures gone { OnOk result (is_left self.new ≡ false) }
         ensures refused { OnErr result (holds self.new ≡ holds self.old) };
 
-    /// Takes the file beside away.
+    /// Removes the file beside, if there is one.
     fn clear_beside(&mut self)
-        ensures place { holds self.new ≡ holds self.old };
+        ensures place { holds self.new ≡ holds self.old }
+        ensures gone { is_left self.new ≡ false };
 }
 
-/// Replaces what the place holds by the bytes. After a refusal it holds what it held, and nothing
-/// new stands beside it.
+/// Replaces what the place holds by the bytes. On error it holds what it held. No file is left
+/// beside it, whether it succeeds or fails.
 pub fn replace<P: Place>(place: &mut P, bytes: &[u8]) -> io::Result<()>
     ensures kept { OnOk result (P.holds place.new bytes.now ≡ true) }
     ensures refused { OnErr result (P.holds place.new ≡ P.holds place.old) }
+    ensures nothing_left { P.is_left place.new ≡ false }
 {
     let done = put(place, bytes);
     if done.is_err() {
@@ -45,6 +50,7 @@ pub fn replace<P: Place>(place: &mut P, bytes: &[u8]) -> io::Result<()>
 fn put<P: Place>(place: &mut P, bytes: &[u8]) -> io::Result<()>
     ensures kept { OnOk result (P.holds place.new bytes.now ≡ true) }
     ensures refused { OnErr result (P.holds place.new ≡ P.holds place.old) }
+    ensures gone { OnOk result (P.is_left place.new ≡ false) }
 {
     place.write_beside(bytes)?;
     place.take_over()

@@ -53,7 +53,7 @@ pub fn limit_option<'a>(alloc: Global) -> Arg<'a> {
         .value_name("N")
         .value_parser(ValueParser::unsigned(1, 256))
         .default_value("32")
-        .help("How many roles the search for a target visits at most, 1 to 256")
+        .help("Maximum number of roles that the search for a target visits, 1 to 256")
 }
 
 /// Returns the option `--workers`.
@@ -63,7 +63,7 @@ pub fn workers_option<'a>(alloc: Global) -> Arg<'a> {
         .value_name("N")
         .value_parser(ValueParser::unsigned(0, 64))
         .default_value("4")
-        .help("Threads that check in advance what the first 4 MB of metadata need, 0 to 64")
+        .help("Threads that check signatures in advance and digest target files, 0 to 64")
 }
 
 /// Returns the option `--keep`.
@@ -73,7 +73,7 @@ pub fn keep_option<'a>(alloc: Global) -> Arg<'a> {
         .value_name("N")
         .value_parser(ValueParser::unsigned(1, 4096))
         .default_value("64")
-        .help("Of how many files verdicts are remembered from one to the next, 1 to 4096")
+        .help("Maximum number of files whose verdicts are cached, 1 to 4096")
 }
 
 /// Returns a required option with a value.

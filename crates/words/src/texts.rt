@@ -1,10 +1,10 @@
 //! The texts of the help.
 
 /// Help for `--metadata`.
-pub const METADATA: &str = "The folder of metadata files, which stand directly in it";
+pub const METADATA: &str = "The folder of metadata files, not of those in folders below it";
 
 /// Help for `--targets`.
-pub const TARGETS: &str = "The folder of target files, with those of the folders below it";
+pub const TARGETS: &str = "The folder of target files, and of those in folders below it";
 
 /// The end of the program's help.
 pub const HELP_END: &str = "\
@@ -15,7 +15,7 @@ EXAMPLES:
   tufcheck make first.script repo
 
 EXIT STATUS:
-  0  all wanted targets are good, the files were made, or help was asked for
+  0  all wanted targets were accepted, a state was written or shown, or files, help or the version
   1  some wanted target was refused, or `show` found a file that expires before --before
   2  the update stopped, or `init` refused the root file
   3  the command line, the moment, the state file, the script or a listed path was refused
@@ -36,18 +36,18 @@ EXIT STATUS:
 
 /// The end of the help of `verify`.
 pub const VERIFY_END: &str = "\
-It writes the new state first, also where the update stopped, and then prints
+It writes the new state first, even if the update stopped, and then prints
   root N                  the version of the trusted root
-  end ready               or `end STEP FAULT`, where the update stopped
+  end ready               or `end STEP FAULT`, if the update stopped
   role NAME VERSION       for each delegated role that was accepted
   ok NAME LENGTH ROLE     or `no NAME WHY`, for each wanted target in order
 
-Put `--` before the first PATH where one begins with `-`. Links in the folders are passed over.
+Put `--` before the first PATH if one begins with `-`. Links in the folders are ignored.
 The paths of --paths-from come after these, in its order. Each ends with a line feed, or with NUL if
-there is --null; behind the last one it may be missing. A path that is empty or isn't UTF-8 is a
-mistake.
-Workers check signatures, and digests of targets of up to 16 MB, in advance. For them at most 4 MB
-of metadata are read twice. Lines, state and status are the same for any number of workers.
+there is --null; after the last one it may be missing. A path that is empty or isn't UTF-8 is an
+error.
+Workers check signatures in advance, and then digest the target files. For them at most 4 MB of
+metadata are read twice. Lines, state and status are the same for any number of workers.
 
 EXAMPLES:
   tufcheck verify --state state --metadata repo/metadata --targets repo/targets --out state abc.txt
@@ -55,7 +55,7 @@ EXAMPLES:
   tufcheck verify --state old --metadata m --targets t --paths-from list --out new
 
 EXIT STATUS:
-  0  all wanted targets are good
+  0  all wanted targets were accepted
   1  some wanted target was refused
   2  the update stopped
   3  the command line, a listed path, the moment or the state file was refused
@@ -65,9 +65,9 @@ EXIT STATUS:
 pub const REPLAY_END: &str = "\
 Each DIR is a repository, with the folders `metadata` and `targets`. All are read first. Then each
 is verified in order, from the state of the one before and at one moment. It writes the last state,
-also where an update stopped, and then prints for each DIR, from 1,
+even if an update stopped, and then prints for each DIR, from 1,
   cycle K
-and the lines of `verify`. What it remembers changes no line. The paths of --paths-from come after
+and the lines of `verify`. What it caches changes no line. The paths of --paths-from come after
 PATH, as for `verify`.
 
 EXAMPLES:
@@ -76,12 +76,13 @@ EXAMPLES:
 
 EXIT STATUS:
   that of `verify` for the last DIR:
-  0  the wanted target is good
+  0  the wanted target was accepted
   1  the wanted target was refused
   2  the last update stopped
   3  the command line, a listed path, the moment or the state file was refused
   4  the file of paths, a folder, the clock, the output or memory failed";
 
+/// The end of the help of `show`.
 pub const SHOW_END: &str = "\
 It prints, for the root and for each other file that is trusted,
   root VERSION EXPIRES
