@@ -372,3 +372,27 @@ Two roles delegate to one by the same keys, one with a threshold of 1 and the ot
   no "y/1" Unsigned "c"
   ok "x/1" 1 "c"
   [1]
+
+A role's file that expired a second before the run's moment is refused, whatever else it lists. One that expires a second after that moment isn't.
+  $ make
+  > @one
+  > key 5 5 4
+  > delegate targets a 1 5 go paths a/*
+  > delegate targets b 1 5 go paths b/*
+  > target a a/1 31 sha256
+  > target b b/1 31 sha256
+  > expires 2025-12-31T23:59:59Z
+  > write a 1 5
+  > expires 2026-01-01T00:00:01Z
+  > write b 1 5
+  > expires 2030-01-01T00:00:00Z
+  > @top
+  $ init old
+  root 1
+  $ verify old new a/1 b/1
+  root 1
+  end ready
+  role "b" 1
+  no "a/1" Expired "a"
+  ok "b/1" 1 "b"
+  [1]
