@@ -2,7 +2,7 @@
 use Rattle.std.proofs.Common.{◌≡◌, Result, Ok, Err, IfOk, List, ℕ, Option, subst}
 use Rattle.examine.specs.Checks.{Files}
 use Rattle.cycle.specs.Workflow.{Outcome, workflow}
-use Rattle.update.specs.Told.{IsTold, Start, outcome_of}
+use Rattle.update.specs.Runs.{IsTold, Start, outcome_of}
 use Rattle.sample.specs.Sampled.{IsSampled}
 
 -- the lines and the status of an outcome of the workflow

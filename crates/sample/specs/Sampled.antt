@@ -1,6 +1,6 @@
 -- What is printed for the small repository.
 use Rattle.std.specs.Prelude.{◌≡◌, ℕ, List, Option}
-use Rattle.update.specs.Told.{Files, IsTold, Start, outcome_of}
+use Rattle.update.specs.Runs.{Files, IsTold, Start, outcome_of}
 
 -- An outcome of the workflow for the wanted paths. Its lines were printed, and its status is
 -- returned.
