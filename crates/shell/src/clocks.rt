@@ -195,22 +195,13 @@ fn failing_folders<'a, T>(
 }
 
 /// The lines and the status of a verification of these folders, or what is told of its failure.
-fn verified<T: Threads + Wait + Sync>(
-    shell: &Shell<'_, T>,
+fn verified<'a, T: Threads + Wait + Sync>(
+    shell: &Shell<'a, T>,
     start: &Start<'_>,
-    folders: Folders<FailingFolder<'_>, FailingFolder<'_>>,
+    folders: Folders<FailingFolder<'a>, FailingFolder<'a>>,
 ) -> Result<Told> {
-    let system = Stopped {
-        rt: shell.rt,
-        time: None,
-    };
     let mut told = Told::nothing(shell.alloc);
-    let mut host = Host {
-        system,
-        folders,
-        out: &mut told.out,
-    };
-    match host.verify_from(shell.threads, shell.alloc, start) {
+    match verify(shell, start, folders, &mut told.out) {
         Ok(status) => told.status = status,
         Err(failure) => {
             tell_failure(failure, &mut told.err)?;
@@ -218,4 +209,23 @@ fn verified<T: Threads + Wait + Sync>(
         }
     }
     Ok(told)
+}
+
+/// Verifies the folders, beside a clock that can't be read.
+fn verify<'a, T: Threads + Wait + Sync>(
+    shell: &Shell<'a, T>,
+    start: &Start<'_>,
+    folders: Folders<FailingFolder<'a>, FailingFolder<'a>>,
+    out: &mut Vec<u8>,
+) -> Result<u8, Failure> {
+    let system = Stopped {
+        rt: shell.rt,
+        time: None,
+    };
+    let mut host = Host {
+        system,
+        folders,
+        out,
+    };
+    host.verify_from(shell.threads, shell.alloc, start)
 }
