@@ -85,8 +85,6 @@ pub struct Scope<'a> {
     pub repo: &'a Repo,
     /// The wanted paths.
     pub wanted: &'a [String],
-    /// Maximum number of roles that a search visits.
-    pub roles: usize,
     /// Maximum number of checks of the plan.
     pub most: usize,
 }

@@ -12,6 +12,10 @@ use std::alloc::Global;
 /// bins. File systems have no file with a longer name.
 const MOST_NAME: usize = 255;
 
+/// Maximum number of roles on the walk for a path, the top-level one included. No search visits
+/// more.
+const MOST_ROLES: usize = 256;
+
 /// A file on a walk's stack: its place, the name of the path's bin in it, and the place of the
 /// delegation that is tried next.
 #[derive(Drop)]
@@ -65,8 +69,8 @@ impl Reader<'_> {
         Ok(())
     }
 
-    /// Walks as a search does: in preorder, to each role once and to at most as many as the limit
-    /// allows, up to the file that lists the path or to a role that can't be read.
+    /// Walks as a search does: in preorder and to each role once, up to the file that lists the
+    /// path, to a role that can't be read, or to [`MOST_ROLES`] roles.
     fn walk_for(
         &mut self,
         top: &TopLevel,
@@ -83,8 +87,8 @@ impl Reader<'_> {
             stack: Vec::new(self.scope.alloc),
         };
         let mut place = 0;
-        for visited in 1..=self.scope.roles {
-            if !enter(self.scope.alloc, &mut walk, place, roles)? || visited == self.scope.roles {
+        for visited in 1..=MOST_ROLES {
+            if !enter(self.scope.alloc, &mut walk, place, roles)? || visited == MOST_ROLES {
                 break;
             }
             let Some(role) = self.next_role(&mut walk, roles)? else {
@@ -106,7 +110,7 @@ impl Reader<'_> {
     ) -> Result<Option<String>, NoMemory>
         ensures scope { self.new.scope ≡ self.old.scope }
     {
-        for _ in 0..=self.scope.roles {
+        for _ in 0..=MOST_ROLES {
             let Some(frame) = walk.stack.pop() else {
                 break;
             };

@@ -1,6 +1,6 @@
 //! Why a measurement ends early.
 
-use cjson::{CanonicalFault, NoMemory, ReadFault};
+use cjson::{Canon, NoMemory, ReadFault};
 use cycle::StateFault;
 use lms::SignFault;
 use seals::MakeFault;
@@ -64,8 +64,8 @@ impl From<MakeFault> for Trouble {
     }
 }
 
-impl From<CanonicalFault> for Trouble {
-    fn from(_error: CanonicalFault) -> Trouble {
+impl From<Canon> for Trouble {
+    fn from(_error: Canon) -> Trouble {
         Trouble::Part
     }
 }

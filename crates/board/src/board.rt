@@ -155,7 +155,7 @@ impl Board {
 
     /// Returns whether some seat stopped the work. Stays true once the seat has found it so.
     #[tactic(auto, using(crate::proofs::Keeps::notices))]
-    pub fn is_stopped(&self, seat: &mut Seat) -> bool
+    pub fn stopped(&self, seat: &mut Seat) -> bool
         requires seat { IsSeatOf self.now seat.old }
         ensures board { seat.new.board ≡ seat.old.board }
         ensures kept { Keeps seat.old seat.new }

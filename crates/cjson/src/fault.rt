@@ -1,7 +1,7 @@
 //! The errors of readers and documents.
 
 ghost use Rattle.std.specs.Prelude.{◌≡◌};
-ghost use Rattle.cjson.specs.declared.fault.CanonicalFault.TheVariants as canon;
+ghost use Rattle.cjson.specs.declared.fault.Canon.TheVariants as canon;
 ghost use Rattle.cjson.specs.declared.fault.DocFault.TheVariants as doc;
 ghost use Rattle.cjson.specs.declared.fault.ReadFault.TheVariants as read;
 
@@ -15,7 +15,7 @@ pub struct NoMemory;
 
 /// Why a tree has no canonical text.
 #[derive(Clone, Copy, Debug, PartialEq, Eq, Error)]
-pub enum CanonicalFault {
+pub enum Canon {
     /// A number in the tree isn't whole, or is below -2^63 or above 2^64 - 1.
     #[error("a number is not whole")]
     Float,
@@ -67,30 +67,30 @@ impl<T: Drop> From<AllocFailed<T>> for NoMemory {
     }
 }
 
-impl From<AllocError> for CanonicalFault {
+impl From<AllocError> for Canon {
     ghost from_gives = { λ _ e. e ≡ canon.NoMemory };
 
-    fn from(_refused: AllocError) -> CanonicalFault {
-        CanonicalFault::NoMemory
+    fn from(_refused: AllocError) -> Canon {
+        Canon::NoMemory
     }
 }
 
-impl<T: Drop> From<AllocFailed<T>> for CanonicalFault {
+impl<T: Drop> From<AllocFailed<T>> for Canon {
     ghost from_gives = { λ _ e. e ≡ canon.NoMemory };
 
-    fn from(_refused: AllocFailed<T>) -> CanonicalFault {
-        CanonicalFault::NoMemory
+    fn from(_refused: AllocFailed<T>) -> Canon {
+        Canon::NoMemory
     }
 }
 
-impl From<CanonicalFault> for DocFault {
+impl From<Canon> for DocFault {
     ghost from_gives = { λ c e. (c ≡ canon.Float → e ≡ doc.Float)
         × (c ≡ canon.NoMemory → e ≡ doc.NoMemory) };
 
-    fn from(fault: CanonicalFault) -> DocFault {
+    fn from(fault: Canon) -> DocFault {
         match fault {
-            CanonicalFault::Float => DocFault::Float,
-            CanonicalFault::NoMemory => DocFault::NoMemory,
+            Canon::Float => DocFault::Float,
+            Canon::NoMemory => DocFault::NoMemory,
         }
     }
 }

@@ -20,6 +20,6 @@ mod tree;
 mod write;
 
 pub use doc::{Doc, Entry, signed_bytes};
-pub use fault::{CanonicalFault, DocFault, NoMemory, ReadFault};
+pub use fault::{Canon, DocFault, NoMemory, ReadFault};
 pub use tree::read_tree;
 pub use write::canonical;

@@ -10,7 +10,7 @@ ghost use Rattle.cjson.specs.Canon.{items_text, members_text, is_whole, has_whol
 ghost use Rattle.cjson.specs.Canon.{items_are_whole, members_are_whole, is_ordered};
 ghost use Rattle.cjson.specs.Canon.{items_are_ordered, members_are_ordered};
 
-use crate::fault::CanonicalFault;
+use crate::fault::Canon;
 use serde_json::{Map, Number, Value};
 use std::alloc::{AllocError, Global};
 
@@ -23,10 +23,10 @@ use std::alloc::{AllocError, Global};
 /// Fails with `Float` if a number of the tree isn't whole, or is below -2^63 or above 2^64 -
 /// 1, or with `NoMemory`. A number written as `1.0`, `1e2` or `-0` isn't read as a whole number.
 #[tactic(auto, using(crate::proofs::Unique::canon_unique))]
-pub fn canonical(alloc: Global, v: &Value) -> Result<Vec<u8>, CanonicalFault>
+pub fn canonical(alloc: Global, v: &Value) -> Result<Vec<u8>, Canon>
     ensures ok { IfOk result (λ bytes. canon (view v.now) ≡ Some bytes.items) }
-    ensures float { result ≡ Err CanonicalFault.Float → canon (view v.now) ≡ None }
-    ensures not_whole { result ≡ Err CanonicalFault.Float
+    ensures float { result ≡ Err Canon.Float → canon (view v.now) ≡ None }
+    ensures not_whole { result ≡ Err Canon.Float
         → has_whole_numbers (view v.now) ≡ false }
     ensures utf8 { IfOk result (λ bytes. IsUtf8 bytes.items) }
 
@@ -40,12 +40,12 @@ pub fn canonical(alloc: Global, v: &Value) -> Result<Vec<u8>, CanonicalFault>
 }
 
 #[cycle(write)]
-fn write(value: &Value, out: &mut Vec<u8>) -> Result<(), CanonicalFault>
+fn write(value: &Value, out: &mut Vec<u8>) -> Result<(), Canon>
     ensures text { OnOk result (out.new.items ≡ out.old.items ++ text (view value.now)) }
     ensures utf8 { OnOk result (IsUtf8 out.old.items → IsUtf8 out.new.items) }
     ensures whole { OnOk result (has_whole_numbers (view value.now) ≡ true) }
     ensures ordered { OnOk result (is_ordered (view value.now) ≡ true) }
-    ensures float { result ≡ Err CanonicalFault.Float
+    ensures float { result ≡ Err Canon.Float
         → has_whole_numbers (view value.now) ≡ false }
 {
     match value {
@@ -59,13 +59,13 @@ fn write(value: &Value, out: &mut Vec<u8>) -> Result<(), CanonicalFault>
 }
 
 #[cycle(write)]
-fn write_items(items: &Vec<Value>, out: &mut Vec<u8>) -> Result<(), CanonicalFault>
+fn write_items(items: &Vec<Value>, out: &mut Vec<u8>) -> Result<(), Canon>
     ensures text { OnOk result
         (out.new.items ≡ out.old.items ++ 91 ∷ items_text false (items_view items.now.items)) }
     ensures utf8 { OnOk result (IsUtf8 out.old.items → IsUtf8 out.new.items) }
     ensures whole { OnOk result (items_are_whole (items_view items.now.items) ≡ true) }
     ensures ordered { OnOk result (items_are_ordered (items_view items.now.items) ≡ true) }
-    ensures float { result ≡ Err CanonicalFault.Float
+    ensures float { result ≡ Err Canon.Float
         → items_are_whole (items_view items.now.items) ≡ false }
 {
     out.push(b'[')?;
@@ -80,7 +80,7 @@ fn write_items(items: &Vec<Value>, out: &mut Vec<u8>) -> Result<(), CanonicalFau
 }
 
 #[cycle(write)]
-fn write_members(members: &Map<String, Value>, out: &mut Vec<u8>) -> Result<(), CanonicalFault>
+fn write_members(members: &Map<String, Value>, out: &mut Vec<u8>) -> Result<(), Canon>
     ensures text { OnOk result
         (out.new.items
         ≡ out.old.items ++ 123 ∷ members_text false (members_view members.now.entries)) }
@@ -88,7 +88,7 @@ fn write_members(members: &Map<String, Value>, out: &mut Vec<u8>) -> Result<(), 
     ensures whole { OnOk result (members_are_whole (members_view members.now.entries) ≡ true) }
     ensures ordered { OnOk result (members_are_ordered (members_view members.now.entries)
         ≡ true) }
-    ensures float { result ≡ Err CanonicalFault.Float
+    ensures float { result ≡ Err Canon.Float
         → members_are_whole (members_view members.now.entries) ≡ false }
 {
     out.push(b'{')?;
@@ -122,19 +122,19 @@ fn write_comma(later: bool, out: &mut Vec<u8>) -> Result<(), AllocError>
     Ok(())
 }
 
-fn write_bool(b: bool, out: &mut Vec<u8>) -> Result<(), CanonicalFault>
+fn write_bool(b: bool, out: &mut Vec<u8>) -> Result<(), Canon>
     ensures text { OnOk result (out.new.items ≡ out.old.items ++ text (boolean b)) }
-    ensures float { result ≢ Err CanonicalFault.Float }
+    ensures float { result ≢ Err Canon.Float }
 {
     let word: &[u8] = if b { b"true" } else { b"false" };
     Ok(out.extend_from_slice(word)?)
 }
 
-fn write_number(n: &Number, out: &mut Vec<u8>) -> Result<(), CanonicalFault>
+fn write_number(n: &Number, out: &mut Vec<u8>) -> Result<(), Canon>
     ensures text { OnOk result (out.new.items
         ≡ out.old.items ++ number_text (number_view n.now)) }
     ensures whole { OnOk result (is_whole (number_view n.now) ≡ true) }
-    ensures float { result ≡ Err CanonicalFault.Float → is_whole (number_view n.now) ≡ false }
+    ensures float { result ≡ Err Canon.Float → is_whole (number_view n.now) ≡ false }
 {
     let mut digits = itoa::Buffer::new();
     if let Some(whole) = n.as_u64() {
@@ -142,7 +142,7 @@ fn write_number(n: &Number, out: &mut Vec<u8>) -> Result<(), CanonicalFault>
     } else if let Some(below_zero) = n.as_i64() {
         out.extend_from_slice(digits.format(below_zero).as_bytes())?;
     } else {
-        return Err(CanonicalFault::Float);
+        return Err(Canon::Float);
     }
     Ok(())
 }

@@ -63,8 +63,7 @@ impl<'a> Model for Plan<'a> {
 impl<'a> Plan<'a> {
     /// Plans the checks that a run from this state probably makes for the repository and the wanted
     /// paths: at most `most`, each once. Reads the files that the searches for the wanted paths
-    /// visit if every role is accepted, each at most once and without verifying it; `roles` is the
-    /// maximum number of roles that a search visits.
+    /// visit if every role is accepted, each at most once and without verifying it.
     ///
     /// Reads at most 4,000,000 bytes of files, and matches paths within a bound of steps, so that
     /// the files' author doesn't determine what a plan costs. A file that is missing, malformed or
@@ -82,7 +81,6 @@ impl<'a> Plan<'a> {
         trusted: &'a Trusted,
         repo: &'a Repo,
         wanted: &'a [String],
-        roles: usize,
         most: usize,
     ) -> Result<Plan<'a>, NoMemory>
         requires most { most ≤ 4096 }
@@ -97,7 +95,6 @@ impl<'a> Plan<'a> {
             trusted,
             repo,
             wanted,
-            roles,
             most,
         };
         Ok(Plan::of_draft(draft_of(&scope)?))

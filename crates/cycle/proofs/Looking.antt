@@ -27,7 +27,7 @@ use Rattle.deleg.specs.declared.found.Found.{Found}
 use Rattle.deleg.specs.declared.found.Found.TheVariants.{Listed, LimitReached}
 use Rattle.cycle.specs.Looked.{AreAlike, is_metadata_name, most_looked_at, looked_at}
 use Rattle.cycle.specs.Workflow.{Course, closed_course, course, searched, workflow}
-use Rattle.deleg.specs.declared.accepted.Searched.{Searched}
+use Rattle.deleg.specs.declared.accepted.Search.{Search}
 
 -- ---- names
 
@@ -303,7 +303,7 @@ module _ (f g : Files) (same : (name : List ℕ) → looked_at f name ≡ looked
 
 -- ---- the whole
 
-made : State → End → List (Option Searched) → Course
+made : State → End → List (Option Search) → Course
 made s e all = record { trusted = s; end = e; searches = all }
 
 of : Files → Moment → List (List ℕ) → ℕ → Advanced → Course

@@ -9,7 +9,7 @@ use crate::outcome::Outcome;
 use crate::stats::Stats;
 use crate::store::Store;
 use cjson::NoMemory;
-use deleg::Searched;
+use deleg::Search;
 use keys::Direct;
 use rolechain::{End, Trusted};
 use std::alloc::Global;
@@ -22,7 +22,7 @@ use std::marker::Model;
 pub struct Course {
     trusted: Trusted,
     end: End,
-    searches: Vec<Option<Searched>>,
+    searches: Vec<Option<Search>>,
     stats: Stats,
 }
 
@@ -40,7 +40,7 @@ impl Model for Course {
 
 impl Course {
     /// Returns a course with counts of 0.
-    pub(crate) fn new(trusted: Trusted, end: End, searches: Vec<Option<Searched>>) -> Course
+    pub(crate) fn new(trusted: Trusted, end: End, searches: Vec<Option<Search>>) -> Course
         ensures { result ≡ record {
           trusted = trusted;
           end = end;
@@ -86,7 +86,7 @@ impl Course {
     }
 
     /// Returns the search for each wanted path, by position, or None if the cycle stopped.
-    pub fn searches(&self) -> &[Option<Searched>]
+    pub fn searches(&self) -> &[Option<Search>]
         ensures value { result.now ≡ self.now.searches }
     {
         self.searches.as_slice()

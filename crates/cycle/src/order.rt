@@ -12,7 +12,7 @@ use crate::roles::gather_roles;
 use crate::store::{InMemory, Store};
 use crate::target::verdicts_of;
 use cjson::NoMemory;
-use deleg::{Searched, Searcher};
+use deleg::{Search, Searcher};
 use keys::Judge;
 use meta::{Moment, Repo};
 use rolechain::{End, Trusted, advance};
@@ -126,7 +126,7 @@ fn searches<J: Judge>(
     trusted: &Trusted,
     end: End,
     judge: &mut J,
-) -> Result<Vec<Option<Searched>>, NoMemory>
+) -> Result<Vec<Option<Search>>, NoMemory>
     requires { end ≡ End.Ready → is_ready trusted.now ≡ true }
     ensures { IfOk result (λ all. all.items
         ≡ map (spec.searched (file_in cycle.now.repo.now.metadata) cycle.now.moment
@@ -147,7 +147,7 @@ fn search_path<J: Judge>(
     end: End,
     path: &str,
     judge: &mut J,
-) -> Result<Option<Searched>, NoMemory>
+) -> Result<Option<Search>, NoMemory>
     requires { end ≡ End.Ready → is_ready searcher.old.trusted.now ≡ true }
     ensures searched { let s = searcher.old in IfOk result (λ found. found
         ≡ spec.searched (file_in s.repo.now.metadata) s.moment limits.now.roles s.trusted.now end

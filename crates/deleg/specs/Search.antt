@@ -22,7 +22,7 @@ use Rattle.deleg.specs.declared.found.Found.TheVariants.{Listed, NotFound, Limit
 pub use Rattle.deleg.specs.declared.accepted.Accepted.{Accepted}
 pub use Rattle.deleg.specs.declared.found.Found.{Found}
 use Rattle.deleg.specs.declared.query.Query.{Query}
-pub use Rattle.deleg.specs.declared.accepted.Searched.{Searched}
+pub use Rattle.deleg.specs.declared.accepted.Search.{Search}
 
 -- # Which paths a pattern matches (TUF 1.0 section 4.5).
 
@@ -231,15 +231,15 @@ examined files now top snap e =
 -- ---- the search
 
 -- what was found at last
-abbrev pub settled : Visited → Searched
+abbrev pub settled : Visited → Search
 settled v = record { found = unwrap_or v.found NotFound; accepted = v.accepted }
 
 -- the search by such visits, from the top-level targets file
-abbrev pub from_top : Visits → List ℕ → Targets → Searched
+abbrev pub from_top : Visits → List ℕ → Targets → Search
 from_top visits path m = settled (in_file path (walk_by visits) (codes "targets") m [])
 
 -- the same in a trusted state that is ready
-abbrev pub search_by : Visits → State → List ℕ → Option Searched
+abbrev pub search_by : Visits → State → List ℕ → Option Search
 search_by visits s path = option_map (λ m. from_top visits path m.reading) s.targets
 
 -- `most` is the maximum number of roles to visit, the top-level role included
@@ -272,11 +272,11 @@ module _ (files : Files) (now : Moment) (top : Root) (snap : Snapshot)
   walk = walk_by (visit (suc most))
 
   -- the search by these visits
-  abbrev pub search_from : Targets → Searched
+  abbrev pub search_from : Targets → Search
   search_from m = from_top (visit (suc most)) path m
 
 -- the search in a trusted state that is ready
-abbrev pub search_in : Files → Moment → State → List ℕ → ℕ → Option Searched
+abbrev pub search_in : Files → Moment → State → List ℕ → ℕ → Option Search
 search_in files now s path most =
     option_and_then (λ snap. option_map (λ m.
     search_from files now s.root.reading snap.reading path most m.reading) s.targets) s.snapshot
@@ -292,7 +292,7 @@ pub record RequireTheSame (a b : Edge) : Type 0 where
 -- # A search that is under way.
 
 -- the outcome of the search, if these delegations are pending and these roles were accepted
-unfoldable pub outlook : Query → List Edge → List Accepted → Searched
+unfoldable pub outlook : Query → List Edge → List Accepted → Search
 outlook q es seen =
     settled (walk (file_in q.files.now) q.moment q.root.now q.snapshot.now q.path.now q.limit
     es seen)

@@ -17,7 +17,7 @@ mod same;
 mod searching;
 mod walk;
 
-pub use accepted::{Accepted, Searched};
+pub use accepted::{Accepted, Search};
 pub use bin::{bin_name, bin_name_by};
 pub use edge::{Edge, bin_of, edge_at, edge_count, is_for};
 pub use found::Found;

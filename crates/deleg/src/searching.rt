@@ -8,7 +8,7 @@ ghost use Rattle.rolechain.specs.Advance.{is_ready};
 ghost use Rattle.deleg.specs.Search as spec;
 ghost use Rattle.deleg.specs.Cache.{IsCacheIn, IsCacheOf, examination_in};
 
-use crate::accepted::Searched;
+use crate::accepted::Search;
 use crate::cache::{Entered, RoleCache};
 use crate::found::Found;
 use crate::frame::Frame;
@@ -68,7 +68,7 @@ impl<'a> Searcher<'a> {
         path: &str,
         limit: usize,
         judge: &mut J,
-    ) -> Result<Searched, NoMemory>
+    ) -> Result<Search, NoMemory>
         requires { IsTrue (is_ready self.old.trusted.now) }
         ensures preorder { let s = self.old in (visits : spec.Visits) (snapshot : Part Snapshot)
             → s.trusted.now.snapshot ≡ Some snapshot
@@ -121,7 +121,7 @@ pub fn search<J: Judge>(
     path: &str,
     limit: usize,
     judge: &mut J,
-) -> Result<Searched, NoMemory>
+) -> Result<Search, NoMemory>
     requires { IsTrue (is_ready trusted.now) }
     ensures preorder { (visits : spec.Visits) (snapshot : Part Snapshot)
         → trusted.now.snapshot ≡ Some snapshot
@@ -143,7 +143,7 @@ fn search_or_again<J: Judge>(
     targets: &Part<Targets>,
     cache: &mut RoleCache,
     judge: &mut J,
-) -> Result<Searched, NoMemory>
+) -> Result<Search, NoMemory>
     requires cache { IsCacheOf (examination_in query.now) cache.old }
     ensures searched { let q = query.now in IfOk result (λ s. s ≡ spec.search_from
         (file_in q.files.now) q.moment q.root.now q.snapshot.now q.path.now q.limit
@@ -165,7 +165,7 @@ fn search_from<J: Judge>(
     targets: &Part<Targets>,
     cache: &mut RoleCache,
     judge: &mut J,
-) -> Result<Searched, NoMemory>
+) -> Result<Search, NoMemory>
     requires cache { IsCacheOf (examination_in query.now) cache.old }
     ensures searched { let q = query.now in IfOk result (λ s. s ≡ spec.search_from
         (file_in q.files.now) q.moment q.root.now q.snapshot.now q.path.now q.limit
@@ -180,7 +180,7 @@ fn search_from<J: Judge>(
             visited: 1,
         };
         let accepted = Items::new(Vec::new(query.alloc));
-        return Ok(Searched { found, accepted });
+        return Ok(Search { found, accepted });
     }
     let mut stack = Vec::new(query.alloc);
     let top = Entered {

@@ -6,7 +6,7 @@ ghost use Rattle.deleg.specs.Search as spec;
 ghost use Rattle.deleg.specs.Cache.{IsCacheOf, examination_in};
 ghost use Rattle.deleg.specs.declared.found.Found.TheVariants as found;
 
-use crate::accepted::{Accepted, Searched};
+use crate::accepted::{Accepted, Search};
 use crate::cache::RoleCache;
 use crate::found::Found;
 use crate::frame::Frame;
@@ -24,7 +24,7 @@ pub(crate) fn walk<J: Judge>(
     mut stack: Vec<Frame>,
     cache: &mut RoleCache,
     judge: &mut J,
-) -> Result<Searched, NoMemory>
+) -> Result<Search, NoMemory>
     requires cache { IsCacheOf (examination_in query.now) cache.old }
     ensures searched { IfOk result (λ s.
         s ≡ spec.outlook query.now (spec.pending query.now.path.now stack.items) []) }
@@ -34,10 +34,10 @@ pub(crate) fn walk<J: Judge>(
     while let Some(frame) = next_frame(query, &mut stack, seen.as_slice()) {
         if let Some(found) = visit(query, frame, &mut stack, &mut seen, cache, judge)? {
             let accepted = Items::new(seen);
-            return Ok(Searched { found, accepted });
+            return Ok(Search { found, accepted });
         }
     }
-    Ok(Searched {
+    Ok(Search {
         found: Found::NotFound,
         accepted: Items::new(seen),
     })

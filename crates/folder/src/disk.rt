@@ -113,7 +113,7 @@ impl<'a, R: Files + AllocGlobal + Clone + Drop> Folder for Disk<'a, R> {
         measure_file(self.rt, alloc, path.as_str(), need).ok()
     }
 
-    fn failure_count(&self) -> u64 {
+    fn failed(&self) -> u64 {
         self.faults
     }
 }

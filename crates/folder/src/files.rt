@@ -112,7 +112,7 @@ pub trait Folder {
     }
 
     /// Returns the number of failed calls, up to 2^64 - 1.
-    fn failure_count(&self) -> u64
+    fn failed(&self) -> u64
         ensures count { result ≡ failures self.now };
 }
 
@@ -144,8 +144,8 @@ impl<F: Folder> Folder for &mut F {
         (**self).measure_shared(alloc, name, need)
     }
 
-    fn failure_count(&self) -> u64 {
-        (**self).failure_count()
+    fn failed(&self) -> u64 {
+        (**self).failed()
     }
 }
 

@@ -15,9 +15,9 @@ use Rattle.sha2.specs.Sha512.{sha512}
 use Rattle.hex.specs.Hex.{encode_lower, decode_of}
 use Rattle.cjson.specs.Form.{◌>>=◌, Data, Form, guard, has_text, needed, list, members, text, greatest, whole, hex_bytes, ok}
 use Rattle.cjson.specs.Canon.{canon}
-use Rattle.cjson.specs.declared.fault.CanonicalFault.TheVariants.{Float, NoMemory}
+use Rattle.cjson.specs.declared.fault.Canon.TheVariants.{Float, NoMemory}
 use Rattle.cjson.specs.declared.doc.Entry.{Entry}
-use Rattle.cjson.specs.declared.fault.CanonicalFault.{CanonicalFault}
+use Rattle.cjson.specs.declared.fault.Canon.{Canon}
 use Rattle.lms.specs.Lms.{public_of, is_valid}
 use Rattle.keys.specs.declared.judge.Algorithm.TheVariants.{Sha256, Sha512}
 use Rattle.keys.specs.declared.key.Key.{Key}
@@ -155,7 +155,7 @@ IsById m entries = (id : List ℕ)
 -- # What a call returns that makes a text of a tree. If it is out of memory, nothing is known.
 
 -- the text, or `Float` if there is none
-abbrev pub GivesText : {A : Type 0} → Option (List ℕ) → Result A CanonicalFault → (A → List ℕ)
+abbrev pub GivesText : {A : Type 0} → Option (List ℕ) → Result A Canon → (A → List ℕ)
     → Type 0
 GivesText o (Ok x) bytes = o ≡ Some (bytes x)
 GivesText o (Err Float) bytes = o ≡ None

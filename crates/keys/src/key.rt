@@ -5,7 +5,7 @@ ghost use Rattle.serde_json.specs.View.{view};
 ghost use Rattle.keys.specs.Keys as spec;
 
 use cjson::text::{Text, is_text};
-use cjson::{CanonicalFault, NoMemory, canonical};
+use cjson::{Canon, NoMemory, canonical};
 use hex::FromHex;
 use lms::Public;
 use serde_json::Value;
@@ -25,7 +25,7 @@ pub struct Key {
 /// Returns the id of a key object: the SHA-256 of its canonical text, in 64 lower-case hexadecimal
 /// digits (TUF 1.0 section 4.2). Fails with `Float` if a number of the object isn't whole, since it
 /// then has no canonical text, or with `NoMemory`.
-pub fn key_id(alloc: Global, key: &Value) -> Result<String, CanonicalFault>
+pub fn key_id(alloc: Global, key: &Value) -> Result<String, Canon>
     ensures digest { spec.GivesText (spec.key_id (view key.now)) result string_bytes }
 {
     let text = canonical(alloc, key)?;
@@ -68,7 +68,7 @@ fn is_own_id(alloc: Global, id: &str, key: &Value) -> Result<bool, NoMemory>
 {
     match key_id(alloc, key) {
         Ok(found) => Ok(found.as_str() == id),
-        Err(CanonicalFault::Float) => Ok(false),
-        Err(CanonicalFault::NoMemory) => Err(NoMemory),
+        Err(Canon::Float) => Ok(false),
+        Err(Canon::NoMemory) => Err(NoMemory),
     }
 }

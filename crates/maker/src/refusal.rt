@@ -2,7 +2,7 @@
 
 ghost use Rattle.std.specs.Prelude.{◌≢◌};
 
-use cjson::{CanonicalFault, NoMemory};
+use cjson::{Canon, NoMemory};
 use seals::MakeFault;
 use std::alloc::AllocError;
 use thiserror::Error;
@@ -36,11 +36,11 @@ impl From<NoMemory> for Refusal {
     }
 }
 
-impl From<CanonicalFault> for Refusal {
-    fn from(fault: CanonicalFault) -> Refusal {
+impl From<Canon> for Refusal {
+    fn from(fault: Canon) -> Refusal {
         match fault {
-            CanonicalFault::Float => Refusal::Line,
-            CanonicalFault::NoMemory => Refusal::Memory(AllocError),
+            Canon::Float => Refusal::Line,
+            Canon::NoMemory => Refusal::Memory(AllocError),
         }
     }
 }

@@ -12,7 +12,7 @@ use Rattle.std.specs.List.{list_any}
 use Rattle.std.proofs.lemmas.Slice.Eq.{bytes_eq-Decides}
 use Rattle.examine.specs.Checks.{target_names}
 use Rattle.cycle.specs.Workflow.{Target, target_of}
-use Rattle.deleg.specs.declared.accepted.Searched.{Searched}
+use Rattle.deleg.specs.declared.accepted.Search.{Search}
 use Rattle.folder.specs.declared.measure.Need.{Need}
 use Rattle.measured.specs.Closed.{is_found, is_found_by, is_name_of}
 use Rattle.measured.specs.Known.{Grows, IsCovered, IsSame, Puts, covers, is_measured, knows, place, widened}
@@ -138,7 +138,7 @@ knows_still old new consistent t grows h =
     ap (λ o. option_map_or (now new) o true) (same_place old new consistent t grows)
     ∙ known_at (place old consistent t) (now old) (now new) (λ name. grows.measures name t) h
 
-pub covered_still : (old new : Known) (consistent : Bool) (s : Option Searched) → Grows old new → IsCovered old consistent s → IsCovered new consistent s
+pub covered_still : (old new : Known) (consistent : Bool) (s : Option Search) → Grows old new → IsCovered old consistent s → IsCovered new consistent s
 covered_still old new consistent s grows h = weaker _ _ (target_of s) (λ t. knows_still old new consistent t grows) h
 
 pub same_grows : (old new : Known) → IsSame old new → Grows old new
@@ -181,10 +181,10 @@ not_there k consistent t none = ap (λ o. option_map_or (λ n. option_map_or (λ
 strictly : (k i : ℕ) → k < i + 1 → k ≢ i → k < i
 strictly k i below other = grind arith
 
-pub one_more_covered : (old new : Known) (consistent : Bool) (all : List (Option Searched)) (i : ℕ) (item : Option Searched)
+pub one_more_covered : (old new : Known) (consistent : Bool) (all : List (Option Search)) (i : ℕ) (item : Option Search)
     → i < length all → item ≡ get_or all i item → Grows old new
-    → ((k : ℕ) (d : Option Searched) → k < i → IsCovered old consistent (get_or all k d)) → IsCovered new consistent item
-    → (k : ℕ) (d : Option Searched) → k < i + 1 → IsCovered new consistent (get_or all k d)
+    → ((k : ℕ) (d : Option Search) → k < i → IsCovered old consistent (get_or all k d)) → IsCovered new consistent item
+    → (k : ℕ) (d : Option Search) → k < i + 1 → IsCovered new consistent (get_or all k d)
 one_more_covered old new consistent all i item inside is grows before here k d below = go (eqb_tells k i)
   where
     go : ((eqb k i ≡ true) × (k ≡ i)) ⊎ ((eqb k i ≡ false) × (k ≢ i)) → IsCovered new consistent (get_or all k d)
@@ -193,6 +193,6 @@ one_more_covered old new consistent all i item inside is grows before here k d b
         (subst (λ s. IsCovered new consistent s) (is ∙ get_or_default all i item d inside) here)
     go (inr other) = covered_still old new consistent (get_or all k d) grows (before k d (strictly k i below other.1))
 
-pub found_at : (consistent : Bool) (all : List (Option Searched)) (i : ℕ) (item : Option Searched) → i < length all → item ≡ get_or all i item
+pub found_at : (consistent : Bool) (all : List (Option Search)) (i : ℕ) (item : Option Search) → i < length all → item ≡ get_or all i item
     → (name : List ℕ) → is_found_by consistent name item ≡ true → is_found consistent all name ≡ true
 found_at consistent all i item inside is name h = list_any_at (is_found_by consistent name) all i item inside (ap (is_found_by consistent name) (sym is) ∙ h)

@@ -4,7 +4,7 @@ use Rattle.std.specs.List.{list_any}
 use Rattle.std.specs.Option.{option_map_or}
 use Rattle.std.specs.Prelude.{false}
 use Rattle.examine.specs.Checks.{target_names}
-use Rattle.deleg.specs.declared.accepted.Searched.{Searched}
+use Rattle.deleg.specs.declared.accepted.Search.{Search}
 use Rattle.cycle.specs.Workflow.{Course, Files, Outcome, Target, closed_course, target_of}
 use Rattle.folder.specs.Seen.{AreSeen, MayBeSeen, Seen}
 
@@ -15,11 +15,11 @@ is_name_of consistent name t =
     (target_names consistent t.path t.hashes.sha256 t.hashes.sha512)
 
 -- the name is one of the target that the search found
-abbrev pub is_found_by : Bool → List ℕ → Option Searched → Bool
+abbrev pub is_found_by : Bool → List ℕ → Option Search → Bool
 is_found_by consistent name s = option_map_or (is_name_of consistent name) (target_of s) false
 
 -- the name is one of a target that one of the searches found
-abbrev pub is_found : Bool → List (Option Searched) → List ℕ → Bool
+abbrev pub is_found : Bool → List (Option Search) → List ℕ → Bool
 is_found consistent all name = list_any (is_found_by consistent name) all
 
 -- What was seen of the folder, where no file was read but of targets that searches found. The

@@ -7,7 +7,7 @@ use Rattle.meta.specs.Content.{has_no_known_hash}
 use Rattle.meta.specs.declared.hashes.Hashes.{Hashes}
 use Rattle.meta.specs.declared.fault.Fault.TheVariants.{HashWrong, LengthWrong, NoKnownHash}
 use Rattle.examine.specs.Checks.{Fault, target_names}
-use Rattle.deleg.specs.declared.accepted.Searched.{Searched}
+use Rattle.deleg.specs.declared.accepted.Search.{Search}
 use Rattle.cycle.specs.Workflow.{Files, Target, target_of}
 use Rattle.folder.specs.Seen.{is_named}
 use Rattle.folder.specs.Measures.{IsMeasureOf, measure_of}
@@ -74,7 +74,7 @@ knows k consistent t =
     (place k consistent t) true
 
 -- so is that of the target that the search found
-abbrev pub IsCovered : Known → Bool → Option Searched → Type 0
+abbrev pub IsCovered : Known → Bool → Option Search → Type 0
 IsCovered k consistent s = IfSome (target_of s) (λ t. knows k consistent t ≡ true)
 
 -- files with these names and no others, among which each that was measured has that measure

@@ -12,13 +12,13 @@ ghost use Rattle.measured.specs.Known.{Grows, IsCovered, StaysKnown};
 
 use crate::known::{Known, Wanted, entry_of, place, put};
 use crate::need::{NOTHING, covers, widened};
-use cycle::{Found, Searched, Target};
+use cycle::{Found, Search, Target};
 use failure::Failure;
 use folder::{Folder, Need};
 use std::alloc::{AllocError, Global};
 
 /// The target that the search found.
-pub(crate) fn target_of(search: &Option<Searched>) -> Option<&Target>
+pub(crate) fn target_of(search: &Option<Search>) -> Option<&Target>
     ensures { option_map (λ t. t.now) result ≡ target_of search.now }
 {
     match &search.as_ref()?.found {
@@ -30,7 +30,7 @@ pub(crate) fn target_of(search: &Option<Searched>) -> Option<&Target>
 /// Notes what the searches need of each file that they found.
 pub(crate) fn note_all(
     alloc: Global,
-    searches: &[Option<Searched>],
+    searches: &[Option<Search>],
     consistent: bool,
     known: &mut Known,
 ) -> Result<(), AllocError>
@@ -46,7 +46,7 @@ pub(crate) fn note_all(
 /// Notes what one search needs of the file that it found.
 fn note(
     alloc: Global,
-    search: &Option<Searched>,
+    search: &Option<Search>,
     consistent: bool,
     known: &mut Known,
 ) -> Result<(), AllocError>
@@ -88,7 +88,7 @@ fn need_of(entry: Option<Option<Wanted>>) -> Need
 pub(crate) fn read_all<F: Folder>(
     alloc: Global,
     folder: &mut F,
-    searches: &[Option<Searched>],
+    searches: &[Option<Search>],
     consistent: bool,
     known: &mut Known,
 ) -> Result<(), Failure>
@@ -113,7 +113,7 @@ pub(crate) fn read_all<F: Folder>(
 fn read<F: Folder>(
     alloc: Global,
     folder: &mut F,
-    search: &Option<Searched>,
+    search: &Option<Search>,
     consistent: bool,
     known: &mut Known,
 ) -> Result<(), Failure>

@@ -1,7 +1,7 @@
 //! Searches for a path through delegations, in a repository in memory.
 
 use anyhow::{Context, Result, bail};
-use deleg::{Found, Searched, search};
+use deleg::{Found, Search, search};
 use keys::{Direct, key_id};
 use lms::{Height, Secret};
 use meta::{Moment, Repo};
@@ -198,7 +198,7 @@ fn searched(
     repo: &Repo,
     path: &str,
     limit: usize,
-) -> Result<Searched> {
+) -> Result<Search> {
     let now = Moment::read("2026-01-01T00:00:00Z").context("no moment")?;
     if !trusted.is_ready() {
         bail!("a state that isn't ready");
@@ -207,7 +207,7 @@ fn searched(
 }
 
 /// Returns the accepted roles with their versions, and the finding.
-fn lines_of(alloc: Global, searched: &Searched) -> Result<String> {
+fn lines_of(alloc: Global, searched: &Search) -> Result<String> {
     let mut text = String::new(alloc);
     for accepted in searched.accepted.as_slice() {
         writeln!(

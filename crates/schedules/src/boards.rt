@@ -76,7 +76,7 @@ fn push_found(text: &mut String, board: &Board, seat: &mut Seat) -> Result<()>
 {
     ensure!(!board.claim(seat, 0), "a taken or decided check is won");
     let look = board.look(seat, 0);
-    let is_stopped = board.is_stopped(seat);
+    let is_stopped = board.stopped(seat);
     writeln!(text, "{look:?}, stopped: {is_stopped}")?;
     Ok(())
 }

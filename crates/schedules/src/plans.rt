@@ -3,7 +3,6 @@
 ghost use Rattle.std.specs.Prelude.{◌≤◌};
 
 use crate::repositories::{Made, read};
-use crate::runs::ROLES;
 use anyhow::{Result, ensure};
 use board::MOST_CHECKS;
 use crew::Plan;
@@ -28,7 +27,7 @@ fn counted(alloc: Global, made: &Made, wanted: &[String], most: usize) -> Result
     requires { most ≤ 4096 }
 {
     let (trusted, repo) = (&made.trusted, &made.repo);
-    let plan = Plan::of(alloc, trusted, repo, wanted, ROLES, most)?;
+    let plan = Plan::of(alloc, trusted, repo, wanted, most)?;
     let valid = true_in(&plan)?;
     Ok(format!(in alloc; "{} questions, {valid} true\n", plan.len())?)
 }

@@ -12,7 +12,7 @@ ghost use Rattle.seals.specs.Sealed.{entry_object, entry_objects, holder, sealed
 
 use crate::fault::MakeFault;
 use crate::signer::Signer;
-use cjson::{CanonicalFault, canonical};
+use cjson::{Canon, canonical};
 use serde_json::{Value, json};
 use std::alloc::{AllocError, Global};
 
@@ -84,8 +84,8 @@ fn text_of(alloc: Global, value: &Value) -> Result<Vec<u8>, MakeFault>
 {
     match canonical(alloc, value) {
         Ok(text) => Ok(text),
-        Err(CanonicalFault::NoMemory) => Err(MakeFault::NoMemory),
-        Err(CanonicalFault::Float) => unreachable!(),
+        Err(Canon::NoMemory) => Err(MakeFault::NoMemory),
+        Err(Canon::Float) => unreachable!(),
     }
 }
 

@@ -159,7 +159,7 @@ impl<'a> Folder for FailingFolder<'a> {
         }
     }
 
-    fn failure_count(&self) -> u64 {
+    fn failed(&self) -> u64 {
         self.faults
     }
 }

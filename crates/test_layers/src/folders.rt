@@ -63,7 +63,7 @@ fn folders_below_are_loaded(rt: HostRuntime) -> Result<(), Fail> {
     assert_eq!(rt; files.len(), 2);
     assert!(rt; has(&files, "f", "1"));
     assert!(rt; has(&files, "d/e/f", "22"));
-    assert_eq!(rt; below.failure_count(), 0);
+    assert_eq!(rt; below.failed(), 0);
     Ok(fs::remove_dir_all(&rt, "folders_below_are_loaded")?)
 }
 
@@ -71,9 +71,9 @@ fn folders_below_are_loaded(rt: HostRuntime) -> Result<(), Fail> {
 fn fails<R: Files + AllocGlobal + Clone + Drop>(rt: &R, path: String) -> bool {
     let mut folder = Disk::new(rt, path, Depth::Below);
     let loaded = load(rt.alloc(), &mut folder).err() == Some(LoadFault::Folder);
-    let once = folder.failure_count() == 1;
+    let once = folder.failed() == 1;
     let read = folder.read(rt.alloc(), "f").err() == Some(LoadFault::Folder);
-    loaded && once && read && folder.failure_count() == 2
+    loaded && once && read && folder.failed() == 2
 }
 
 #[test]
@@ -96,7 +96,7 @@ fn a_folder_in_memory_fails_at_each_call(rt: HostRuntime) -> Result<(), Fail> {
             matches!(load(alloc, &mut folder), Err(LoadFault::Folder)),
             "{calls}"
         );
-        assert_eq!(rt; folder.failure_count(), 1);
+        assert_eq!(rt; folder.failed(), 1);
     }
     Ok(())
 }
@@ -109,7 +109,7 @@ fn a_folder_in_memory_is_loaded(rt: HostRuntime) -> Result<(), Fail> {
     assert_eq!(rt; loaded.len(), 2);
     assert!(rt; has(&loaded, "a", "1"));
     assert!(rt; has(&loaded, "b/c", "22"));
-    assert_eq!(rt; folder.failure_count(), 0);
+    assert_eq!(rt; folder.failed(), 0);
     Ok(())
 }
 
@@ -130,7 +130,7 @@ fn starts_of_files_with_an_ending_are_loaded(rt: HostRuntime) -> Result<(), Fail
     assert_eq!(rt; loaded.len(), 2);
     assert!(rt; has(&loaded, "a.json", "123"));
     assert!(rt; has(&loaded, "c.json", "7"));
-    assert_eq!(rt; folder.failure_count(), 0);
+    assert_eq!(rt; folder.failed(), 0);
     Ok(())
 }
 
@@ -146,7 +146,7 @@ fn a_load_of_starts_fails_at_each_call(rt: HostRuntime) -> Result<(), Fail> {
             ),
             "{calls}"
         );
-        assert_eq!(rt; folder.failure_count(), 1);
+        assert_eq!(rt; folder.failed(), 1);
     }
     Ok(())
 }

@@ -126,7 +126,7 @@ impl Folder for Counting {
         self.counted(name, need)
     }
 
-    fn failure_count(&self) -> u64 {
+    fn failed(&self) -> u64 {
         self.faults
     }
 }

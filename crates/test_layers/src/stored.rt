@@ -93,7 +93,7 @@ impl Folder for Memory {
         }
     }
 
-    fn failure_count(&self) -> u64 {
+    fn failed(&self) -> u64 {
         self.faults
     }
 }

@@ -1,5 +1,5 @@
 use Rattle.std.proofs.Common.{rules}
-use Rattle.board.proofs.board.Board.is_stopped.Goals as goal
+use Rattle.board.proofs.board.Board.stopped.Goals as goal
 
 pub returns-clause-known : goal.returns-clause-known
 returns-clause-known = search rules
