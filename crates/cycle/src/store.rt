@@ -52,6 +52,9 @@ impl Store for InMemory<'_> {
     ) -> Result<(), Stop> {
         let found = target_file(self.alloc, self.files, consistent, target)?;
         let bytes = found.ok_or(Fault::Missing)?;
-        target.check(target.path.as_str(), bytes, None, judge)
+        match target.check(target.path.as_str(), bytes, None, judge)? {
+            None => Ok(()),
+            Some(fault) => Err(Stop::Refused(fault)),
+        }
     }
 }

@@ -127,6 +127,11 @@ content limit size hashes bytes = do
   hashed ← refuse_if (option_map_or (λ h. is_hash_wrong h bytes) hashes false) HashWrong
   refuse_if (option_map_or has_no_known_hash hashes false) NoKnownHash
 
+-- the first of these checks that fails
+abbrev pub fault_of : Result ⊤ Fault → Option Fault
+fault_of (Ok fine) = None
+fault_of (Err fault) = Some fault
+
 -- # What a call returns that makes checks in order. If it is out of memory, nothing is known.
 
 -- the same, as `seen` sees it

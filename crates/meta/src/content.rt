@@ -1,6 +1,6 @@
 //! The checks of length and digests.
 
-ghost use Rattle.std.specs.Prelude.{◌≡◌, IfOk, option_map};
+ghost use Rattle.std.specs.Prelude.{◌≡◌, ⊤, IfOk, Result, option_map};
 ghost use Rattle.cjson.specs.Document.{refuse_if};
 ghost use Rattle.keys.specs.Keys.{digest_by};
 ghost use Rattle.meta.specs.Content as spec;
@@ -42,6 +42,19 @@ impl Content {
         )?;
         refuse_if(has_no_known_hash(&hashes), Fault::NoKnownHash)?;
         Ok(())
+    }
+}
+
+/// Returns the fault with which checks ended, or None if they all passed. Fails only if out of
+/// memory.
+pub(crate) fn fault_of(checked: Result<(), Stop>) -> Result<Option<Fault>, NoMemory>
+    ensures { (should : Result ⊤ spec.Fault) → spec.Answers should checked (λ x. x)
+        → IfOk result (λ f. f ≡ spec.fault_of should) }
+{
+    match checked {
+        Ok(()) => Ok(None),
+        Err(Stop::Refused(fault)) => Ok(Some(fault)),
+        Err(Stop::NoMemory) => Err(NoMemory),
     }
 }
 

@@ -1,15 +1,15 @@
 //! The listing of one file by another.
 
-ghost use Rattle.std.specs.Prelude.{◌≡◌};
-ghost use Rattle.meta.specs.Content.{Answers, content};
+ghost use Rattle.std.specs.Prelude.{◌≡◌, IfOk};
+ghost use Rattle.meta.specs.Content.{content, fault_of};
 ghost use Rattle.meta.specs.Metadata as spec;
 
-use crate::content::Content;
-use crate::fault::Stop;
+use crate::content::{Content, fault_of};
+use crate::fault::Fault;
 use crate::hashes::Hashes;
-use cjson::ReadFault;
 use cjson::form::{FromJson, needed_member, optional_member};
 use cjson::number::{Length, Positive};
+use cjson::{NoMemory, ReadFault};
 use keys::Judge;
 use serde_json::Value;
 use std::alloc::Global;
@@ -27,24 +27,24 @@ pub struct Listing {
 
 impl Listing {
     /// Checks that the bytes of a file of that name are within the limit and have the listed length
-    /// and digests (TUF 1.0 sections 5.5 to 5.7). Fails with the first of these checks that fails,
-    /// or if out of memory.
+    /// and digests (TUF 1.0 sections 5.5 to 5.7). Returns the first of these checks that fails, or
+    /// None. Fails only if out of memory.
     pub fn check<J: Judge>(
         &self,
         file: &str,
         bytes: &[u8],
         limit: Option<u64>,
         judge: &mut J,
-    ) -> Result<(), Stop>
-        ensures answer { Answers
-            (content limit self.now.length self.now.hashes bytes.now) result (λ x. x) }
+    ) -> Result<Option<Fault>, NoMemory>
+        ensures fault { IfOk result (λ f. f
+            ≡ fault_of (content limit self.now.length self.now.hashes bytes.now)) }
     {
         let listed = Content {
             limit,
             length: self.length,
             hashes: self.hashes,
         };
-        listed.check(file, bytes, judge)
+        fault_of(listed.check(file, bytes, judge))
     }
 }
 

@@ -1,13 +1,13 @@
 //! Targets files, top-level and delegated.
 
 ghost use Rattle.std.specs.Prelude.{◌≡◌, IfOk, Some, bytes_eq, find, option_map};
-ghost use Rattle.meta.specs.Content.{Answers, content, targets_limit};
+ghost use Rattle.meta.specs.Content.{content, fault_of, targets_limit};
 ghost use Rattle.meta.specs.Metadata as spec;
 
 use crate::catalog::{Catalog, HasName};
-use crate::content::Content;
+use crate::content::{Content, fault_of};
 use crate::delegations::Delegations;
-use crate::fault::Stop;
+use crate::fault::Fault;
 use crate::hashes::Hashes;
 use crate::header::{Header, read_header};
 use crate::part::Reading;
@@ -46,25 +46,24 @@ impl Target {
     }
 
     /// Checks that the bytes of a file of that name are within the limit and have the listed length
-    /// and digests (TUF 1.0 section 5.7). Fails with the first of these checks that fails, or if
-    /// out of memory.
+    /// and digests (TUF 1.0 section 5.7). Returns the first of these checks that fails, or None.
+    /// Fails only if out of memory.
     pub fn check<J: Judge>(
         &self,
         file: &str,
         bytes: &[u8],
         limit: Option<u64>,
         judge: &mut J,
-    ) -> Result<(), Stop>
-        ensures answer { Answers
-            (content limit (Some self.now.length) (Some self.now.hashes) bytes.now)
-            result (λ x. x) }
+    ) -> Result<Option<Fault>, NoMemory>
+        ensures fault { IfOk result (λ f. f ≡ fault_of
+            (content limit (Some self.now.length) (Some self.now.hashes) bytes.now)) }
     {
         let listed = Content {
             limit,
             length: Some(self.length),
             hashes: Some(self.hashes),
         };
-        listed.check(file, bytes, judge)
+        fault_of(listed.check(file, bytes, judge))
     }
 }
 

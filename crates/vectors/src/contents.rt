@@ -2,18 +2,17 @@
 
 use crate::layers::Layers;
 use crate::signed::{changed, file, good};
-use anyhow::{Context, Result, bail};
+use anyhow::{Context, Result};
 use keys::Direct;
-use meta::{Part, Reading, Stop, Targets, Timestamp};
+use meta::{Fault, Part, Reading, Targets, Timestamp};
 use sessions::Step;
 use std::alloc::Global;
 use std::rt::Files;
 
-fn told(alloc: Global, answer: Result<(), Stop>) -> Result<String> {
-    match answer {
-        Ok(()) => Ok(String::from_str(alloc, "good\n")?),
-        Err(Stop::Refused(fault)) => Ok(format!(in alloc; "{fault:?}\n")?),
-        Err(Stop::NoMemory) => bail!("out of memory"),
+fn shown(alloc: Global, fault: Option<Fault>) -> Result<String> {
+    match fault {
+        None => Ok(String::from_str(alloc, "good\n")?),
+        Some(fault) => Ok(format!(in alloc; "{fault:?}\n")?),
     }
 }
 
@@ -55,8 +54,8 @@ pub fn check_listing<R: Files + AllocGlobal + Clone + Drop>(
         new.as_str(),
     )?;
     let listing = part.reading().snapshot();
-    let answer = listing.check("snapshot.json", b"abc", limit_of(step)?, &mut Direct);
-    told(layers.alloc, answer)
+    let fault = listing.check("snapshot.json", b"abc", limit_of(step)?, &mut Direct)?;
+    shown(layers.alloc, fault)
 }
 
 /// Checks a target with the members, and returns the result.
@@ -68,6 +67,6 @@ pub fn check_target<R: Files + AllocGlobal + Clone + Drop>(
     let new = format!(in layers.alloc; "\"a\":{{{members}}},\"c/abc.txt\":{{")?;
     let part: Part<Targets> = file_with(layers, "targets", "\"c/abc.txt\":{", new.as_str())?;
     let target = part.reading().targets().first().context("no target")?;
-    let answer = target.check("abc.txt", b"abc", limit_of(step)?, &mut Direct);
-    told(layers.alloc, answer)
+    let fault = target.check("abc.txt", b"abc", limit_of(step)?, &mut Direct)?;
+    shown(layers.alloc, fault)
 }
