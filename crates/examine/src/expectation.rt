@@ -1,7 +1,7 @@
 //! What is expected of a file.
 
 use keys::{KeyRing, RoleKeys};
-use meta::Listing;
+use meta::{Listing, Snapshot, Timestamp};
 
 /// Whether another file must list a file, and its listing.
 #[derive(Clone, Copy)]
@@ -25,4 +25,27 @@ pub struct Expectation<'a> {
     pub ring: &'a KeyRing,
     /// Which of the keys must sign, and how many.
     pub role: &'a RoleKeys,
+}
+
+/// The kind of a file, with what only files of this kind must meet. A snapshot or targets file must
+/// also have its listed version.
+#[derive(Clone, Copy)]
+pub enum Kind<'a> {
+    /// A root file of this version.
+    Root(u64),
+    /// A timestamp file, which must not fall below the trusted one, if there is one.
+    Timestamp(Option<&'a Timestamp>),
+    /// A snapshot file, which must not fall below the trusted one, if there is one.
+    Snapshot(Option<&'a Snapshot>),
+    /// A targets file, top-level or delegated.
+    Targets,
+}
+
+/// What is expected of a file of some kind.
+#[derive(Clone, Copy)]
+pub struct Expect<'a> {
+    /// Its kind, and what only this kind must meet.
+    pub kind: Kind<'a>,
+    /// Its name, listing and signers.
+    pub file: Expectation<'a>,
 }

@@ -1,5 +1,5 @@
 use Rattle.std.proofs.Common.{rules}
-use Rattle.examine.proofs.examine.examine_root.Goals as goal
+use Rattle.examine.proofs.kinds.examine_root.Goals as goal
 
 pub returns-in_err-check_root : goal.returns-in_err-check_root
 returns-in_err-check_root = search rules
