@@ -10,7 +10,7 @@ use Rattle.examine.specs.declared.examined.File.TheVariants as file
 use Rattle.examine.specs.declared.examined.Examined.{Examined}
 use Rattle.examine.specs.declared.examined.Examined.TheVariants.{Good, Same, Refused}
 
--- the kind of a file: a root of a version, a timestamp and a snapshot beside the trusted one, if
+-- the kind of a file: a root of that version, a timestamp or a snapshot beside the trusted one, if
 -- there is one, or a targets file
 pub data Kind : Type 0 where
   root : ℕ → Kind

@@ -76,16 +76,16 @@ fn examine_file<J: Judge>(
 {
     let file = &expect.file;
     match expect.kind {
-        Kind::Root(due) => {
-            let part = examine_root(alloc, file, due, files, judge)?;
+        Kind::Root { version } => {
+            let part = examine_root(alloc, file, version, files, judge)?;
             Ok(Some(File::Root(part)))
         }
-        Kind::Timestamp(old) => {
-            let part = examine_timestamp(alloc, file, old, files, now, judge)?;
+        Kind::Timestamp { trusted } => {
+            let part = examine_timestamp(alloc, file, trusted, files, now, judge)?;
             Ok(part.map(File::Timestamp))
         }
-        Kind::Snapshot(old) => {
-            let part = examine_snapshot(alloc, file, old, files, now, judge)?;
+        Kind::Snapshot { trusted } => {
+            let part = examine_snapshot(alloc, file, trusted, files, now, judge)?;
             Ok(Some(File::Snapshot(part)))
         }
         Kind::Targets => {

@@ -27,17 +27,26 @@ pub struct Expectation<'a> {
     pub role: &'a RoleKeys,
 }
 
-/// The kind of a file, with what only files of this kind must meet. A snapshot or targets file must
-/// also have its listed version.
+/// The kind of a file, with what only files of this kind must meet. The maximum number of bytes is
+/// that of the kind.
 #[derive(Clone, Copy)]
 pub enum Kind<'a> {
-    /// A root file of this version.
-    Root(u64),
-    /// A timestamp file, which must not fall below the trusted one, if there is one.
-    Timestamp(Option<&'a Timestamp>),
-    /// A snapshot file, which must not fall below the trusted one, if there is one.
-    Snapshot(Option<&'a Snapshot>),
-    /// A targets file, top-level or delegated.
+    /// A root file.
+    Root {
+        /// The version that it must have.
+        version: u64,
+    },
+    /// A timestamp file.
+    Timestamp {
+        /// The trusted timestamp, if there is one.
+        trusted: Option<&'a Timestamp>,
+    },
+    /// A snapshot file, of its listed version.
+    Snapshot {
+        /// The trusted snapshot, if there is one.
+        trusted: Option<&'a Snapshot>,
+    },
+    /// A targets file, top-level or delegated, of its listed version.
     Targets,
 }
 
