@@ -5,7 +5,7 @@ ghost use Rattle.std.specs.Prelude.{◌≤◌};
 use crate::repositories::{Made, read};
 use anyhow::{Result, ensure};
 use board::MOST_CHECKS;
-use crew::Plan;
+use plan::Plan;
 use sessions::{Step, Told};
 use std::alloc::Global;
 use std::rt::Files;

@@ -1,0 +1,4 @@
+pub mod Drafting
+pub mod Indexes
+pub mod Spending
+pub mod Truths
