@@ -19,7 +19,7 @@ use Rattle.rolechain.specs.declared.end.Step.TheVariants as step
 use Rattle.rolechain.specs.declared.end.Step.{Step}
 use Rattle.rolechain.specs.declared.end.End.{End}
 use Rattle.rolechain.specs.declared.end.End.TheVariants.{Ready, Stopped}
-use Rattle.rolechain.specs.Advance.{State, Advanced, or_stop, with_root, listing_of, reading_in, next_root, due_timestamp, next_snapshot, next_targets, following, successor, followed, most_roots, unexpired, root_step, newer_timestamp, timestamp_step, listed_snapshot, snapshot_step, listed_targets, targets_step, steps, ended, advanced}
+use Rattle.rolechain.specs.Advance.{State, Advanced, or_stop, with_root, listing_of, reading_in, due_root, due_timestamp, due_snapshot, due_targets, following, successor, followed, most_roots, unexpired, root_step, newer_timestamp, timestamp_step, listed_snapshot, snapshot_step, listed_targets, targets_step, steps, ended, advanced}
 use Rattle.deleg.specs.Search.{Edge, Visited, Visits, done, go_on, and_then, walk_by, in_file, accepting, entered, examined, from_top, visit, search_from, search_in, settled, target_of, is_visited}
 use Rattle.deleg.specs.Search as paths
 use Rattle.deleg.specs.declared.accepted.Accepted.{Accepted}
@@ -206,29 +206,29 @@ module _ (f g : Files) (same : (name : List ℕ) → looked_at f name ≡ looked
     -- ---- the roots
 
     -- before a file is examined, only its presence matters
-    following-same : (r : Root) (a b : Option (List ℕ)) → option_map (take most_looked_at) a ≡ option_map (take most_looked_at) b → following f now r a ≡ following g now r b
+    following-same : (r : Root) (a b : Option (List ℕ)) → option_map (take most_looked_at) a ≡ option_map (take most_looked_at) b → following f r a ≡ following g r b
     following-same r None None h = refl
     following-same r None (Some b) h = absurd cc
     following-same r (Some a) None h = absurd cc
     following-same r (Some a) (Some b) h =
         let version : ℕ = r.header.version + 1 in
-        before (root_part (next_root r) version f) (root_part (next_root r) version g) _ (same_root_part (next_root r) version (root_name-json version))
+        before (root_part (due_root r) version f) (root_part (due_root r) version g) _ (same_root_part (due_root r) version (root_name-json version))
 
-    pub same_successor : (r : Root) → successor f now r ≡ successor g now r
+    pub same_successor : (r : Root) → successor f r ≡ successor g r
     same_successor r =
         let name : List ℕ = root_name (r.header.version + 1) in
         ap (λ x. if nat_le greatest r.header.version then Ok None else x) (following-same r (f name) (g name) (starts name (root_name-json (r.header.version + 1))))
 
-    same_followed : (most : ℕ) (s : State) → followed f now most s ≡ followed g now most s
+    same_followed : (most : ℕ) (s : State) → followed f most s ≡ followed g most s
     unfolding followed
     same_followed zero s = refl
     same_followed (suc most) s =
-        bind (or_stop s step.Root (successor f now s.root.reading)) (or_stop s step.Root (successor g now s.root.reading)) _ _
+        bind (or_stop s step.Root (successor f s.root.reading)) (or_stop s step.Root (successor g s.root.reading)) _ _
         (ap (or_stop s step.Root) (same_successor s.root.reading))
         (λ next. map_or-same next _ _ (Ok s) (λ r. same_followed most (with_root s r)))
 
     same_root_step : (s : State) → root_step f now s ≡ root_step g now s
-    same_root_step s = before (followed f now most_roots s) (followed g now most_roots s) (unexpired f now) (same_followed most_roots s)
+    same_root_step s = before (followed f most_roots s) (followed g most_roots s) (unexpired f now) (same_followed most_roots s)
 
     -- ---- the timestamp, the snapshot and the top-level targets file
 
@@ -248,14 +248,14 @@ module _ (f g : Files) (same : (name : List ℕ) → looked_at f name ≡ looked
     same_listed_snapshot s =
         let r : Root = s.root.reading in
         bind (or_refuse (reading_in s.timestamp) NotListed) (or_refuse (reading_in s.timestamp) NotListed) _ _ refl
-        (λ t. same_snapshot_part (next_snapshot r t.snapshot) (reading_in s.snapshot) now (versioned-json r.consistent t.snapshot.version (codes "snapshot.json") (codes "snapshot") refl))
+        (λ t. same_snapshot_part (due_snapshot r t.snapshot) (reading_in s.snapshot) now (versioned-json r.consistent t.snapshot.version (codes "snapshot.json") (codes "snapshot") refl))
 
     same_snapshot_step : (s : State) → snapshot_step f now s ≡ snapshot_step g now s
     same_snapshot_step s = after s step.Snapshot (listed_snapshot f now s) (listed_snapshot g now s) _ (same_listed_snapshot s)
 
     -- the file of a role
-    same_role : (r : Root) (n : Snapshot) (role : List ℕ) (ring : List Key) (keys : RoleKeys) → targets_part (next_targets r n role ring keys) f now ≡ targets_part (next_targets r n role ring keys) g now
-    same_role r n role ring keys = same_targets_part (next_targets r n role ring keys) now (file_name-json r role (listed_version (listing_of role n)))
+    same_role : (r : Root) (n : Snapshot) (role : List ℕ) (ring : List Key) (keys : RoleKeys) → targets_part (due_targets r n role ring keys) f now ≡ targets_part (due_targets r n role ring keys) g now
+    same_role r n role ring keys = same_targets_part (due_targets r n role ring keys) now (file_name-json r role (listed_version (listing_of role n)))
 
     same_listed_targets : (s : State) → listed_targets f now s ≡ listed_targets g now s
     same_listed_targets s =

@@ -2,7 +2,7 @@
 use Rattle.std.specs.Prelude.{◌≡◌, ℕ, List, Some, Result, All, slice_get}
 use Rattle.meta.specs.Metadata.{Key, RoleKeys, Targets}
 use Rattle.examine.specs.Checks.{file_in, Moment, Root, Snapshot, Part, Fault, Files, targets_part}
-use Rattle.rolechain.specs.Advance.{State, next_targets}
+use Rattle.rolechain.specs.Advance.{State, due_targets}
 use Rattle.deleg.specs.Search.{Edge}
 use Rattle.deleg.specs.declared.query.Query.{Query}
 use Rattle.deleg.specs.declared.cache.RoleCache.{RoleCache}
@@ -17,7 +17,7 @@ by_edge x e = x e.name e.ring e.keys
 -- in a repository's files, at a moment, below a root and a snapshot
 abbrev pub examination : Files → Moment → Root → Snapshot → Examination
 examination files now top snap name ring keys =
-    targets_part (next_targets top snap name ring keys) files now
+    targets_part (due_targets top snap name ring keys) files now
 
 -- the outcome for the first one of these delegations
 abbrev pub IsOutcomeOf : Examination → List Edge → Result (Part Targets) Fault → Type 0

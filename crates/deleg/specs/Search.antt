@@ -14,7 +14,7 @@ use Rattle.meta.specs.declared.delegation.Delegation.{Delegation}
 use Rattle.meta.specs.declared.delegation.Paths.TheVariants.{Patterns, Prefixes}
 use Rattle.meta.specs.declared.delegations.Roles.{Roles}
 pub use Rattle.examine.specs.Checks.{file_in, Moment, Root, Snapshot, Target, Part, Fault, Files, targets_part}
-pub use Rattle.rolechain.specs.Advance.{State, next_targets}
+pub use Rattle.rolechain.specs.Advance.{State, due_targets}
 use Rattle.deleg.specs.declared.pattern.Compared.TheVariants as compared
 use Rattle.deleg.specs.declared.pattern.Compared.{Compared}
 use Rattle.deleg.specs.declared.edge.Edge as program
@@ -226,7 +226,7 @@ entered path walk e seen (Ok p) = in_file path walk e.name p.reading (accepting 
 -- the role's file, by the keys and the threshold of the delegation that is followed
 abbrev pub examined : Files → Moment → Root → Snapshot → Edge → Result (Part Targets) Fault
 examined files now top snap e =
-    targets_part (next_targets top snap e.name e.ring e.keys) files now
+    targets_part (due_targets top snap e.name e.ring e.keys) files now
 
 -- ---- the search
 

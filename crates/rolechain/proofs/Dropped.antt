@@ -28,10 +28,10 @@ kept_snapshot false s t = refl
 
 module _ (files : Files) (now : Moment) where
   -- a root more in front
-  further : (s : State) (r : Part Root) (t : State) → IsRootStep files now s.root r → IsDropped files now (with_root s r) t → IsDropped files now s t
+  further : (s : State) (r : Part Root) (t : State) → IsRootStep files s.root r → IsDropped files (with_root s r) t → IsDropped files s t
   further s r t first d =
       let b = is_rotated s.root.reading r.reading in
-      let behind : AreChained files now r d.roots × (last_root r d.roots ≡ t.root) = subst (λ a. AreChained files now a d.roots × (last_root a d.roots ≡ t.root)) (with_root-root s r) (d.chained, d.last) in
+      let behind : AreChained files r d.roots × (last_root r d.roots ≡ t.root) = subst (λ a. AreChained files a d.roots × (last_root a d.roots ≡ t.root)) (with_root-root s r) (d.chained, d.last) in
       let rest : rotates (with_root s r).root d.roots ≡ rotates r d.roots = ap (λ a. rotates a d.roots) (with_root-root s r) in
       record {
         roots = r ∷ d.roots;
@@ -42,28 +42,28 @@ module _ (files : Files) (now : Moment) where
       }
 
   abbrev Drops : State → Result State Advanced → Type 0
-  Drops s (Ok t) = IsDropped files now s t
-  Drops s (Err a) = IsDropped files now s a.state
+  Drops s (Ok t) = IsDropped files s t
+  Drops s (Err a) = IsDropped files s a.state
 
-  further-drops : (s : State) (r : Part Root) (o : Result State Advanced) → IsRootStep files now s.root r → Drops (with_root s r) o → Drops s o
+  further-drops : (s : State) (r : Part Root) (o : Result State Advanced) → IsRootStep files s.root r → Drops (with_root s r) o → Drops s o
   further-drops s r (Ok t) first d = further s r t first d
   further-drops s r (Err a) first d = further s r a.state first d
 
-  none : (s : State) → IsDropped files now s s
+  none : (s : State) → IsDropped files s s
   none s = record { roots = []; chained = tt; last = refl; timestamp = refl; snapshot = refl }
 
-  behind-drops : (most : ℕ) (s : State) (o : Result (Option (Part Root)) Fault) → successor files now s.root.reading ≡ o
-      → ((t : State) → Drops t (followed files now most t)) → Drops s (behind files now most s o)
+  behind-drops : (most : ℕ) (s : State) (o : Result (Option (Part Root)) Fault) → successor files s.root.reading ≡ o
+      → ((t : State) → Drops t (followed files most t)) → Drops s (behind files now most s o)
   behind-drops most s (Ok None) e more = none s
   behind-drops most s (Ok (Some r)) e more = further-drops s r _ e (more (with_root s r))
   behind-drops most s (Err fault) e more = none s
 
-  followed-drops : (most : ℕ) (s : State) → Drops s (followed files now most s)
+  followed-drops : (most : ℕ) (s : State) → Drops s (followed files most s)
   unfolding followed
   followed-drops zero s = none s
-  followed-drops (suc most) s = behind-drops most s (successor files now s.root.reading) refl (followed-drops most)
+  followed-drops (suc most) s = behind-drops most s (successor files s.root.reading) refl (followed-drops most)
 
-  current-drops : (s t : State) (r : Result ⊤ Fault) → IsDropped files now s t → Drops s (or_stop t step.Root r >>= λ x. Ok t)
+  current-drops : (s t : State) (r : Result ⊤ Fault) → IsDropped files s t → Drops s (or_stop t step.Root r >>= λ x. Ok t)
   current-drops s t (Ok x) d = d
   current-drops s t (Err fault) d = d
 
@@ -75,7 +75,7 @@ module _ (files : Files) (now : Moment) where
 
   abbrev DropsEarly : State → Result State Advanced → Type 0
   DropsEarly s (Ok t) = Unit {0}
-  DropsEarly s (Err a) = is_early a.end ≡ true → IsDropped files now s a.state
+  DropsEarly s (Err a) = is_early a.end ≡ true → IsDropped files s a.state
 
   targets-early : (s t : State) (r : Result (Part Targets) Fault) (f : Part Targets → State) → DropsEarly s (or_stop t step.Targets r >>= λ p. Ok (f p))
   targets-early s t (Ok p) f = tt
@@ -86,7 +86,7 @@ module _ (files : Files) (now : Moment) where
   snapshot-early s t (Ok p) f = targets-early s (f p) (listed_targets files now (f p)) _
   snapshot-early s t (Err fault) f = λ e. absurd (cc)
 
-  timestamp-early : (s t : State) (r : Result (Option (Part Timestamp)) Fault) → IsDropped files now s t
+  timestamp-early : (s t : State) (r : Result (Option (Part Timestamp)) Fault) → IsDropped files s t
       → DropsEarly s ((or_stop t step.Timestamp r >>= λ n. Ok (with_newer t n)) >>= λ u. snapshot_step files now u >>= targets_step files now)
   timestamp-early s t (Ok n) d = snapshot-early s (with_newer t n) (listed_snapshot files now (with_newer t n)) _
   timestamp-early s t (Err fault) d = λ e. d
@@ -98,11 +98,11 @@ module _ (files : Files) (now : Moment) where
 
   steps-early : (s : State) → DropsEarly s (steps files now s)
   unfolding steps
-  steps-early s = rest-early s (root_step files now s) (root_step-drops s (followed files now most_roots s) (followed-drops most_roots s))
+  steps-early s = rest-early s (root_step files now s) (root_step-drops s (followed files most_roots s) (followed-drops most_roots s))
 
-  ended-early : (s : State) (o : Result State Advanced) → DropsEarly s o → is_early (ended o).end ≡ true → IsDropped files now s (ended o).state
+  ended-early : (s : State) (o : Result State Advanced) → DropsEarly s o → is_early (ended o).end ≡ true → IsDropped files s (ended o).state
   ended-early s (Ok t) d e = absurd (cc)
   ended-early s (Err a) d e = d e
 
-pub advanced-early : (files : Files) (now : Moment) (s : State) → is_early (advanced files now s).end ≡ true → IsDropped files now s (advanced files now s).state
+pub advanced-early : (files : Files) (now : Moment) (s : State) → is_early (advanced files now s).end ≡ true → IsDropped files s (advanced files now s).state
 advanced-early files now s = ended-early files now s (steps files now s) (steps-early files now s)

@@ -54,18 +54,18 @@ module _ (files : Files) (now : Moment) where
   -- ---- the chain
 
   abbrev Longest : ℕ → Part Root → Result State Advanced → Type 0
-  Longest most a (Ok s) = IsLongestChain files now most a s.root
-  Longest most a (Err x) = IsLongestChain files now most a x.state.root
+  Longest most a (Ok s) = IsLongestChain files most a s.root
+  Longest most a (Err x) = IsLongestChain files most a x.state.root
 
-  longest-kept : (most : ℕ) (a b : Part Root) (o : Result State Advanced) → Keeps b o → IsLongestChain files now most a b → Longest most a o
-  longest-kept most a b (Ok s) h chain = subst (IsLongestChain files now most a) h chain
-  longest-kept most a b (Err x) h chain = subst (IsLongestChain files now most a) h chain
+  longest-kept : (most : ℕ) (a b : Part Root) (o : Result State Advanced) → Keeps b o → IsLongestChain files most a b → Longest most a o
+  longest-kept most a b (Ok s) h chain = subst (IsLongestChain files most a) h chain
+  longest-kept most a b (Err x) h chain = subst (IsLongestChain files most a) h chain
 
   longest-next : (most : ℕ) (a : Part Root) (o : Result State Advanced) (f : State → Result State Advanced) → Longest most a o → ((s : State) → Keeps s.root (f s)) → Longest most a (o >>= f)
   longest-next most a (Ok s) f chain more = longest-kept most a s.root (f s) (more s) chain
   longest-next most a (Err x) f chain more = chain
 
-  longer : (most : ℕ) (a next b : Part Root) → IsRootStep files now a next → IsLongestChain files now most next b → IsLongestChain files now (suc most) a b
+  longer : (most : ℕ) (a next b : Part Root) → IsRootStep files a next → IsLongestChain files most next b → IsLongestChain files (suc most) a b
   longer most a next b first rest = (
     suc rest.0,
     omega arith,
@@ -76,27 +76,27 @@ module _ (files : Files) (now : Moment) where
     ],
   )
 
-  longer-after : (most : ℕ) (a next : Part Root) (o : Result State Advanced) → IsRootStep files now a next → Longest most next o → Longest (suc most) a o
+  longer-after : (most : ℕ) (a next : Part Root) (o : Result State Advanced) → IsRootStep files a next → Longest most next o → Longest (suc most) a o
   longer-after most a next (Ok s) first rest = longer most a next s.root first rest
   longer-after most a next (Err x) first rest = longer most a next x.state.root first rest
 
   -- no root step leads on from a root that has no accepted successor
-  no_step : (o : Result (Option (Part Root)) Fault) (a next : Part Root) → successor files now a.reading ≡ o → ((p : Part Root) → o ≡ Ok (Some p) → ⊥) → ¬ IsRootStep files now a next
+  no_step : (o : Result (Option (Part Root)) Fault) (a next : Part Root) → successor files a.reading ≡ o → ((p : Part Root) → o ≡ Ok (Some p) → ⊥) → ¬ IsRootStep files a next
   no_step o a next e none h = none next (sym e ∙ h)
 
-  ends_here : (most : ℕ) (s : State) (o : Result (Option (Part Root)) Fault) → successor files now s.root.reading ≡ o → ((p : Part Root) → o ≡ Ok (Some p) → ⊥) → IsLongestChain files now most s.root s.root
+  ends_here : (most : ℕ) (s : State) (o : Result (Option (Part Root)) Fault) → successor files s.root.reading ≡ o → ((p : Part Root) → o ≡ Ok (Some p) → ⊥) → IsLongestChain files most s.root s.root
   ends_here most s o e none = (0, omega arith, refl, inr (λ next. no_step o s.root next e none))
 
-  behind-longest : (most : ℕ) (s : State) (o : Result (Option (Part Root)) Fault) → successor files now s.root.reading ≡ o
-      → ((t : State) → Longest most t.root (followed files now most t)) → Longest (suc most) s.root (behind files now most s o)
+  behind-longest : (most : ℕ) (s : State) (o : Result (Option (Part Root)) Fault) → successor files s.root.reading ≡ o
+      → ((t : State) → Longest most t.root (followed files most t)) → Longest (suc most) s.root (behind files now most s o)
   behind-longest most s (Ok None) e more = ends_here (suc most) s (Ok None) e (λ p h. cc)
-  behind-longest most s (Ok (Some r)) e more = longer-after most s.root r _ e (subst (λ a. Longest most a (followed files now most (with_root s r))) (with_root-root s r) (more (with_root s r)))
+  behind-longest most s (Ok (Some r)) e more = longer-after most s.root r _ e (subst (λ a. Longest most a (followed files most (with_root s r))) (with_root-root s r) (more (with_root s r)))
   behind-longest most s (Err fault) e more = ends_here (suc most) s (Err fault) e (λ p h. cc)
 
-  followed-longest : (most : ℕ) (s : State) → Longest most s.root (followed files now most s)
+  followed-longest : (most : ℕ) (s : State) → Longest most s.root (followed files most s)
   unfolding followed
   followed-longest zero s = (0, omega arith, refl, inl refl)
-  followed-longest (suc most) s = behind-longest most s (successor files now s.root.reading) refl (followed-longest most)
+  followed-longest (suc most) s = behind-longest most s (successor files s.root.reading) refl (followed-longest most)
 
   -- ---- the whole
 
@@ -107,12 +107,12 @@ module _ (files : Files) (now : Moment) where
   steps-longest : (s : State) → Longest most_roots s.root (steps files now s)
   unfolding steps
   steps-longest s = longest-next most_roots s.root (root_step files now s) _
-      (longest-next most_roots s.root (followed files now most_roots s) (unexpired files now) (followed-longest most_roots s) unexpired-keeps)
+      (longest-next most_roots s.root (followed files most_roots s) (unexpired files now) (followed-longest most_roots s) unexpired-keeps)
       later-keeps
 
-  ended-longest : (most : ℕ) (a : Part Root) (o : Result State Advanced) → Longest most a o → IsLongestChain files now most a (ended o).state.root
+  ended-longest : (most : ℕ) (a : Part Root) (o : Result State Advanced) → Longest most a o → IsLongestChain files most a (ended o).state.root
   ended-longest most a (Ok s) chain = chain
   ended-longest most a (Err x) chain = chain
 
-pub advanced-longest : (files : Files) (now : Moment) (s : State) → IsLongestChain files now most_roots s.root (advanced files now s).state.root
+pub advanced-longest : (files : Files) (now : Moment) (s : State) → IsLongestChain files most_roots s.root (advanced files now s).state.root
 advanced-longest files now s = ended-longest files now most_roots s.root (steps files now s) (steps-longest files now s)

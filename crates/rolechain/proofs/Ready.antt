@@ -55,17 +55,17 @@ later-there s (Ok None) there = there
 later-there s (Err fault) there = λ e. cc
 
 module _ (files : Files) (now : Moment) where
-  onward-gives : (n : ℕ) (s : State) (o : Option (Part Root)) → ((t : State) → Gives any (followed files now n t)) → Gives any (onward files now n s o)
+  onward-gives : (n : ℕ) (s : State) (o : Option (Part Root)) → ((t : State) → Gives any (followed files n t)) → Gives any (onward files now n s o)
   onward-gives n s None given = refl
   onward-gives n s (Some next) given = given (with_root s next)
 
-  followed-gives : (most : ℕ) (s : State) → Gives any (followed files now most s)
+  followed-gives : (most : ℕ) (s : State) → Gives any (followed files most s)
   unfolding followed
   followed-gives zero s = refl
-  followed-gives (suc most) s = gives-checked any s step.Root (successor files now s.root.reading) _ (λ o. onward-gives most s o (followed-gives most))
+  followed-gives (suc most) s = gives-checked any s step.Root (successor files s.root.reading) _ (λ o. onward-gives most s o (followed-gives most))
 
   root_step-gives : (s : State) → Gives any (root_step files now s)
-  root_step-gives s = gives-next any any (followed files now 256 s) (unexpired files now) (followed-gives 256 s)
+  root_step-gives s = gives-next any any (followed files 256 s) (unexpired files now) (followed-gives 256 s)
       (λ t e. gives-checked any t step.Root (expiry_check t.root.reading.header now) _ (λ x. refl))
 
   -- the first timestamp is there, or the trusted one stays

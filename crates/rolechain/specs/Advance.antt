@@ -43,15 +43,15 @@ abbrev pub expected : List ℕ → Listed → List Key → RoleKeys → Expectat
 expected name listed ring role = record { name = name; listed = listed; ring = ring; role = role }
 
 -- the root that follows
-abbrev pub next_root : Root → Expectation
-next_root r = expected (root_name (r.header.version + 1)) NotDue r.ring r.root
+abbrev pub due_root : Root → Expectation
+due_root r = expected (root_name (r.header.version + 1)) NotDue r.ring r.root
 
 abbrev pub due_timestamp : Root → Expectation
 due_timestamp r = expected (codes "timestamp.json") NotDue r.ring r.timestamp
 
 -- as the timestamp lists it
-abbrev pub next_snapshot : Root → Listing → Expectation
-next_snapshot r l =
+abbrev pub due_snapshot : Root → Listing → Expectation
+due_snapshot r l =
     expected (versioned r.consistent l.version (codes "snapshot.json")) (As l) r.ring r.snapshot
 
 -- the listing of a role in the snapshot
@@ -67,13 +67,13 @@ file_name r role l =
     (listed_version l) (role_name role)
 
 -- a role's targets file, by the keys of the file that delegates to it
-abbrev pub next_targets : Root → Snapshot → List ℕ → List Key → RoleKeys → Expectation
-next_targets r snap role ring keys =
+abbrev pub due_targets : Root → Snapshot → List ℕ → List Key → RoleKeys → Expectation
+due_targets r snap role ring keys =
     expected (file_name r role (listing_of role snap)) (listing_of role snap) ring keys
 
 -- the top-level targets file
 abbrev pub top_targets : Root → Snapshot → Expectation
-top_targets r snap = next_targets r snap (codes "targets") r.ring r.targets
+top_targets r snap = due_targets r snap (codes "targets") r.ring r.targets
 
 -- # The workflow, step by step.
 
@@ -134,14 +134,15 @@ abbrev pub most_roots : ℕ
 most_roots = 256
 
 -- A step returns the state that it leaves, and the cycle goes on, or it stops the cycle.
-module _ (files : Files) (now : Moment) where
-  -- ---- roots (section 5.3)
 
+-- ---- roots (section 5.3)
+
+module _ (files : Files) where
   -- the root of the next version, if there is a file of its name (5.3.3 to 5.3.5)
   abbrev pub following : Root → Option (List ℕ) → Result (Option (Part Root)) Fault
   following r None = Ok None
   following r (Some bytes) = do
-    next ← root_part (next_root r) (r.header.version + 1) files
+    next ← root_part (due_root r) (r.header.version + 1) files
     Ok (Some next)
 
   -- a root of the greatest version has no successor
@@ -158,6 +159,7 @@ module _ (files : Files) (now : Moment) where
     next ← or_stop s step.Root (successor s.root.reading)
     option_map_or (λ next. followed most (with_root s next)) next (Ok s)
 
+module _ (files : Files) (now : Moment) where
   -- the last root must not be expired (5.3.10)
   abbrev pub unexpired : State → Result State Advanced
   unexpired s = do
@@ -166,7 +168,7 @@ module _ (files : Files) (now : Moment) where
 
   abbrev pub root_step : State → Result State Advanced
   root_step s = do
-    s ← followed most_roots s
+    s ← followed files most_roots s
     unexpired s
 
   -- ---- the timestamp (section 5.4)
@@ -197,7 +199,7 @@ module _ (files : Files) (now : Moment) where
   abbrev pub listed_snapshot : State → Result (Part Snapshot) Fault
   listed_snapshot s = do
     t ← or_refuse (reading_in s.timestamp) NotListed
-    snapshot_part (next_snapshot s.root.reading t.snapshot) (reading_in s.snapshot) files now
+    snapshot_part (due_snapshot s.root.reading t.snapshot) (reading_in s.snapshot) files now
 
   abbrev pub snapshot_step : State → Result State Advanced
   snapshot_step s = do
@@ -254,10 +256,10 @@ is_early (Stopped step.Timestamp fault) = true
 is_early (Stopped step.Snapshot fault) = false
 is_early (Stopped step.Targets fault) = false
 
-module _ (files : Files) (now : Moment) where
+module _ (files : Files) where
   -- from a root to one of the next version, signed as the root before and it itself require
   abbrev pub IsRootStep : Part Root → Part Root → Type 0
-  IsRootStep a b = successor files now a.reading ≡ Ok (Some b)
+  IsRootStep a b = successor files a.reading ≡ Ok (Some b)
 
   -- a chain of `n` root steps from the one root to the other
   abbrev pub IsChain : ℕ → Part Root → Part Root → Type 0

@@ -13,7 +13,7 @@ use std::alloc::{AllocError, Global};
 /// Returns what is expected of the root that follows (TUF 1.0 section 5.3).
 pub(crate) fn due_root<'a>(root: &'a Root, name: &'a str) -> Expectation<'a>
     requires { name.now ≡ root_name (root.now.header.version + 1) }
-    ensures { expectation result ≡ spec.next_root root.now }
+    ensures { expectation result ≡ spec.due_root root.now }
 {
     Expectation {
         name,
@@ -39,7 +39,7 @@ pub(crate) fn due_timestamp(root: &Root) -> Expectation<'_>
 pub(crate) fn due_snapshot<'a>(root: &'a Root, listing: &Listing, name: &'a str) -> Expectation<'a>
     requires { name.now
         ≡ due_name root.now.consistent listing.now.version (codes "snapshot.json") }
-    ensures { expectation result ≡ spec.next_snapshot root.now listing.now }
+    ensures { expectation result ≡ spec.due_snapshot root.now listing.now }
 {
     Expectation {
         name,

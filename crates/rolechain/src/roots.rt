@@ -39,7 +39,7 @@ pub(crate) fn root_step<J: Judge>(
 
 /// Follows the chain of roots.
 fn follow<J: Judge>(round: &Round, state: &mut Trusted, judge: &mut J) -> Result<(), Halt>
-    ensures { Leaves (spec.followed (file_in round.now.files.now) round.now.moment 256 state.old)
+    ensures { Leaves (spec.followed (file_in round.now.files.now) 256 state.old)
         result state.new }
 {
     for _done in 0..MOST_ROOTS {
@@ -57,7 +57,7 @@ fn successor<J: Judge>(
     root: &Root,
     judge: &mut J,
 ) -> Result<Option<Part<Root>>, Stop>
-    ensures { Answers (spec.successor (file_in round.now.files.now) round.now.moment root.now)
+    ensures { Answers (spec.successor (file_in round.now.files.now) root.now)
         result (λ p. p) }
 {
     if root.header().version.get() >= LAST_VERSION {

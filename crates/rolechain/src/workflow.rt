@@ -35,10 +35,10 @@ pub fn advance<J: Judge>(
         ≡ spec.advanced (file_in repo.now.metadata) now trusted.now) }
     ensures ready { IfOk result (λ r. r.1 ≡ End.Ready → is_ready r.0 ≡ true) }
     ensures parts { IfOk result (λ r. AreRead r.0) }
-    ensures roots { IfOk result (λ r. IsLongestChain (file_in repo.now.metadata) now most_roots
+    ensures roots { IfOk result (λ r. IsLongestChain (file_in repo.now.metadata) most_roots
         trusted.now.root r.0.root) }
     ensures drop { IfOk result (λ r. is_early r.1 ≡ true
-        → IsDropped (file_in repo.now.metadata) now trusted.now r.0) }
+        → IsDropped (file_in repo.now.metadata) trusted.now r.0) }
 {
     let round = Round {
         alloc,

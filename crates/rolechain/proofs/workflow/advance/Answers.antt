@@ -25,7 +25,7 @@ returns-clause-roots g c =
     let s = c.args.trusted.now in
     let same : advanced_of (c.steps.new.state, c.in_ok-end.end) ≡ spec.advanced files now s =
     ends _ _ _ _ _ c.in_ok-end.was c.steps.ensures c.end_of.ensures ∙ ap (spec.advanced files now) c.in_ok-state.ensures.equal in
-    subst (λ a. IsLongestChain files now spec.most_roots s.root a.state.root) (sym same) (advanced-longest files now s)
+    subst (λ a. IsLongestChain files spec.most_roots s.root a.state.root) (sym same) (advanced-longest files now s)
 
 pub returns-clause-drop : goal.returns-clause-drop
 returns-clause-drop g c =
@@ -34,4 +34,4 @@ returns-clause-drop g c =
     let s = c.args.trusted.now in
     let same : advanced_of (c.steps.new.state, c.in_ok-end.end) ≡ spec.advanced files now s =
     ends _ _ _ _ _ c.in_ok-end.was c.steps.ensures c.end_of.ensures ∙ ap (spec.advanced files now) c.in_ok-state.ensures.equal in
-    subst (λ a. is_early a.end ≡ true → IsDropped files now s a.state) (sym same) (advanced-early files now s)
+    subst (λ a. is_early a.end ≡ true → IsDropped files s a.state) (sym same) (advanced-early files now s)
