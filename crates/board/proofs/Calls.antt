@@ -6,7 +6,7 @@ use Rattle.std.specs.List.{IsDistinct}
 use Rattle.board.specs.declared.look.Look.{Look}
 use Rattle.board.specs.declared.look.Look.TheVariants.{Open, Taken, Valid, Invalid}
 use Rattle.board.specs.declared.checks.TheConstants.{MOST_CHECKS}
-use Rattle.board.specs.Board.{IsVerdict, word_of_look, truth, IsDecided, Sat, newcomer, holding, released, having_seen, having_done, BoardValue, SeatValue, IsSeatOf, IsKept, HasAll, Keeps}
+use Rattle.board.specs.Board.{IsVerdict, word_of_look, truth, IsDecided, Sat, newcomer, holding, released, having_seen, having_found, having_done, BoardValue, SeatValue, IsSeatOf, IsKept, HasAll, Keeps}
 use Rattle.board.proofs.Keeps.{not_open, not_taken}
 use Rattle.board.proofs.SeatLemmas.{keeps_all}
 use Rattle.board.specs.declared.view.View.{View}
@@ -98,15 +98,19 @@ verdict_is true t n e good bad = let two = good refl in (omega arith, inl two, (
 verdict_is false t n e good bad = let three = bad refl in (omega arith, inr three, (λ two. absurd (omega arith)), λ _. sym e)
 
 -- a seat that saw a verdict, or nothing
-pub kept_looked : (me me' : Sat) (held : Option ℕ) (published j : ℕ) (l : Look) → (IsVerdict l → me' ≡ (having_seen me.0 j, me.1)) → (¬ IsVerdict l → me' ≡ me) → IsKept me held published → IsKept me' held published
-kept_looked me me' held published j l seen same k = by_word l seen same
+pub kept_looked : (me me' : Sat) (held : Option ℕ) (published j n : ℕ) (l : Look) → (IsVerdict l → me' ≡ (having_found n (having_seen me.0 j), me.1))
+    → (¬ IsVerdict l → me' ≡ (having_found n me.0, me.1)) → IsKept me held published → IsKept me' held published
+kept_looked me me' held published j n l seen same k = by_word l seen same
   where
-    after : me' ≡ (having_seen me.0 j, me.1) → IsKept me' held published
+    found : me' ≡ (having_found n me.0, me.1) → IsKept me' held published
+    found e = kept me me' held published k (ap (λ (m : Sat). m.1) e) (ap (λ (m : Sat). m.0.right) e) (ap (λ (m : Sat). m.0.done) e) (ap (λ (m : Sat). m.0.truths) e)
+
+    after : me' ≡ (having_found n (having_seen me.0 j), me.1) → IsKept me' held published
     after e = kept me me' held published k (ap (λ (m : Sat). m.1) e) (ap (λ (m : Sat). m.0.right) e) (ap (λ (m : Sat). m.0.done) e) (ap (λ (m : Sat). m.0.truths) e)
 
-    by_word : (l : Look) → (IsVerdict l → me' ≡ (having_seen me.0 j, me.1)) → (¬ IsVerdict l → me' ≡ me) → IsKept me' held published
-    by_word Open seen same = kept_same me me' held published k (same (λ v. not_open (verdict_word Open v)))
-    by_word Taken seen same = kept_same me me' held published k (same (λ v. not_taken (verdict_word Taken v)))
+    by_word : (l : Look) → (IsVerdict l → me' ≡ (having_found n (having_seen me.0 j), me.1)) → (¬ IsVerdict l → me' ≡ (having_found n me.0, me.1)) → IsKept me' held published
+    by_word Open seen same = found (same (λ v. not_open (verdict_word Open v)))
+    by_word Taken seen same = found (same (λ v. not_taken (verdict_word Taken v)))
     by_word Valid seen same = after (seen (inl refl))
     by_word Invalid seen same = after (seen (inr refl))
 

@@ -12,7 +12,7 @@ use prog.Atomic.{either}
 use Rattle.atomic_table.specs.Table.{State, Act, step, keeps, stepped, carried_after, Valid, Allows, Splits, Joins}
 use Rattle.atomic_table.proofs.Lists.{at_set, at_snoc, at_longer, set_else, set_again, exchanged}
 use Rattle.board.specs.declared.view.View.{View}
-use Rattle.board.specs.Board.{truth, stop_word, check_word, IsDecided, times, times_done, Holds, Knows, IsLawful, Sat, newcomer, holding, released, having_seen, having_done, halting, joined, Claims, Publishes, GivesBack, Sees, Looks, Stops, Notices, Counts}
+use Rattle.board.specs.Board.{truth, stop_word, check_word, IsDecided, times, times_done, Holds, Knows, IsLawful, Sat, newcomer, holding, released, having_seen, having_found, having_done, halting, joined, Claims, Publishes, GivesBack, Sees, Looks, Stops, Notices, Counts}
 use Rattle.board.proofs.Counting.{contains_nil, contains_cons, contains_append, times_append, times_one, times_else, distinct, at_most, times_done_set, times_done_snoc, times_done_at, nobody_did}
 
 -- reading a list of views after a write
@@ -307,7 +307,8 @@ module _ (truths : List Bool) (slots id : ℕ) (me : Sat) where
           refl,
         )
 
-    looks_told : (s : St) → Rule truths s → get_elem? s.views id ≡ some me.0 → me.0.truths ≡ truths → (me' : Sat) → (IsDecided (check_word s.words j) → me' ≡ (having_seen me.0 j, me.1)) → (¬ IsDecided (check_word s.words j) → me' ≡ me)
+    looks_told : (s : St) → Rule truths s → get_elem? s.views id ≡ some me.0 → me.0.truths ≡ truths → (me' : Sat) → (IsDecided (check_word s.words j) → me' ≡ (having_found (check_word s.words j) (having_seen me.0 j), me.1))
+        → (¬ IsDecided (check_word s.words j) → me' ≡ (having_found (check_word s.words j) me.0, me.1))
         → Looks (step slots (j + 1) 0 0 none) me (check_word s.words j) me'
     looks_told s l at of me' seen same i e = subst (Sees me (check_word s.words j) me') is (record {
       word = l.values j;
@@ -324,7 +325,7 @@ module _ (truths : List Bool) (slots id : ℕ) (me : Sat) where
 
     looks_decided : (s : St) → Rule truths s → get_elem? s.views id ≡ some me.0 → me.0.truths ≡ truths → IsDecided (check_word s.words j) → Next truths s id me (j + 1) (check_word s.words j) (Looks (step slots (j + 1) 0 0 none) me)
     looks_decided s l at of d =
-        let w : View = having_seen me.0 j in (
+        let w : View = having_found (check_word s.words j) (having_seen me.0 j) in (
           w,
           keeps,
           tt,
@@ -335,7 +336,14 @@ module _ (truths : List Bool) (slots id : ℕ) (me : Sat) where
         )
 
     looks_open : (s : St) → Rule truths s → get_elem? s.views id ≡ some me.0 → me.0.truths ≡ truths → ¬ IsDecided (check_word s.words j) → Next truths s id me (j + 1) (check_word s.words j) (Looks (step slots (j + 1) 0 0 none) me)
-    looks_open s l at of n = (me.0, keeps, tt, unmoved truths s (j + 1) id me at l, looks_told s l at of me (λ d. absurd (n d)) (λ _. refl))
+    looks_open s l at of n =
+        let w : View = having_found (check_word s.words j) me.0 in (
+          w,
+          keeps,
+          tt,
+          loads truths s (j + 1) id me w (stays truths s.words s.views l id me.0 at w refl refl (λ i c. l.decided id me.0 i at (inl c)) (λ h. l.halted id me.0 at h)),
+          looks_told s l at of (w, me.1) (λ d. absurd (n d)) (λ _. refl),
+        )
 
     pub looks : me.0.truths ≡ truths → Allows (Rule truths) slots id me (j + 1) (λ n. n) (Looks (step slots (j + 1) 0 0 none) me)
     looks of s l _ at _ =

@@ -4,7 +4,7 @@ use Rattle.std.proofs.lemmas.List.{append-nil}
 use Rattle.board.specs.declared.view.View.{View}
 use Rattle.board.specs.declared.look.Look.{Look}
 use Rattle.board.specs.declared.look.Look.TheVariants.{Open, Taken, Valid, Invalid}
-use Rattle.board.specs.Board.{IsVerdict, holding, having_seen, having_done, truth, BoardValue, SeatValue, IsSeatOf, IsFree, GoesOn, HasAll, Keeps}
+use Rattle.board.specs.Board.{IsVerdict, holding, having_seen, having_found, having_done, truth, BoardValue, SeatValue, IsSeatOf, IsFree, GoesOn, HasAll, Keeps}
 use Rattle.std.specs.Prelude.{slice_get, Some, None}
 use Rattle.std.proofs.lemmas.Option.{get_or_from_slice_get}
 
@@ -50,17 +50,20 @@ all_same v w e = subst (HasAll v) (sym e) (all_refl v)
 pub all_holding : (v w : View) (j : ℕ) → w ≡ holding v j → HasAll v w
 all_holding v w j e = subst (HasAll v) (sym e) (record { truths = refl; seen = on_refl v.seen; done = on_refl v.done; halted = λ h. h })
 
-all_seen : (v w : View) (j : ℕ) → w ≡ having_seen v j → HasAll v w
-all_seen v w j e = subst (HasAll v) (sym e) (record { truths = refl; seen = (j ∷ [], refl); done = on_refl v.done; halted = λ h. h })
+all_found : (v w : View) (n : ℕ) → w ≡ having_found n v → HasAll v w
+all_found v w n e = subst (HasAll v) (sym e) (record { truths = refl; seen = on_refl v.seen; done = on_refl v.done; halted = λ h. h })
+
+all_seen : (v w : View) (j n : ℕ) → w ≡ having_found n (having_seen v j) → HasAll v w
+all_seen v w j n e = subst (HasAll v) (sym e) (record { truths = refl; seen = (j ∷ [], refl); done = on_refl v.done; halted = λ h. h })
 
 pub all_done : (v w : View) (j : ℕ) → w ≡ having_done v j → HasAll v w
 all_done v w j e = subst (HasAll v) (sym e) (record { truths = refl; seen = (j ∷ [], refl); done = (j ∷ [], refl); halted = λ h. h })
 
-pub all_looked : (v w : View) (j : ℕ) (l : Look) → (IsVerdict l → w ≡ having_seen v j) → (¬ IsVerdict l → w ≡ v) → HasAll v w
-all_looked v w j Open seen same = all_same v w (same (λ (u : IsVerdict Open). ⊎_elim (λ (e : Open ≡ Valid). absurd (cc)) (λ (e : Open ≡ Invalid). absurd (cc)) u))
-all_looked v w j Taken seen same = all_same v w (same (λ (u : IsVerdict Taken). ⊎_elim (λ (e : Taken ≡ Valid). absurd (cc)) (λ (e : Taken ≡ Invalid). absurd (cc)) u))
-all_looked v w j Valid seen same = all_seen v w j (seen (inl refl))
-all_looked v w j Invalid seen same = all_seen v w j (seen (inr refl))
+pub all_looked : (v w : View) (j n : ℕ) (l : Look) → (IsVerdict l → w ≡ having_found n (having_seen v j)) → (¬ IsVerdict l → w ≡ having_found n v) → HasAll v w
+all_looked v w j n Open seen same = all_found v w n (same (λ (u : IsVerdict Open). ⊎_elim (λ (e : Open ≡ Valid). absurd (cc)) (λ (e : Open ≡ Invalid). absurd (cc)) u))
+all_looked v w j n Taken seen same = all_found v w n (same (λ (u : IsVerdict Taken). ⊎_elim (λ (e : Taken ≡ Valid). absurd (cc)) (λ (e : Taken ≡ Invalid). absurd (cc)) u))
+all_looked v w j n Valid seen same = all_seen v w j n (seen (inl refl))
+all_looked v w j n Invalid seen same = all_seen v w j n (seen (inr refl))
 
 pub keeps_all : (s t : SeatValue) → t.board ≡ s.board → HasAll s.view t.view → Keeps s t
 keeps_all s t of h = record { board = of; view = h }

@@ -72,7 +72,14 @@ pub record IsLawful (truths : List Bool) (words : List ℕ) (views : List View) 
 
 -- a seat that knows nothing of these checks
 abbrev pub newcomer : List Bool → View
-newcomer truths = record { truths = truths; right = None; seen = []; done = []; halted = false }
+newcomer truths = record {
+  truths = truths;
+  right = None;
+  seen = [];
+  done = [];
+  halted = false;
+  found = None;
+}
 
 -- it has claimed check j
 abbrev pub holding : View → ℕ → View
@@ -85,6 +92,10 @@ released v = record v { right = None }
 -- it has seen the verdict of check j
 abbrev pub having_seen : View → ℕ → View
 having_seen v j = record v { seen = v.seen ++ j ∷ [] }
+
+-- its last look found this word
+abbrev pub having_found : ℕ → View → View
+having_found word v = record v { found = Some word }
 
 -- it published the verdict of check j, which ends its claim
 abbrev pub having_done : View → ℕ → View
@@ -128,15 +139,15 @@ abbrev pub GivesBack : Step (Unit {0}) → Sat → ℕ → Sat → Type 0
 GivesBack st me stored me' = me' ≡ (released me.0, me.1)
 
 -- a look at check j: a verdict is the truth, what the seat has claimed is taken, and what it knows
--- is decided
+-- is decided; the seat records the word
 pub record Sees (me : Sat) (found : ℕ) (me' : Sat) (j : ℕ) : Type 0 where
   pub word : found ≤ 3
   pub valid : found ≡ 2 → truth me.0.truths j ≡ true
   pub invalid : found ≡ 3 → truth me.0.truths j ≡ false
   pub taken : me.0.right ≡ Some j → found ≡ 1
   pub known : Knows me.0 j → IsDecided found
-  pub seen : IsDecided found → me' ≡ (having_seen me.0 j, me.1)
-  pub same : ¬ IsDecided found → me' ≡ me
+  pub seen : IsDecided found → me' ≡ (having_found found (having_seen me.0 j), me.1)
+  pub same : ¬ IsDecided found → me' ≡ (having_found found me.0, me.1)
 
 abbrev pub Looks : Step (Unit {0}) → Sat → ℕ → Sat → Type 0
 Looks st me found me' = AtCheck st (Sees me found me')

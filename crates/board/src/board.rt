@@ -5,7 +5,7 @@ ghost use Rattle.std.specs.Prelude.{IsSome, IfSome, IfOk};
 ghost use Rattle.std.specs.List.{IsDistinct};
 ghost use Rattle.board.specs.Board.{truth, Knows, newcomer, holding, released, having_seen};
 ghost use Rattle.board.specs.Board.{having_done, halting, joined, IsSeatOf, IsFree, HasAll, Keeps};
-ghost use Rattle.board.specs.Board.{IsVerdict};
+ghost use Rattle.board.specs.Board.{IsVerdict, having_found, word_of_look};
 
 use crate::checks::{Checks, MOST_CHECKS};
 use crate::look::{INVALID, Look, OPEN, TAKEN, VALID};
@@ -64,9 +64,10 @@ impl Board {
         Ok((Board { table }, seat))
     }
 
-    /// Returns what the board has for check `j`. A verdict is the truth of the check, and the seat
-    /// records that it saw one. The result is `Taken` if the seat itself has claimed the check, and
-    /// a verdict if the seat saw or published one before.
+    /// Returns what the board has for check `j`: the meaning of the word that this step found,
+    /// which the seat records. A verdict is the truth of the check, and the seat records that it
+    /// saw one. The result is `Taken` if the seat itself has claimed the check, and a verdict if
+    /// the seat saw or published one before.
     #[tactic(auto, using(crate::proofs::Calls::looks))]
     pub fn look(&self, seat: &mut Seat, j: usize) -> Look
         requires seat { IsSeatOf self.now seat.old }
@@ -77,8 +78,10 @@ impl Board {
         ensures invalid { result ≡ Look.Invalid → truth self.now.truths j ≡ false }
         ensures taken { seat.old.view.right ≡ Some j → result ≡ Look.Taken }
         ensures known { Knows seat.old.view j → IsVerdict result }
-        ensures seen { IsVerdict result → seat.new.view ≡ having_seen seat.old.view j }
-        ensures same { ¬ IsVerdict result → seat.new.view ≡ seat.old.view }
+        ensures seen { IsVerdict result → seat.new.view
+            ≡ having_found (word_of_look result) (having_seen seat.old.view j) }
+        ensures same { ¬ IsVerdict result → seat.new.view
+            ≡ having_found (word_of_look result) seat.old.view }
     {
         let shared = &self.table.shared;
         let found = shared.load::<LookAt>(&mut seat.inner, j + 1);

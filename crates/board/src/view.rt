@@ -15,4 +15,6 @@ pub struct View {
     pub done: LinkedList<usize>,
     /// Whether the seat knows of a stop.
     pub halted: bool,
+    /// The word that the seat's last look found, if it has looked.
+    pub found: Option<u64>,
 }

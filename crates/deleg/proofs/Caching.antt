@@ -8,8 +8,8 @@ use Rattle.meta.specs.Content.{Part}
 use Rattle.meta.specs.declared.fault.Fault.{Fault}
 use Rattle.examine.specs.Checks.{Files}
 use Rattle.rolechain.specs.Advance.{State}
-use Rattle.deleg.specs.Search.{Edge, RequireTheSame}
-use Rattle.deleg.specs.Cache.{Examination, by_edge, IsOutcomeOf, IsCacheOf, IsCacheIn, examination}
+use Rattle.deleg.specs.Search.{Edge}
+use Rattle.deleg.specs.Cache.{Examination, RequireTheSame, by_edge, IsOutcomeOf, IsCacheOf, IsCacheIn, examination}
 use Rattle.deleg.specs.declared.cache.RoleCache.{RoleCache}
 use Rattle.deleg.specs.declared.cache.CachedRole.{CachedRole}
 

@@ -1,7 +1,7 @@
 -- The search for a path through delegations (TUF 1.0 sections 4.5 and 5.6.7).
 use Rattle.hex.specs.Hex.{encode_lower}
 use Rattle.sha2.specs.Sha256.{sha256}
-use Rattle.std.specs.Prelude.{◌≢◌, ℕ, ◌==◌, ◌&&◌, ◌||◌, not, if◌then◌else◌, List, [], ◌∷◌, Bool, true, false, Option, None, Some, zero, suc, ◌+◌, ◌-◌, ◌*◌, ◌^◌, ◌/◌, ◌%◌, ◌++◌, codes, map, filter, chars, ◌≡◌, nat_le, length, find, option_map, option_and_then, unwrap_or, bytes_eq, Result, Ok, Err, ◌<◌}
+use Rattle.std.specs.Prelude.{◌≢◌, ℕ, ◌==◌, ◌&&◌, ◌||◌, not, if◌then◌else◌, List, [], ◌∷◌, Bool, true, false, Option, None, Some, zero, suc, ◌+◌, ◌-◌, ◌*◌, ◌^◌, ◌/◌, ◌%◌, ◌++◌, codes, map, filter, chars, ◌≡◌, nat_le, length, find, option_map, option_and_then, unwrap_or, bytes_eq, Result, Ok, Err}
 use Rattle.std.specs.Char.{digit_char}
 use Rattle.std.specs.Int.{w32, from_be_bytes}
 use Rattle.std.specs.List.{list_any}
@@ -15,13 +15,10 @@ use Rattle.meta.specs.declared.delegation.Paths.TheVariants.{Patterns, Prefixes}
 use Rattle.meta.specs.declared.delegations.Roles.{Roles}
 pub use Rattle.examine.specs.Checks.{file_in, Moment, Root, Snapshot, Target, Part, Fault, Files, targets_part}
 pub use Rattle.rolechain.specs.Advance.{State, due_targets}
-use Rattle.deleg.specs.declared.pattern.Compared.TheVariants as compared
-use Rattle.deleg.specs.declared.pattern.Compared.{Compared}
 use Rattle.deleg.specs.declared.edge.Edge as program
 use Rattle.deleg.specs.declared.found.Found.TheVariants.{Listed, NotFound, LimitReached, RoleRefused}
 pub use Rattle.deleg.specs.declared.accepted.Accepted.{Accepted}
 pub use Rattle.deleg.specs.declared.found.Found.{Found}
-use Rattle.deleg.specs.declared.query.Query.{Query}
 pub use Rattle.deleg.specs.declared.accepted.Search.{Search}
 
 -- # Which paths a pattern matches (TUF 1.0 section 4.5).
@@ -60,33 +57,6 @@ is_match (c ∷ cs) path =
 -- the path's digest in lower-case hexadecimal
 abbrev pub path_digest : List ℕ → List ℕ
 path_digest path = encode_lower (sha256 path)
-
--- # What comparing the characters before a pattern's first `*` leaves.
-
-pub data Remainder : Type 0 where
-  -- what follows the `*`, and the path from there
-  at_run : List ℕ → List ℕ → Remainder
-  whole : Remainder
-  fails : Remainder
-
-abbrev pub remainder_one : ℕ → (List ℕ → Remainder) → List ℕ → Remainder
-remainder_one c rest [] = fails
-remainder_one c rest (d ∷ ds) = if stands_for c d then rest ds else fails
-
-abbrev pub remainder : List ℕ → List ℕ → Remainder
-remainder [] [] = whole
-remainder [] (d ∷ ds) = fails
-remainder (c ∷ cs) ds = if c == 42 then at_run cs ds else remainder_one c (remainder cs) ds
-
-abbrev pub remainder_of : Compared → Remainder
-remainder_of (compared.AtRun pattern path) = at_run (chars pattern.now) (chars path.now)
-remainder_of compared.Whole = whole
-remainder_of compared.Fails = fails
-
--- the path after one more character of a run, if the run may go on
-abbrev pub past_one : List ℕ → Option (List ℕ)
-past_one [] = None
-past_one (d ∷ ds) = if d == 47 then None else Some ds
 
 -- # The hash bin of a path (this project's profile).
 
@@ -275,64 +245,17 @@ module _ (files : Files) (now : Moment) (top : Root) (snap : Snapshot)
   abbrev pub search_from : Targets → Search
   search_from m = from_top (visit (suc most)) path m
 
+-- the equations below a trusted state, by its root and its snapshot
+abbrev pub IsPreorderOf : Files → Moment → State → List ℕ → ℕ → Visits → Type 0
+IsPreorderOf files now s path most visits =
+    (snap : Part Snapshot) × (s.snapshot ≡ Some snap)
+    × IsPreorder files now s.root.reading snap.reading path most visits
+
 -- the search in a trusted state that is ready
 abbrev pub search_in : Files → Moment → State → List ℕ → ℕ → Option Search
 search_in files now s path most =
     option_and_then (λ snap. option_map (λ m.
     search_from files now s.root.reading snap.reading path most m.reading) s.targets) s.snapshot
-
--- # Delegations that require one file.
-
--- to a role of one name, by the same of the same keys
-pub record RequireTheSame (a b : Edge) : Type 0 where
-  pub name : a.name ≡ b.name
-  pub ring : a.ring ≡ b.ring
-  pub keys : a.keys ≡ b.keys
-
--- # A search that is under way.
-
--- the outcome of the search, if these delegations are pending and these roles were accepted
-unfoldable pub outlook : Query → List Edge → List Accepted → Search
-outlook q es seen =
-    settled (walk (file_in q.files.now) q.moment q.root.now q.snapshot.now q.path.now q.limit
-    es seen)
-
--- the pending delegations of each file, the last file's first
-abbrev pub pending : List ℕ → List (List Edge) → List Edge
-pending path [] = []
-pending path (es ∷ files) = pending path files ++ filter (is_for path) es
-
--- one file's before those of the others
-abbrev pub pending_with : List ℕ → List Edge → List (List Edge) → List Edge
-pending_with path es files = filter (is_for path) es ++ pending path files
-
--- not for the path, or to a visited role and not terminating
-abbrev pub is_passed : List ℕ → List Accepted → Edge → Bool
-is_passed path seen e = not (is_for path e) || (is_visited seen e.name && not e.terminating)
-
-abbrev pub starts_passed : List ℕ → List Accepted → List Edge → Bool
-starts_passed path seen [] = false
-starts_passed path seen (e ∷ es) = is_passed path seen e
-
--- from the first one that isn't skipped
-abbrev pub after_passed : List ℕ → List Accepted → List Edge → List Edge
-after_passed path seen [] = []
-after_passed path seen (e ∷ es) =
-    if is_passed path seen e then after_passed path seen es else e ∷ es
-
--- the first one is for the path, and its role wasn't visited
-abbrev pub IsNext : List ℕ → List Accepted → List Edge → Type 0
-IsNext path seen [] = ⊥
-IsNext path seen (e ∷ es) = (is_for path e ≡ true) × (is_visited seen e.name ≡ false)
-
--- the search goes on with other pending delegations, and with one more role accepted
-abbrev pub GoesOn : Query → List Edge → List Accepted → List Edge → List Accepted → Type 0
-GoesOn q es seen es' seen' =
-    (outlook q es seen ≡ outlook q es' seen')
-    × (length seen' ≡ length seen + 1) × (length seen' < q.limit)
-
-abbrev pub Ends : Query → List Edge → List Accepted → Found → List Accepted → Type 0
-Ends q es seen found seen' = outlook q es seen ≡ record { found = found; accepted = seen' }
 
 -- # What a delegation of the program represents.
 

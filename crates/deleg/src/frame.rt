@@ -1,51 +1,55 @@
-//! The files on the stack of a search, and which of their delegations are tried next.
+//! The files on the stack of a search, and which of their delegations are left.
 
-ghost use Rattle.std.specs.Prelude.{◌≡◌, IfOk, drop, slice_get, option_map};
+ghost use Rattle.std.specs.Prelude.{◌≡◌, ◌<◌, ◌^◌, IfOk, drop, length, slice_get, option_map};
 ghost use Rattle.deleg.specs.Search as spec;
 
-use crate::accepted::Accepted;
 use crate::cache::Entered;
-use crate::edge::{Edge, bin_of, edge_at, edge_count, is_for};
+use crate::edge::{Edge, bin_of, edge_at, edge_count};
 use crate::hashed::HashedPath;
-use crate::query::is_visited;
 use cjson::NoMemory;
 use cjson::text::Text;
 use meta::{Part, Targets};
 use std::alloc::Global;
 use std::marker::Model;
 
-/// A targets file, the name of the bin of the path that is searched for, and how many of the file's
-/// delegations were tried. Contracts see the delegations that are left.
+/// A targets file, the name of the bin of the path that is searched for, how many delegations the
+/// file has, and how many of them were tried. Contracts see the delegations that are left.
 #[derive(Drop)]
 pub(crate) struct Frame {
     file: Part<Targets>,
     /// Whether the cache or the trusted state also has the file.
     held: bool,
     bin: Text,
+    count: usize,
     tried: usize,
 }
 
 impl Model for Frame {
-    ghost use Rattle.std.specs.Prelude.{List, drop};
+    ghost use Rattle.std.specs.Prelude.{◌≡◌, List, drop, length};
     ghost use Rattle.deleg.specs.Search as spec;
 
     ghost Value = { List spec.Edge };
 
     ghost view = { λ f. drop f.tried (spec.edges_by f.bin f.file.reading) };
+
+    ghost invariant = { λ f. f.count ≡ length (spec.edges_by f.bin f.file.reading) };
 }
 
 impl Frame {
     /// Returns the frame of a file none of whose delegations were tried. Fails only if out of
     /// memory.
     pub(crate) fn of(alloc: Global, entered: Entered, path: &HashedPath) -> Result<Frame, NoMemory>
-        ensures { IfOk result (λ f. f ≡ spec.edges entered.file.reading path.now) }
+        ensures edges { IfOk result (λ f. f ≡ spec.edges entered.file.reading path.now) }
+        ensures most { IfOk result (λ f. length f < 2 ^ 64) }
     {
         let Entered { file, held } = entered;
         let bin = bin_of(alloc, file.reading(), path)?;
+        let count = edge_count(file.reading(), bin.as_str());
         Ok(Frame {
             file,
             held,
             bin,
+            count,
             tried: 0,
         })
     }
@@ -59,6 +63,7 @@ impl Frame {
             file: self.file.copy()?,
             held: self.held,
             bin,
+            count: self.count,
             tried: self.tried,
         })
     }
@@ -79,35 +84,8 @@ impl Frame {
     pub(crate) fn skip(&mut self)
         ensures { self.new ≡ drop 1 self.old }
     {
-        if self.tried < edge_count(self.file.reading(), self.bin.as_str()) {
+        if self.tried < self.count {
             self.tried += 1;
         }
     }
-
-    /// Drops the first delegations that aren't for the path or lead to visited roles, up to a
-    /// terminating one that is for the path.
-    pub(crate) fn pass(&mut self, path: &HashedPath, seen: &[Accepted])
-        ensures { self.new ≡ spec.after_passed path.now seen.now self.old }
-    {
-        while self.starts_passed(path, seen) {
-            self.skip();
-        }
-    }
-
-    fn starts_passed(&self, path: &HashedPath, seen: &[Accepted]) -> bool
-        ensures { result ≡ spec.starts_passed path.now seen.now self.now }
-    {
-        match self.next() {
-            Some(edge) => is_passed(&edge, path, seen),
-            None => false,
-        }
-    }
-}
-
-/// Returns whether the delegation isn't for the path, or leads to a visited role and isn't
-/// terminating.
-fn is_passed(edge: &Edge, path: &HashedPath, seen: &[Accepted]) -> bool
-    ensures { result ≡ spec.is_passed path.now seen.now (spec.edge_of edge.now) }
-{
-    !is_for(edge, path) || (is_visited(seen, edge.name) && !edge.terminating)
 }

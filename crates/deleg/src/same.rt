@@ -1,7 +1,8 @@
 //! Delegations that require one file, signed by the same keys.
 
 ghost use Rattle.std.specs.Prelude.{◌≡◌, IsTrue};
-ghost use Rattle.deleg.specs.Search as spec;
+ghost use Rattle.deleg.specs.Cache.{RequireTheSame};
+ghost use Rattle.deleg.specs.Search.{edge_of};
 
 use crate::edge::Edge;
 use cjson::text::Text;
@@ -10,7 +11,7 @@ use keys::{Key, RoleKeys};
 /// Returns whether both lead to a role of one name, have the same keys, and require the same of
 /// them.
 pub(crate) fn is_same(one: &Edge, other: &Edge) -> bool
-    ensures { IsTrue result → spec.RequireTheSame (spec.edge_of one.now) (spec.edge_of other.now) }
+    ensures { IsTrue result → RequireTheSame (edge_of one.now) (edge_of other.now) }
 {
     one.name == other.name
         && are_same_role_keys(one.keys, other.keys)

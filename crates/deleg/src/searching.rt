@@ -1,7 +1,6 @@
 //! The search for a path.
 
-ghost use Rattle.std.specs.Prelude.{◌≡◌, IfOk, IsTrue, Some};
-ghost use Rattle.meta.specs.Content.{Part};
+ghost use Rattle.std.specs.Prelude.{◌≡◌, ◌≤◌, IfOk, IsTrue, Some};
 ghost use Rattle.meta.specs.Metadata.{Snapshot};
 ghost use Rattle.examine.specs.Checks.{file_in};
 ghost use Rattle.rolechain.specs.Advance.{is_ready};
@@ -62,19 +61,20 @@ impl<'a> Searcher<'a> {
         }
     }
 
-    /// Searches for `path` as the function [`search`] does; earlier searches have no influence.
+    /// Searches for `path` as the function [`search`] does, with a `limit` of 1 to 256; earlier
+    /// searches have no influence. The trusted state must be ready.
     pub fn search<J: Judge>(
         &mut self,
         path: &str,
         limit: usize,
         judge: &mut J,
     ) -> Result<Search, NoMemory>
-        requires { IsTrue (is_ready self.old.trusted.now) }
-        ensures preorder { let s = self.old in (visits : spec.Visits) (snapshot : Part Snapshot)
-            → s.trusted.now.snapshot ≡ Some snapshot
-            → spec.IsPreorder (file_in s.repo.now.metadata) s.moment s.trusted.now.root.reading
-            snapshot.reading path.now limit visits
-            → IfOk result (λ found. spec.search_by visits s.trusted.now path.now ≡ Some found) }
+        requires ready { IsTrue (is_ready self.old.trusted.now) }
+        requires limit { 1 ≤ limit }
+        requires most { limit ≤ 256 }
+        ensures preorder { let s = self.old in (visits : spec.Visits)
+            → spec.IsPreorderOf (file_in s.repo.now.metadata) s.moment s.trusted.now path.now limit
+            visits → IfOk result (λ found. spec.search_by visits s.trusted.now path.now ≡ Some found) }
         ensures solved { let s = self.old in (snapshot : Snapshot)
             → spec.IsSolved (file_in s.repo.now.metadata) s.moment s.trusted.now.root.reading
             snapshot path.now limit }
@@ -86,12 +86,8 @@ impl<'a> Searcher<'a> {
     {
         let trusted = self.trusted;
         let repo = self.repo;
-        let Some(snapshot) = trusted.snapshot() else {
-            unreachable!()
-        };
-        let Some(targets) = trusted.targets() else {
-            unreachable!()
-        };
+        let snapshot = trusted.snapshot().unwrap();
+        let targets = trusted.targets().unwrap();
         let query = Query {
             alloc: self.alloc,
             files: &repo.metadata,
@@ -106,8 +102,8 @@ impl<'a> Searcher<'a> {
 }
 
 /// Searches for `path` in preorder from the trusted top-level targets file (TUF 1.0 section 5.6.7).
-/// Visits each role once and at most `limit` roles, the top-level role included; this program
-/// passes 1 to 256. Fails only if out of memory.
+/// Visits each role once and at most `limit` roles, 1 to 256, the top-level role included. The
+/// trusted state must be ready. Fails only if out of memory.
 ///
 /// A delegated role's file must be listed by the trusted snapshot and signed as the delegation that
 /// leads to it requires. The search ends if a role lists `path`, if a role is refused, if one more
@@ -122,11 +118,11 @@ pub fn search<J: Judge>(
     limit: usize,
     judge: &mut J,
 ) -> Result<Search, NoMemory>
-    requires { IsTrue (is_ready trusted.now) }
-    ensures preorder { (visits : spec.Visits) (snapshot : Part Snapshot)
-        → trusted.now.snapshot ≡ Some snapshot
-        → spec.IsPreorder (file_in repo.now.metadata) now trusted.now.root.reading
-        snapshot.reading path.now limit visits
+    requires ready { IsTrue (is_ready trusted.now) }
+    requires limit { 1 ≤ limit }
+    requires most { limit ≤ 256 }
+    ensures preorder { (visits : spec.Visits)
+        → spec.IsPreorderOf (file_in repo.now.metadata) now trusted.now path.now limit visits
         → IfOk result (λ s. spec.search_by visits trusted.now path.now ≡ Some s) }
     ensures solved { (snapshot : Snapshot) → spec.IsSolved (file_in repo.now.metadata) now
         trusted.now.root.reading snapshot path.now limit }

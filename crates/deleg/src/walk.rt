@@ -1,13 +1,15 @@
-//! The loop of a search over its stack.
+//! The search through the delegations of the files on a stack.
 
-ghost use Rattle.std.specs.Prelude.{◌≡◌, ◌+◌, ◌<◌, ◌∷◌, ◌++◌, [], Some, drop, length, option_map};
-ghost use Rattle.std.specs.Prelude.{if◌then◌else◌, IfOk, IfSome, IfNone};
+ghost use Rattle.std.specs.Prelude.{◌≡◌, ◌+◌, ◌<◌, ◌∷◌, ◌++◌, [], List, drop, length, option_map};
+ghost use Rattle.std.specs.Prelude.{if◌then◌else◌, IfOk};
 ghost use Rattle.deleg.specs.Search as spec;
+ghost use Rattle.deleg.specs.Glue as glue;
 ghost use Rattle.deleg.specs.Cache.{IsCacheOf, examination_in};
 ghost use Rattle.deleg.specs.declared.found.Found.TheVariants as found;
 
 use crate::accepted::{Accepted, Search};
 use crate::cache::RoleCache;
+use crate::edge::is_for;
 use crate::found::Found;
 use crate::frame::Frame;
 use crate::once::examine_once;
@@ -18,6 +20,20 @@ use cjson::text::Text;
 use keys::Judge;
 use meta::{Part, Stop, Targets};
 
+/// What a search does after it tried a file's next delegation.
+#[derive(Drop)]
+enum Step {
+    /// Leaves the file, which has no delegation left.
+    Leaves,
+    /// Ends with this finding.
+    Ends(Found),
+    /// Skips the delegation: it isn't for the path, or its role was visited. `terminating` is
+    /// whether it is for the path and terminating.
+    Skips { terminating: bool },
+    /// Enters the file of the role, which is accepted and doesn't list the path.
+    Enters { terminating: bool, below: Frame },
+}
+
 /// Tries the delegations of the files on the stack, the last file's first.
 pub(crate) fn walk<J: Judge>(
     query: &Query,
@@ -27,14 +43,22 @@ pub(crate) fn walk<J: Judge>(
 ) -> Result<Search, NoMemory>
     requires cache { IsCacheOf (examination_in query.now) cache.old }
     ensures searched { IfOk result (λ s.
-        s ≡ spec.outlook query.now (spec.pending query.now.path.now stack.items) []) }
+        s ≡ glue.outlook query.now (glue.pending query.now.path.now stack.items) []) }
     ensures cache { IsCacheOf (examination_in query.now) cache.new }
 {
     let mut seen = Vec::new(query.alloc);
-    while let Some(frame) = next_frame(query, &mut stack, seen.as_slice()) {
-        if let Some(found) = visit(query, frame, &mut stack, &mut seen, cache, judge)? {
-            let accepted = Items::new(seen);
-            return Ok(Search { found, accepted });
+    while let Some(frame) = stack.pop() {
+        match follow(query, &frame, &mut seen, cache, judge)? {
+            Step::Leaves => {}
+            Step::Ends(found) => {
+                let accepted = Items::new(seen);
+                return Ok(Search { found, accepted });
+            }
+            Step::Skips { terminating } => put_back(frame, terminating, &mut stack)?,
+            Step::Enters { terminating, below } => {
+                put_back(frame, terminating, &mut stack)?;
+                stack.push(below)?;
+            }
         }
     }
     Ok(Search {
@@ -43,70 +67,45 @@ pub(crate) fn walk<J: Judge>(
     })
 }
 
-/// Takes the last file that has a delegation to visit, up to that delegation. Returns None if no
-/// more is tried.
-fn next_frame(query: &Query, stack: &mut Vec<Frame>, seen: &[Accepted]) -> Option<Frame>
-    ensures none { let q = query.now in
-        IfNone result (spec.Ends q (spec.pending q.path.now stack.old.items) seen.now found.NotFound
-        seen.now) }
-    ensures next { IfSome result (spec.IsNext query.now.path.now seen.now) }
-    ensures same { let q = query.now in
-        IfSome result (λ f. spec.outlook q (spec.pending q.path.now stack.old.items) seen.now
-        ≡ spec.outlook q (spec.pending_with q.path.now f stack.new.items) seen.now) }
-{
-    while let Some(mut frame) = stack.pop() {
-        frame.pass(query.path, seen);
-        let Some(edge) = frame.next() else {
-            continue;
-        };
-        if is_visited(seen, edge.name) {
-            return None;
-        }
-        return Some(frame);
-    }
-    None
-}
-
-/// Visits the role of the file's first delegation. Returns what the search found, or None if it
-/// goes on with the delegations that are now on the stack.
-fn visit<J: Judge>(
+/// Tries the file's next delegation. If it is for the path and its role wasn't visited, visits it.
+fn follow<J: Judge>(
     query: &Query,
-    frame: Frame,
-    stack: &mut Vec<Frame>,
+    frame: &Frame,
     seen: &mut Vec<Accepted>,
     cache: &mut RoleCache,
     judge: &mut J,
-) -> Result<Option<Found>, NoMemory>
-    requires next { spec.IsNext query.now.path.now seen.old.items frame }
+) -> Result<Step, NoMemory>
     requires cache { IsCacheOf (examination_in query.now) cache.old }
-    ensures goes_on { let q = query.now in
-        IfOk result (λ o. IfNone o (spec.GoesOn q
-        (spec.pending_with q.path.now frame stack.old.items) seen.old.items
-        (spec.pending q.path.now stack.new.items) seen.new.items)) }
-    ensures ends { let q = query.now in
-        IfOk result (λ o. IfSome o (λ f. spec.Ends q
-        (spec.pending_with q.path.now frame stack.old.items) seen.old.items f seen.new.items)) }
+    ensures step { IfOk result (λ step. (others : List spec.Edge) → glue.IsStep query.now frame.now
+        others seen.old.items step seen.new.items) }
+    ensures progress { IfOk result (λ step.
+        glue.Progresses query.now.limit frame.now seen.old.items step seen.new.items) }
     ensures cache { IsCacheOf (examination_in query.now) cache.new }
 {
-    if seen.len() >= query.limit.saturating_sub(1) {
-        return Ok(Some(Found::LimitReached));
-    }
     let Some(edge) = frame.next() else {
-        unreachable!()
+        return Ok(Step::Leaves);
     };
+    if !is_for(&edge, query.path) {
+        return Ok(Step::Skips { terminating: false });
+    }
     let terminating = edge.terminating;
+    if is_visited(seen.as_slice(), edge.name) {
+        return Ok(Step::Skips { terminating });
+    }
+    if seen.len() + 1 >= query.limit {
+        return Ok(Step::Ends(Found::LimitReached));
+    }
     let role = Text::new(String::from_str(query.alloc, edge.name)?);
-    let entered = match examine_once(query, &frame, &edge, cache, judge) {
+    let entered = match examine_once(query, frame, &edge, cache, judge) {
         Ok(entered) => entered,
-        Err(Stop::Refused(fault)) => return Ok(Some(Found::RoleRefused { role, fault })),
+        Err(Stop::Refused(fault)) => return Ok(Step::Ends(Found::RoleRefused { role, fault })),
         Err(Stop::NoMemory) => return Err(NoMemory),
     };
     if let Some(found) = accept(query, role, &entered.file, seen)? {
-        return Ok(Some(found));
+        return Ok(Step::Ends(found));
     }
-    put_back(frame, terminating, stack)?;
-    stack.push(Frame::of(query.alloc, entered, query.path)?)?;
-    Ok(None)
+    let below = Frame::of(query.alloc, entered, query.path)?;
+    Ok(Step::Enters { terminating, below })
 }
 
 /// Accepts a role, and looks the path up in its file.
@@ -140,8 +139,8 @@ fn accept(
     }))
 }
 
-/// Puts the file back without its first delegation. After a terminating one, clears the stack
-/// instead.
+/// Puts the file back without its first delegation. If that is terminating, clears the stack
+/// instead: no other delegation is tried.
 fn put_back(mut frame: Frame, terminating: bool, stack: &mut Vec<Frame>) -> Result<(), NoMemory>
     ensures { IfOk result (λ _. stack.new.items
         ≡ (if terminating then [] else stack.old.items ++ drop 1 frame ∷ [])) }

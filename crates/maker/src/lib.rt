@@ -1,6 +1,8 @@
 //! The maker of test repositories, valid and hostile ones.
 //!
 //! - [`make`] makes a repository from a script.
+//! - [`seal`] signs a metadata file, [`secret`] returns the key of a key byte, and [`MakeFault`] is
+//!   why no file or repository is made: they are those of `seals`.
 #![tactic(auto)]
 
 mod bins;
@@ -13,3 +15,4 @@ mod script;
 mod words;
 
 pub use script::make;
+pub use seals::{MakeFault, Signer, seal, secret};

@@ -1,6 +1,7 @@
 //! Searches for a path through delegations, in a repository in memory.
 
 use anyhow::{Context, Result, bail};
+use cjson::number::Within;
 use deleg::{Found, Search, search};
 use keys::{Direct, key_id};
 use lms::{Height, Secret};
@@ -177,7 +178,7 @@ fn state(alloc: Global, targets: &str) -> Result<Trusted> {
 pub fn told(alloc: Global, step: &Step) -> Result<String> {
     let parts = parts_of(alloc, step.script.as_slice())?;
     let trusted = state(alloc, parts.top(alloc)?.as_str())?;
-    let limit = step.word(1)?.parse::<usize>()?;
+    let limit = Within::new(step.word(1)?.parse()?).context("a limit is 1 to 256")?;
     let searched = searched(alloc, &trusted, &parts.repo, step.word(0)?, limit)?;
     lines_of(alloc, &searched)
 }
@@ -197,12 +198,13 @@ fn searched(
     trusted: &Trusted,
     repo: &Repo,
     path: &str,
-    limit: usize,
+    limit: Within<1, 256>,
 ) -> Result<Search> {
     let now = Moment::read("2026-01-01T00:00:00Z").context("no moment")?;
     if !trusted.is_ready() {
         bail!("a state that isn't ready");
     }
+    let limit = limit.get() as usize;
     Ok(search(alloc, trusted, repo, now, path, limit, &mut Direct)?)
 }
 

@@ -6,7 +6,7 @@ use Rattle.std.proofs.lemmas.Grind.{common_steps}
 use Rattle.std.proofs.lemmas.Str.{IsUtf8-from_is_utf8, is_utf8-from_IsUtf8}
 use Rattle.std.specs.List.{list_all}
 use Rattle.std.specs.Str.{IsUtf8}
-use Rattle.paths.specs.Lists.{before_first, is_path, parts, paths_of}
+use Rattle.paths.specs.Lists.{is_path, parts, paths_of}
 
 other_byte : (byte mark : ℕ) → ((byte == mark) ≡ true → ⊥) → (byte == mark) ≡ false
 other_byte byte mark isnt = grind (arith, nat_tests)

@@ -26,7 +26,10 @@ pub(crate) struct Signers<'a> {
 /// and by its own, the other top-level files by the last root's, and a delegated role by those of
 /// each delegation that is followed to it. Leaves out the last ones if they list more than 262,144
 /// ids together. Fails only if out of memory.
-pub(crate) fn signers_of<'b>(scope: &Scope<'b>, ahead: &'b Ahead) -> Result<Vec<Signers<'b>>, NoMemory> {
+pub(crate) fn signers_of<'b>(
+    scope: &Scope<'b>,
+    ahead: &'b Ahead,
+) -> Result<Vec<Signers<'b>>, NoMemory> {
     let mut all = Vec::new(scope.alloc);
     add_roots(scope.trusted, ahead.roots.as_slice(), &mut all)?;
     add_top(

@@ -9,8 +9,8 @@ use Rattle.jiff_core.specs.declared.civil.date.Date.{Date}
 use Rattle.jiff_core.proofs.SignedLemmas.{signed_arith}
 use Rattle.jiff_core.proofs.CalendarLemmas.{days_from_civil-day_count, day_count-day, day_count-day_of_year, day_count-lt_month, day_count-lt_year, day_count_bounds}
 use Rattle.jiff_core.proofs.DateLemmas.{civil}
-use Rattle.moment.specs.Moment.{Moment, IsMomentText, moment_at, stamp_text}
-use Rattle.report.specs.Shown.{last_to, month_of, place_of, text_at, text_in, year_of, has_text, moment_text}
+use Rattle.moment.specs.Moment.{Moment, IsMomentText, moment_at}
+use Rattle.report.specs.Shown.{last_to, month_of, place_of, text_at, year_of, has_text, moment_text}
 
 -- ---- the greatest number that passes
 

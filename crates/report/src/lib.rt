@@ -2,8 +2,8 @@
 //!
 //! - [`tell`] prints the lines of an outcome and returns the status, and [`tell_cycles`] does for
 //!   one cycle after another.
-//! - [`show`] prints what a trusted state has, and when it expires; [`moment_text`] returns the text
-//!   of a moment.
+//! - [`show`] prints what a trusted state has, and when it expires; [`moment_text`] returns the
+//!   text of a moment.
 //! - [`root_line`], [`push_end`] and [`push_verdict`] make single lines, and [`put`] writes a text.
 #![tactic(auto)]
 

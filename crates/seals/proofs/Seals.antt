@@ -1,18 +1,21 @@
 -- Signed files: their text, and their entries one by one.
-use Rattle.std.proofs.Common.{◌≡◌, ℕ, zero, suc, ◌+◌, ◌<◌, ◌≤◌, ◌&&◌, ◌++◌, List, [], ◌∷◌, length, get_or, set, take, drop, map, fold, Bool, true, false, ◌⊎◌, inl, inr, Result, Ok, Err, OnErr, Some, None, slice_get, is_some, option_map, IsSome, Any, refl, sym, ap, ap₂, ◌∙◌, arith, true≢false, if◌then◌else◌}
+use Rattle.std.proofs.Common.{◌≡◌, ◌≢◌, ◌↔◌, ℕ, ◌+◌, ◌<◌, ◌≤◌, ◌&&◌, ◌++◌, List, [], ◌∷◌, length, get_or, set, take, map, fold, Bool, true, false, ◌⊎◌, inl, inr, ⊎_elim, Result, Ok, Err, OnErr, IsErrAnd, Some, None, slice_get, is_some, option_map, IsSome, refl, sym, subst, ap, ap₂, ◌∙◌, arith, true≢false, if◌then◌else◌}
 use Rattle.std.specs.List.{AllZip}
 use Rattle.std.proofs.Math.Seq.{map-set_same, take-length}
-use Rattle.std.proofs.lemmas.List.{take_more, take-append-drop, length-map, map-set, get_or-map, get_or-set_same, get_or_default}
+use Rattle.std.proofs.lemmas.List.{take_more, map-set, get_or-map}
 use Rattle.std.proofs.lemmas.List.Sums.{fold-append}
-use Rattle.std.proofs.lemmas.Option.{slice_get-get_or, slice_get-map}
+use Rattle.std.proofs.lemmas.Bool.{cases_eq}
+use Rattle.std.proofs.lemmas.Option.{same_Some, slice_get-get_or, slice_get-map}
 use Rattle.serde_json.specs.Data.{Data, Items, no_items, item}
 use Rattle.serde_json.specs.View.{view, items_view}
 use Rattle.serde_json.specs.declared.value.Value.{Value}
 use Rattle.cjson.specs.Canon.{canon, has_whole_numbers, items_are_whole, is_ordered, items_are_ordered}
 use Rattle.cjson.specs.declared.doc.Entry.{Entry}
 use Rattle.cjson.proofs.OnLiterals.{cjson_on_literals}
+use Rattle.seals.specs.declared.fault.MakeFault.{MakeFault}
+use Rattle.seals.specs.declared.fault.MakeFault.TheVariants.{Used, NoMemory, Script}
 use Rattle.seals.specs.declared.signer.Signer.{Signer}
-use Rattle.seals.specs.Sealed.{Holder, HasSpent, IsSignedAt, IsSignedBy, IsOverspent, entry_object, entry_objects, holder, sealed, spend, used_of}
+use Rattle.seals.specs.Sealed.{Holder, HasSpent, IsSignedAt, IsSignedBy, IsUsedUp, IsUsedUpAt, entry_object, entry_objects, holder, sealed, spend, unused, used_of}
 
 -- ---- the file has a text
 
@@ -84,16 +87,23 @@ entries_more hs by text i vs es v e h within at done signed is by_h =
 
 -- ---- the signers
 
--- the holder at a place, whoever signed before
-pub holder_at : (first ss : List Signer) (p : ℕ) (d : Signer) → p < length ss → map holder ss ≡ map holder first
-    → slice_get (map holder first) p ≡ Some (holder (get_or ss p d))
-holder_at first ss p d within so_far =
-    ap (λ hs. slice_get hs p) (sym so_far) ∙ slice_get-map holder ss p ∙ ap (option_map holder) (slice_get-get_or ss p d within)
+holders_of_unused : (ss : List Signer) → map holder (map unused ss) ≡ map holder ss
+holders_of_unused [] = refl
+holders_of_unused (s ∷ ss) = ap (λ hs. holder s ∷ hs) (holders_of_unused ss)
 
--- an entry's signer keeps its id and its public key, so all do
-pub holders_kept : (first ss : List Signer) (p : ℕ) (d t : Signer) → holder t ≡ holder (get_or ss p d) → map holder ss ≡ map holder first
-    → map holder (set ss p t) ≡ map holder first
-holders_kept first ss p d t kept so_far = map-set_same holder ss p t d kept ∙ so_far
+holders_same : (first ss : List Signer) → map unused ss ≡ map unused first → map holder ss ≡ map holder first
+holders_same first ss kept = sym (holders_of_unused ss) ∙ ap (map holder) kept ∙ holders_of_unused first
+
+-- the holder at a place, whoever signed before
+pub holder_at : (first ss : List Signer) (p : ℕ) (d : Signer) → p < length ss → map unused ss ≡ map unused first
+    → slice_get (map holder first) p ≡ Some (holder (get_or ss p d))
+holder_at first ss p d within kept =
+    ap (λ hs. slice_get hs p) (sym (holders_same first ss kept)) ∙ slice_get-map holder ss p ∙ ap (option_map holder) (slice_get-get_or ss p d within)
+
+-- an entry's signer keeps its id and its key, so all do
+pub signers_kept : (first ss : List Signer) (p : ℕ) (d t : Signer) → unused t ≡ unused (get_or ss p d) → map unused ss ≡ map unused first
+    → map unused (set ss p t) ≡ map unused first
+signers_kept first ss p d t kept so_far = map-set_same unused ss p t d kept ∙ so_far
 
 -- a signer of the places takes one more leaf
 pub leaves_more : (first ss : List Signer) (by : List ℕ) (i : ℕ) (d t : Signer) → i < length by → get_or by i 0 < length ss
@@ -106,50 +116,64 @@ leaves_more first ss by i d t within there one so_far =
     here ∙ ap (λ counts. spend counts p) so_far
     ∙ sym (ap (fold spend (map used_of first)) (take_more by i 0 within) ∙ fold-append spend (map used_of first) (take i by) (p ∷ []))
 
--- ---- a signer that has too few leaves
+-- ---- a signer that has no leaf left
 
-spend-least : (counts : List ℕ) (q p : ℕ) → get_or counts p 0 ≤ get_or (spend counts q) p 0
-spend-least [] q p = omega arith
-spend-least (n ∷ counts) zero zero = omega arith
-spend-least (n ∷ counts) zero (suc p) = omega arith
-spend-least (n ∷ counts) (suc q) zero = omega arith
-spend-least (n ∷ counts) (suc q) (suc p) = spend-least counts q p
+-- none of the first places came to a signer without a leaf
+abbrev pub NoneUsedUp : List Signer → List ℕ → ℕ → Type 0
+NoneUsedUp first by i = (k : ℕ) → k < i → IsUsedUpAt first by k → ⊥
 
--- no count falls
-spends-least : (by counts : List ℕ) (p : ℕ) → get_or counts p 0 ≤ get_or (fold spend counts by) p 0
-spends-least [] counts p = omega arith
-spends-least (q ∷ by) counts p =
-    let one = spend-least counts q p in
-    let more = spends-least by (spend counts q) p in
-    omega arith
+-- the count at a place, whoever signed before
+count_at : (first ss : List Signer) (by : List ℕ) (i : ℕ) (d : Signer) → get_or by i 0 < length ss
+    → map used_of ss ≡ fold spend (map used_of first) (take i by)
+    → get_or (fold spend (map used_of first) (take i by)) (get_or by i 0) 0 ≡ used_of (get_or ss (get_or by i 0) d)
+count_at first ss by i d there leaves =
+    ap (λ counts. get_or counts (get_or by i 0) 0) (sym leaves) ∙ get_or-map used_of ss (get_or by i 0) d 0 there
 
--- the counts after all places, from those before place i
-split_at : (by counts : List ℕ) (i : ℕ) → i < length by
-    → fold spend counts by ≡ fold spend (spend (fold spend counts (take i by)) (get_or by i 0)) (drop (i + 1) by)
-split_at by counts i within =
-    ap (fold spend counts) (sym (take-append-drop (i + 1) by)) ∙ fold-append spend counts (take (i + 1) by) (drop (i + 1) by)
-    ∙ ap (λ c. fold spend c (drop (i + 1) by))
-    (ap (fold spend counts) (take_more by i 0 within) ∙ fold-append spend counts (take i by) (get_or by i 0 ∷ []))
+-- a signer without a leaf left, when it is its turn
+pub used_up_at : (first ss : List Signer) (by : List ℕ) (i : ℕ) (d : Signer) → i < length by → get_or by i 0 < length ss
+    → used_of (get_or ss (get_or by i 0) d) ≡ (holder (get_or ss (get_or by i 0) d)).leaves → map unused ss ≡ map unused first
+    → map used_of ss ≡ fold spend (map used_of first) (take i by) → IsUsedUp first by
+used_up_at first ss by i d within there spent kept leaves = (
+  i,
+  record {
+    within = within;
+    h = holder (get_or ss (get_or by i 0) d);
+    at = holder_at first ss (get_or by i 0) d there kept;
+    used = count_at first ss by i d there leaves ∙ spent;
+  },
+)
 
-asked_again : (by counts : List ℕ) (i n : ℕ) → i < length by → get_or by i 0 < length (fold spend counts (take i by))
-    → get_or (fold spend counts (take i by)) (get_or by i 0) 0 ≡ n → n < get_or (fold spend counts by) (get_or by i 0) 0
-asked_again by counts i n within there is =
-    let p = get_or by i 0 in
-    let before = fold spend counts (take i by) in
-    let one : get_or (spend before p) p 0 ≡ get_or before p 0 + 1 = get_or-set_same before p _ 0 there in
-    let more = spends-least (drop (i + 1) by) (spend before p) p in
-    rw (split_at by counts i within) (omega (arith, one, more, is))
+-- one place more, at which the signer had a leaf left
+pub none_more : (first ss : List Signer) (by : List ℕ) (i : ℕ) (d : Signer) → get_or by i 0 < length ss
+    → (used_of (get_or ss (get_or by i 0) d) ≡ (holder (get_or ss (get_or by i 0) d)).leaves → ⊥) → map unused ss ≡ map unused first
+    → map used_of ss ≡ fold spend (map used_of first) (take i by) → NoneUsedUp first by i → NoneUsedUp first by (i + 1)
+none_more first ss by i d there had kept leaves before k less u =
+    ⊎_elim (λ (e : k ≡ i). had (here (subst (IsUsedUpAt first by) e u))) (λ (ne : k ≡ i → ⊥). before k (omega arith) u) (cases_eq k i)
+  where
+    here : IsUsedUpAt first by i → used_of (get_or ss (get_or by i 0) d) ≡ (holder (get_or ss (get_or by i 0) d)).leaves
+    here at_i =
+        let same : at_i.h ≡ holder (get_or ss (get_or by i 0) d) = same_Some _ _ (sym at_i.at ∙ holder_at first ss (get_or by i 0) d there kept) in
+        sym (count_at first ss by i d there leaves) ∙ at_i.used ∙ ap (λ (h : Holder). h.leaves) same
 
--- a signer without a leaf left whose leaf is needed
-pub overspent_at : (first ss : List Signer) (by : List ℕ) (i : ℕ) (d : Signer) → i < length by → get_or by i 0 < length ss
-    → used_of (get_or ss (get_or by i 0) d) ≡ (holder (get_or ss (get_or by i 0) d)).leaves → map holder ss ≡ map holder first
-    → map used_of ss ≡ fold spend (map used_of first) (take i by) → Any (IsOverspent first by) by
-overspent_at first ss by i d within there spent kept leaves =
-    let p = get_or by i 0 in
-    let count : get_or (map used_of ss) p 0 ≡ (holder (get_or ss p d)).leaves = get_or-map used_of ss p d 0 there ∙ spent in
-    let room : p < length (map used_of ss) = omega (arith, length-map ss used_of) in
-    let less = asked_again by (map used_of first) i _ within (rw leaves at room) (rw leaves at count) in
-    (i, p, within, get_or_default by i p 0 within, (holder (get_or ss p d), holder_at first ss p d there kept, less))
+-- none of all places came to a signer without a leaf
+pub never_used_up : (first : List Signer) (by : List ℕ) (i : ℕ) → length by ≤ i → NoneUsedUp first by i → IsUsedUp first by → ⊥
+never_used_up first by i all none (k, u) = let within = u.within in none k (omega arith) u
+
+-- no success is an error
+pub ok_err : {A E : Type 0} (x : A) (e : E) → ◌≡◌ {A = Result A E} (Ok x) (Err e) → ⊥
+ok_err x e is = subst (λ r. OnErr r ⊥) is tt
+
+-- a success
+pub used_unless : {A : Type 0} (x : A) (P : Type 0) → (P → ⊥) → (◌≡◌ {A = Result A MakeFault} (Ok x) (Err Used)) ↔ P
+used_unless x P not = ((λ e. absurd (ok_err x Used e)), λ p. absurd (not p))
+
+-- an error that isn't of a script
+pub used_if : {A : Type 0} (r : Result A MakeFault) (f : MakeFault) (P : Type 0) → IsErrAnd r (λ e. e ≡ f) → ((line : ℕ) → f ≢ Script line) → (f ≡ Used → P)
+    → r ≢ Err NoMemory → (r ≡ Err Used) ↔ P
+used_if (Ok x) f P is plain holds _ = absurd is
+used_if (Err Used) f P is plain holds _ = ((λ _. holds (sym is)), λ _. refl)
+used_if (Err NoMemory) f P is plain holds other = absurd (other refl)
+used_if (Err (Script line)) f P is plain holds _ = absurd (plain line (sym is))
 
 -- ---- on error
 

@@ -1,5 +1,5 @@
 -- A signed metadata file (TUF 1.0 section 4.2).
-use Rattle.std.specs.Prelude.{◌≡◌, ℕ, ◌+◌, ◌^◌, ◌<◌, List, [], ◌∷◌, codes, fold, map, take, Some, string_bytes, IsTrue, slice_get, slice_index, slice_set}
+use Rattle.std.specs.Prelude.{◌≡◌, ℕ, ◌+◌, ◌^◌, ◌<◌, List, [], ◌∷◌, codes, fold, length, map, take, Some, string_bytes, IsTrue, slice_get, slice_index, slice_set}
 use Rattle.std.specs.List.{AllZip}
 use Rattle.serde_json.specs.Data.{Data, string, array, object, Items, no_items, item, no_members, member}
 use Rattle.hex.specs.Hex.{encode_lower}
@@ -29,7 +29,7 @@ sealed value es =
 
 -- ---- who signed it
 
--- what never changes of a signer: its id, its public key, and how many leaves that has
+-- what others see of a signer: its id, its public key, and how many leaves that has
 pub record Holder : Type 0 where
   pub id : List ℕ
   pub public : List ℕ
@@ -41,6 +41,10 @@ holder s = record {
   public = public_of s.secret;
   leaves = 2 ^ levels s.secret.kind.height;
 }
+
+-- the signer with all leaves unused: its id, and the kind, the identifier I and the SEED of its key
+abbrev pub unused : Signer → Signer
+unused s = record s { secret = record s.secret { used = 0 } }
 
 -- the number of used leaves of the signer
 abbrev pub used_of : Signer → ℕ
@@ -54,11 +58,17 @@ spend counts p = slice_set counts p (slice_index counts p + 1)
 abbrev pub HasSpent : List ℕ → List ℕ → List ℕ → Type 0
 HasSpent by old new = (n : ℕ) × (new ≡ fold spend old (take n by))
 
--- the places together need more leaves of the signer at place p than it has
-abbrev pub IsOverspent : List Signer → List ℕ → ℕ → Type 0
-IsOverspent signers by p =
-    (h : Holder) × (slice_get (map holder signers) p ≡ Some h)
-    × (h.leaves < slice_index (fold spend (map used_of signers) by) p)
+-- the signer at place i of `by` has no leaf left when it is its turn
+pub record IsUsedUpAt (signers : List Signer) (by : List ℕ) (i : ℕ) : Type 0 where
+  pub within : i < length by
+  pub h : Holder
+  pub at : slice_get (map holder signers) (slice_index by i) ≡ Some h
+  pub used : slice_index (fold spend (map used_of signers) (take i by)) (slice_index by i)
+      ≡ h.leaves
+
+-- some signer has no leaf left when it is its turn
+abbrev pub IsUsedUp : List Signer → List ℕ → Type 0
+IsUsedUp signers by = (i : ℕ) × IsUsedUpAt signers by i
 
 -- the entry has the holder's id, and a signature of the text that is valid for the holder's public
 -- key, in lower-case hexadecimal

@@ -1,14 +1,15 @@
 //! Signed metadata files.
 
-ghost use Rattle.std.specs.Prelude.{◌≡◌, ◌≢◌, ◌+◌, ◌<◌, ◌⊎◌, ℕ, List, Some, IsSome, IfOk, OnOk};
-ghost use Rattle.std.specs.Prelude.{OnErr, All, Any, fold, length, map, string_bytes};
+ghost use Rattle.std.specs.Prelude.{◌≡◌, ◌≢◌, ◌↔◌, ◌+◌, ◌<◌, ◌⊎◌, ℕ, List, Some, IsSome, IfOk};
+ghost use Rattle.std.specs.Prelude.{OnOk, OnErr, All, fold, length, map, string_bytes};
 ghost use Rattle.std.specs.List.{AllZip};
 ghost use Rattle.serde_json.specs.Find.{as_object};
 ghost use Rattle.serde_json.specs.View.{view, items_view};
 ghost use Rattle.cjson.specs.Canon.{canon};
 ghost use Rattle.cjson.specs.declared.doc.Entry.{Entry};
-ghost use Rattle.seals.specs.Sealed.{HasSpent, IsOverspent, IsSealed, IsSignedAt, IsSignedBy};
-ghost use Rattle.seals.specs.Sealed.{entry_object, entry_objects, holder, sealed, spend, used_of};
+ghost use Rattle.seals.specs.Sealed.{HasSpent, IsSealed, IsSignedAt, IsSignedBy, IsUsedUp};
+ghost use Rattle.seals.specs.Sealed.{entry_object, entry_objects, holder, sealed, spend, unused};
+ghost use Rattle.seals.specs.Sealed.{used_of};
 
 use crate::fault::MakeFault;
 use crate::signer::Signer;
@@ -22,7 +23,7 @@ use std::alloc::{AllocError, Global};
 ///
 /// Each place takes one leaf. Fails with `Used` if a signer has fewer leaves left than there are
 /// places that name it, or with `NoMemory`. On error, each of some first places has taken its leaf,
-/// and nothing else has changed.
+/// and nothing else has changed. No key and no id ever changes.
 pub fn seal(
     alloc: Global,
     value: &Value,
@@ -34,15 +35,14 @@ pub fn seal(
     requires canonical { IsSome (canon (view value.now)) }
     ensures file { IfOk result (λ file. IsSealed (view value.now) (map holder signers.old) by.now
         file.items) }
-    ensures kept { map holder signers.new ≡ map holder signers.old }
+    ensures kept { map unused signers.new ≡ map unused signers.old }
     ensures leaves { OnOk result (map used_of signers.new
         ≡ fold spend (map used_of signers.old) by.now) }
     ensures spent { OnErr result (HasSpent by.now (map used_of signers.old)
         (map used_of signers.new)) }
 
-    // Some signer has fewer leaves left than are needed.
-    ensures used { result ≡ Err MakeFault.Used
-        → Any (IsOverspent signers.old by.now) by.now }
+    ensures used { result ≢ Err MakeFault.NoMemory → (result ≡ Err MakeFault.Used)
+        ↔ IsUsedUp signers.old by.now }
     ensures no_script { (line : ℕ) → result ≢ Err (MakeFault.Script line) }
 {
     let text = text_of(alloc, value)?;
@@ -62,13 +62,13 @@ pub fn seal_text(
     requires text { canon (view value.now) ≡ Some text.now }
     ensures file { IfOk result (λ file. IsSealed (view value.now) (map holder signers.old) by.now
         file.items) }
-    ensures kept { map holder signers.new ≡ map holder signers.old }
+    ensures kept { map unused signers.new ≡ map unused signers.old }
     ensures leaves { OnOk result (map used_of signers.new
         ≡ fold spend (map used_of signers.old) by.now) }
     ensures spent { OnErr result (HasSpent by.now (map used_of signers.old)
         (map used_of signers.new)) }
-    ensures used { result ≡ Err MakeFault.Used
-        → Any (IsOverspent signers.old by.now) by.now }
+    ensures used { result ≢ Err MakeFault.NoMemory → (result ≡ Err MakeFault.Used)
+        ↔ IsUsedUp signers.old by.now }
     ensures no_script { (line : ℕ) → result ≢ Err (MakeFault.Script line) }
 {
     let entries = entries(alloc, signers, by, text)?;
@@ -93,12 +93,12 @@ fn text_of(alloc: Global, value: &Value) -> Result<Vec<u8>, MakeFault>
 fn entry(alloc: Global, signer: &mut Signer, text: &[u8]) -> Result<Value, MakeFault>
     ensures entry { IfOk result (λ v. (e : Entry) × (view v ≡ entry_object e)
         × IsSignedBy (holder signer.old) text.now e) }
-    ensures kept { holder signer.new ≡ holder signer.old }
+    ensures kept { unused signer.new ≡ unused signer.old }
     ensures leaf { OnOk result (used_of signer.new ≡ used_of signer.old + 1) }
     ensures spent { OnErr result ((used_of signer.new ≡ used_of signer.old)
         ⊎ (used_of signer.new ≡ used_of signer.old + 1)) }
-    ensures used { result ≡ Err MakeFault.Used
-        → used_of signer.old ≡ (holder signer.old).leaves }
+    ensures used { (result ≡ Err MakeFault.Used)
+        ↔ (used_of signer.old ≡ (holder signer.old).leaves) }
     ensures no_script { (line : ℕ) → result ≢ Err (MakeFault.Script line) }
 {
     let signature = signer.secret.sign(text)?;
@@ -132,13 +132,13 @@ fn entries(
     ensures entries { IfOk result (λ vs. (es : List Entry)
         × (items_view vs.items ≡ entry_objects es)
         × AllZip (IsSignedAt (map holder signers.old) text.now) by.now es) }
-    ensures kept { map holder signers.new ≡ map holder signers.old }
+    ensures kept { map unused signers.new ≡ map unused signers.old }
     ensures leaves { OnOk result (map used_of signers.new
         ≡ fold spend (map used_of signers.old) by.now) }
     ensures spent { OnErr result (HasSpent by.now (map used_of signers.old)
         (map used_of signers.new)) }
-    ensures used { result ≡ Err MakeFault.Used
-        → Any (IsOverspent signers.old by.now) by.now }
+    ensures used { result ≢ Err MakeFault.NoMemory → (result ≡ Err MakeFault.Used)
+        ↔ IsUsedUp signers.old by.now }
     ensures no_script { (line : ℕ) → result ≢ Err (MakeFault.Script line) }
 {
     let mut entries = Vec::with_capacity(alloc, by.len())?;

@@ -1,4 +1,4 @@
-//! What a run asks of the system beside its folders and its streams: single files, and the clock.
+//! What a run needs of the system beside its folders and its streams: single files, and the clock.
 
 ghost use Rattle.std.specs.Prelude.{◌≡◌, ◌≢◌, List, ℕ, Bool, true};
 ghost use Rattle.std.specs.Prelude.{IfErr, IfOk, IfSome, OnErr, OnOk};
@@ -9,7 +9,7 @@ use std::io::{self, ErrorKind};
 /// Single files, and the clock. What may be read, refused and shown, and what was stored, is the
 /// system's meaning.
 pub trait System {
-    /// Whether `read` may give the bytes for the path.
+    /// Whether `read` may return the bytes for the path.
     ghost gives: { Self → List ℕ → List ℕ → Bool };
 
     /// Whether `read` may fail for the path, other than by being out of memory.
@@ -18,25 +18,25 @@ pub trait System {
     /// Whether the file of the path was stored with the bytes.
     ghost keeps: { Self → List ℕ → List ℕ → Bool };
 
-    /// Whether the clock may show so many whole seconds since 1970.
+    /// Whether the clock may show this number of whole seconds since 1970.
     ghost shows: { Self → ℕ → Bool };
 
-    /// The bytes of the file of that path.
+    /// Reads the file of that path.
     fn read(&self, path: &str) -> io::Result<Vec<u8>>
         ensures given { IfOk result (λ bytes. gives self.now path.now bytes.items ≡ true) }
         ensures refused { IfErr result (λ e. error_kind e ≢ ErrorKind.OutOfMemory
             → refuses self.now path.now ≡ true) };
 
-    /// Stores the bytes as the file of that path, in place of what it held. What was stored for
-    /// other paths stays, and after a refusal all of it does.
+    /// Stores the bytes as the file of that path, in place of what it held. What is stored for
+    /// other paths is unchanged, and on error all is.
     fn store(&mut self, path: &str, bytes: &[u8]) -> io::Result<()>
         ensures kept { OnOk result (keeps self.new path.now bytes.now ≡ true) }
         ensures others { OnOk result ((other held : List ℕ) → other ≢ path.now
             → keeps self.new other held ≡ keeps self.old other held) }
         ensures refused { OnErr result (keeps self.new ≡ keeps self.old) };
 
-    /// The whole seconds since 1970-01-01T00:00:00Z, or None where the clock can't be read or is
-    /// before that.
+    /// Returns the whole seconds since 1970-01-01T00:00:00Z, or None if the clock can't be read or
+    /// is before that.
     fn seconds(&self) -> Option<u64>
         ensures shown { IfSome result (λ seconds. shows self.now seconds ≡ true) };
 }

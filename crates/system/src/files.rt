@@ -7,7 +7,7 @@ use std::fs::{self, File, OpenFile, OpenOptions, Permissions};
 use std::io::{self, ErrorKind, Write};
 use std::rt::Files;
 
-/// How many names are tried for the file beside.
+/// Maximum number of names that are tried for the temporary file.
 const NAMES: u32 = 1000;
 
 /// A plain file, or a name for one.
@@ -15,13 +15,13 @@ const NAMES: u32 = 1000;
 struct Plain<'a, R> {
     rt: &'a R,
     path: &'a str,
-    /// The rights of the file that is there.
+    /// The mode of the file that is there.
     rights: Option<Permissions>,
     beside: Option<String>,
 }
 
 impl<'a, R: Files + AllocGlobal> Plain<'a, R> {
-    /// A new file beside, under the first name that is free.
+    /// Makes a temporary file, under the first name that is free.
     fn new_beside(&mut self) -> io::Result<R::File> {
         for number in 1..=NAMES {
             let path = self.path;
@@ -71,7 +71,7 @@ impl<'a, R: Files + AllocGlobal> Place for Plain<'a, R> {
     }
 }
 
-/// Brings the names in the file's folder up to the device.
+/// Flushes the names in the file's folder to the device.
 fn sync_folder<R: Files>(rt: &R, path: &str) -> io::Result<()> {
     let folder = match path.rsplit_once('/') {
         None => ".",
@@ -82,9 +82,9 @@ fn sync_folder<R: Files>(rt: &R, path: &str) -> io::Result<()> {
 }
 
 /// Stores the bytes as the file of that path. A plain file, or a new one, is replaced as a whole:
-/// at each moment it has either what it had or the bytes, and after a refusal what it had. It keeps
-/// its rights, and a file that may not be written is refused. A link is followed to its file. What
-/// is no plain file is written in place.
+/// at each moment it has either what it had or the bytes, and on error what it had. It keeps its
+/// mode, and fails if the file may not be written. A link is followed to its file. What is no plain
+/// file is written in place.
 pub fn store<R: Files + AllocGlobal>(rt: &R, path: &str, bytes: &[u8]) -> io::Result<()> {
     match fs::symlink_metadata(rt, path) {
         Ok(found) if found.is_symlink() => store_linked(rt, path, bytes),

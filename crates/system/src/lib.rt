@@ -1,8 +1,8 @@
 //! Single files that are read and replaced as a whole, and the clock.
 //!
-//! - [`System`] is what a run asks of the system beside its folders and its streams, and
+//! - [`System`] is what a run needs of the system beside its folders and its streams, and
 //!   [`Machine`] the system that a process runs on.
-//! - [`store`] replaces a file as a whole, by way of a [`Place`] and what is written beside it.
+//! - [`store`] replaces a file as a whole, through a [`Place`] and a temporary file beside it.
 #![tactic(auto)]
 
 mod calls;

@@ -16,7 +16,7 @@ pub struct Machine<'a, R> {
 }
 
 impl<'a, R> Machine<'a, R> {
-    /// The system of this runtime.
+    /// Returns the system of this runtime.
     pub fn new(rt: &'a R) -> Machine<'a, R> {
         Machine { rt }
     }
@@ -44,8 +44,8 @@ impl<'a, R: Files + Clock + AllocGlobal> System for Machine<'a, R> {
     }
 }
 
-/// The whole seconds that the clock shows since 1970-01-01T00:00:00Z, or None where it can't be
-/// read or is before that.
+/// Returns the whole seconds that the clock shows since 1970-01-01T00:00:00Z, or None if it can't
+/// be read or is before that.
 pub fn whole_seconds<R: Clock>(rt: &R) -> Option<u64> {
     let time = SystemTime::now(rt).ok()?;
     Some(time.duration_since(SystemTime::UNIX_EPOCH).ok()?.as_secs())

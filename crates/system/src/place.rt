@@ -9,31 +9,31 @@ pub trait Place {
     /// Whether the place may hold the bytes.
     ghost holds: { Self → List ℕ → Bool };
 
-    /// Whether the file beside it may hold the bytes.
+    /// Whether the temporary file may hold the bytes.
     ghost beside: { Self → List ℕ → Bool };
 
-    /// Whether a file beside it may be left.
+    /// Whether a temporary file may be left.
     ghost is_left: { Self → Bool };
 
-    /// Writes the bytes to a new file beside the place, and flushes it to the device.
+    /// Writes the bytes to a new temporary file beside the place, and flushes it to the device.
     fn write_beside(&mut self, bytes: &[u8]) -> io::Result<()>
         ensures place { holds self.new ≡ holds self.old }
         ensures beside { OnOk result (beside self.new bytes.now ≡ true) };
 
-    /// Moves the file beside to the place, in one step.
+    /// Moves the temporary file to the place, in one step.
     fn take_over(&mut self) -> io::Result<()>
         ensures moved { OnOk result (holds self.new ≡ beside self.old) }
         ensures gone { OnOk result (is_left self.new ≡ false) }
         ensures refused { OnErr result (holds self.new ≡ holds self.old) };
 
-    /// Removes the file beside, if there is one.
+    /// Removes the temporary file, if there is one.
     fn clear_beside(&mut self)
         ensures place { holds self.new ≡ holds self.old }
         ensures gone { is_left self.new ≡ false };
 }
 
-/// Replaces what the place holds by the bytes. On error it holds what it held. No file is left
-/// beside it, whether it succeeds or fails.
+/// Replaces what the place holds by the bytes. On error it holds what it held. No temporary file is
+/// left, whether it succeeds or fails.
 pub fn replace<P: Place>(place: &mut P, bytes: &[u8]) -> io::Result<()>
     ensures kept { OnOk result (P.holds place.new bytes.now ≡ true) }
     ensures refused { OnErr result (P.holds place.new ≡ P.holds place.old) }
@@ -46,7 +46,7 @@ pub fn replace<P: Place>(place: &mut P, bytes: &[u8]) -> io::Result<()>
     done
 }
 
-/// Writes beside, and then moves.
+/// Writes the temporary file, and then moves it.
 fn put<P: Place>(place: &mut P, bytes: &[u8]) -> io::Result<()>
     ensures kept { OnOk result (P.holds place.new bytes.now ≡ true) }
     ensures refused { OnErr result (P.holds place.new ≡ P.holds place.old) }

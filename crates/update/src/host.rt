@@ -7,9 +7,9 @@ use folder::Folder;
 use std::io::Write;
 use system::System;
 
-/// What folders of repositories are to contracts.
+/// Folders of repositories, as contracts see them.
 pub trait HasMirrors {
-    /// What each pair of folders may give, in order.
+    /// What each pair of folders may return, in order.
     ghost mirrors: { Self → List Mirror };
 }
 
@@ -55,7 +55,7 @@ impl HasMirrors for () {
     ghost mirrors = { λ _. [] };
 }
 
-/// What a run is to contracts.
+/// What a run works on, as contracts see it.
 pub trait HasWorld {
     /// What it reads, stores and prints.
     ghost world: { Self → World };

@@ -1,4 +1,4 @@
-//! One cycle after another, each on a repository that lies in two folders.
+//! One cycle after another, each on a repository in two folders.
 
 ghost use Rattle.std.specs.Prelude.{◌≡◌, ◌≢◌, ◌≤◌, ◌<◌, ◌⊎◌, true, IfErr, IfOk, IfSome, OnErr};
 ghost use Rattle.std.specs.Prelude.{length, map, slice_get, string_bytes};
@@ -40,7 +40,7 @@ pub struct Cycles<'a> {
 }
 
 impl<S: System, M: Folder, T: Folder + Sync, W: Write> Host<S, Vec<Folders<M, T>>, W> {
-    /// Replays what the words name: reads the moment, then the state file, and then the folders, as
+    /// Replays what the terms name: reads the moment, then the state file, and then the folders, as
     /// [`replay_from`](Host::replay_from) does. If one of them fails, nothing was stored or
     /// printed. If out of memory or by an output error, that holds too, or the last state was
     /// stored whole. What is stored for other paths stays.
@@ -159,8 +159,8 @@ fn open_at<M: Folder, T: Folder>(
     folders[k].open(alloc)
 }
 
-/// A keeper of the state that the cycles begin with. Fails as `Words` if the number of cached files
-/// is out of its range.
+/// Returns a keeper of the state that the cycles begin with. Fails with `Words` if the number of
+/// cached files is out of its range.
 fn keeper_of(alloc: Global, cycles: &Cycles<'_>) -> Result<Keeper, Failure>
     ensures state { IfOk result (λ k. k ≡ cycles.now.start.trusted) }
     ensures refused { IfErr result (λ f. (f ≡ Failure.Memory)
@@ -173,8 +173,8 @@ fn keeper_of(alloc: Global, cycles: &Cycles<'_>) -> Result<Keeper, Failure>
     Ok(Keeper::new(alloc, trusted, cycles.keep)?)
 }
 
-/// The outcomes of all cycles of a keeper of the start's state, by the number of workers that the
-/// start names.
+/// Returns the outcomes of all cycles of a keeper of the start's state, with the number of workers
+/// that the start names.
 fn outcomes<R: Threads + Wait + Sync, M: Folder, T: Folder + Sync>(
     rt: &R,
     alloc: Global,
@@ -205,7 +205,7 @@ fn outcomes<R: Threads + Wait + Sync, M: Folder, T: Folder + Sync>(
     Ok(all)
 }
 
-/// The outcome of one cycle from the keeper's state, which is then the outcome's.
+/// Returns the outcome of one cycle from the keeper's state, which is then the outcome's.
 fn outcome<R: Threads + Wait + Sync, T: Folder + Sync>(
     rt: &R,
     alloc: Global,

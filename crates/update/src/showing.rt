@@ -16,11 +16,11 @@ use system::System;
 impl<S: System, F: HasMirrors, W: Write> Host<S, F, W> {
     /// Prints the lines of the trusted state in a file: a version and the moment of expiry for the
     /// root and for each other file that is trusted. Returns 1 if `before` is given and one of them
-    /// expires before the moment that it spells, else 0. Stores nothing.
+    /// expires before the moment that it encodes, else 0. Stores nothing.
     ///
-    /// Reads the moment, and then the state. Fails as `Now` if `before` spells no moment, as
-    /// `State` if the state file can't be read or holds none, and if out of memory or by an output
-    /// error.
+    /// Reads the moment, and then the state. Fails with `Now` if `before` encodes no moment, with
+    /// `State` if the state file can't be read or has no state, and if out of memory or by an
+    /// output error.
     #[tactic(auto, using(crate::proofs::Viewing::viewing))]
     pub fn show(&mut self, alloc: Global, state: &str, before: Option<&str>) -> Result<u8, Failure>
         ensures known { IfOk result (λ status. status ≤ 1) }
@@ -40,7 +40,7 @@ impl<S: System, F: HasMirrors, W: Write> Host<S, F, W> {
     }
 }
 
-/// The moment that the text spells, if there is a text.
+/// Returns the moment that the text encodes, if there is a text.
 fn moment_before(text: Option<&str>) -> Result<Option<Moment>, Failure>
     ensures moment { IfOk result (spec.IsBefore (option_map (λ t. t.now) text.entry)) }
     ensures refused { IfErr result (spec.IsNoBefore (option_map (λ t. t.now) text.entry)) }

@@ -18,19 +18,20 @@ use std::collections::BTreeMap;
 use std::io::Write;
 use system::System;
 
-/// How many checks a plan has at most.
+/// Maximum number of checks of a plan.
 const CHECKS: usize = 4096;
 
-/// How many bytes of a metadata file are read at most: the greatest limit of any kind, and one byte
-/// that shows that a file is over it.
+/// Maximum number of bytes that are read of a metadata file: the greatest limit of any kind, and
+/// one byte that shows that a file is over it.
 const MOST_LOOKED_AT: u64 = 5_000_001;
 
-/// How many workers a run has at most.
+/// Maximum number of workers of a run.
 const WORKERS: usize = 64;
 
-/// What the words name: the path of the file with the trusted state, the text of the moment, how
-/// many roles a search visits at most (1 to 256), how many threads check ahead (0 to 64), the path
-/// of the file for the new state, and the wanted paths, in order.
+/// What the arguments name: the path of the file with the trusted state, the text of the moment,
+/// the maximum number of roles that a search visits (1 to 256), the number of threads that decide
+/// checks in advance (0 to 64), the path of the file for the new state, and the wanted paths, in
+/// order.
 #[derive(Drop)]
 pub struct Terms<'a> {
     pub state: &'a str,
@@ -41,9 +42,9 @@ pub struct Terms<'a> {
     pub wanted: Vec<String>,
 }
 
-/// What a verification begins with: the trusted state, the moment, the wanted paths, how many roles
-/// a search visits at most (1 to 256), how many threads check ahead (0 to 64), and the path of the
-/// file for the new state.
+/// What a verification begins with: the trusted state, the moment, the wanted paths, the maximum
+/// number of roles that a search visits (1 to 256), the number of threads that decide checks in
+/// advance (0 to 64), and the path of the file for the new state.
 #[derive(Drop)]
 pub struct Start<'a> {
     pub trusted: Trusted,
@@ -55,7 +56,7 @@ pub struct Start<'a> {
 }
 
 impl<S: System, F: HasMirrors, W: Write> Host<S, F, W> {
-    /// What the words name, with the moment and then the trusted state that are read.
+    /// Returns what the terms name, with the moment and then the trusted state that are read.
     pub(crate) fn begin<'a>(
         &self,
         alloc: Global,
@@ -93,8 +94,8 @@ pub struct Opened {
 }
 
 impl<M: Folder, T: Folder> Folders<M, T> {
-    /// Loads the metadata files, each up to the bytes that the workflow looks at, and lists the
-    /// target files.
+    /// Loads the metadata files, of each the bytes that the workflow looks at, and lists the target
+    /// files.
     pub(crate) fn open(&mut self, alloc: Global) -> Result<Opened, Failure>
         ensures metadata { IfOk result (λ o. AreMetadata (M.lists self.old.metadata)
             (M.holds self.old.metadata) o.repo.metadata) }
@@ -113,7 +114,7 @@ impl<M: Folder, T: Folder> Folders<M, T> {
     }
 }
 
-/// The limits of a run. Fails as `Words` if a number is out of its range.
+/// Returns the limits of a run. Fails with `Words` if a number is out of its range.
 pub(crate) fn limits_of(start: &Start<'_>) -> Result<Limits, Failure>
     ensures roles { IfOk result (λ l. l.roles ≡ start.now.limit) }
     ensures workers { IfOk result (λ _. start.now.workers ≤ 64) }

@@ -1,4 +1,4 @@
-//! The verification of a repository that lies in two folders.
+//! The verification of a repository in two folders.
 
 ghost use Rattle.std.specs.Prelude.{◌≡◌, ◌≢◌, ◌≤◌, true, IfErr, IfOk, OnErr, map, string_bytes};
 ghost use Rattle.examine.specs.Checks.{file_in};
@@ -23,7 +23,7 @@ use std::thread::Threads;
 use system::System;
 
 impl<S: System, M: Folder, T: Folder + Sync, W: Write> Host<S, Folders<M, T>, W> {
-    /// Verifies what the words name: reads the moment, then the state file, and then the folders,
+    /// Verifies what the terms name: reads the moment, then the state file, and then the folders,
     /// as [`verify_from`](Host::verify_from) does. If the moment, the state file or a folder fails,
     /// nothing was stored or printed. If out of memory or by an output error, that holds too, or
     /// the new state was stored whole. What is stored for other paths stays.
@@ -50,9 +50,9 @@ impl<S: System, M: Folder, T: Folder + Sync, W: Write> Host<S, Folders<M, T>, W>
         self.verify_from(rt, alloc, &start)
     }
 
-    /// Verifies what the folders hold, stores the new state and prints the lines. Returns the
-    /// status: 2 if the update stopped, else 1 if some target isn't good, else 0. Prints nothing
-    /// before the state is stored.
+    /// Verifies the repository in the folders, stores the new state and prints the lines. Returns
+    /// the status: 2 if the update stopped, else 1 if some target is refused, else 0. Prints
+    /// nothing before the state is stored.
     ///
     /// Of the metadata folder, files whose names end in `.json` are loaded, at most 5,000,001 bytes
     /// of each. Of the target folder the names are listed. After the searches each target file that
@@ -89,8 +89,8 @@ impl<S: System, M: Folder, T: Folder + Sync, W: Write> Host<S, Folders<M, T>, W>
     }
 }
 
-/// The outcome of the workflow on metadata that was loaded and on the target files of a folder that
-/// has these names.
+/// Returns the outcome of the workflow on metadata that was loaded and on the target files of a
+/// folder that has these names.
 fn outcome<R: Threads + Wait + Sync, T: Folder + Sync>(
     rt: &R,
     alloc: Global,

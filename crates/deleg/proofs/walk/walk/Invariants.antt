@@ -1,6 +1,7 @@
-use Rattle.std.proofs.Common.{◌≡◌, ◌-◌, length}
-use Rattle.deleg.specs.Search.{outlook, pending}
+use Rattle.std.proofs.Common.{◌≡◌}
+use Rattle.deleg.specs.Glue.{outlook, pending}
 use Rattle.deleg.specs.Cache.{IsCacheOf, examination_in}
+use Rattle.deleg.proofs.Stack.{measure}
 use Rattle.deleg.proofs.walk.walk.Given as goal
 
 abbrev pub invariant-loop-frame : goal.invariant-loop-frame
@@ -12,4 +13,4 @@ invariant-loop-frame g l =
     }
 
 abbrev pub decreases-loop-frame : goal.decreases-loop-frame
-decreases-loop-frame g l = l.query.limit - length l.seen.items
+decreases-loop-frame g l = measure l.query.limit l.stack.items l.seen.items

@@ -1,5 +1,5 @@
-use Rattle.std.proofs.Common.{sym, ap, ◌∙◌, subst, refl, arith}
-use Rattle.board.specs.Board.{IsDecided, Knows, Sat, SeatValue}
+use Rattle.std.proofs.Common.{sym, ap, ap₂, ◌∙◌, subst, refl, arith}
+use Rattle.board.specs.Board.{IsDecided, Knows, Sat, SeatValue, having_found, having_seen}
 use Rattle.board.proofs.Keeps.{looks}
 use Rattle.board.proofs.Calls.{within_board, same_table, same_truths, right_of, keeps_seat, kept_looked, word_taken, word_verdict, verdict_word}
 use Rattle.board.proofs.SeatLemmas.{all_looked}
@@ -20,7 +20,7 @@ of_word-requires c = (c.load-found.ensures.2 c.args.j refl).word
 pub invariant_of-seat : goal.invariant_of-seat
 invariant_of-seat c =
     let sees = c.load-found.ensures.2 c.args.j refl in
-    kept_looked _ _ _ _ c.args.j c.of_word.result (λ v. sees.seen (subst IsDecided c.of_word.ensures (verdict_word _ v)))
+    kept_looked _ _ _ _ c.args.j _ c.of_word.result (λ v. sees.seen (subst IsDecided c.of_word.ensures (verdict_word _ v)))
     (λ n. sees.same (λ d. n (word_verdict _ (subst IsDecided (sym c.of_word.ensures) d)))) c.seat.invariant
 
 pub returns-clause-taken : goal.returns-clause-taken
@@ -30,14 +30,19 @@ pub returns-clause-known : goal.returns-clause-known
 returns-clause-known c k =
     word_verdict _ (subst IsDecided (sym c.of_word.ensures) ((c.load-found.ensures.2 c.args.j refl).known (subst (λ (z : SeatValue). Knows z.view c.args.j) (sym c.seat.view_is) k)))
 
+pub returns-clause-seen : goal.returns-clause-seen
+returns-clause-seen c v =
+    ap (λ (m : Sat). m.0) ((c.load-found.ensures.2 c.args.j refl).seen (subst IsDecided c.of_word.ensures (verdict_word _ v)))
+    ∙ ap₂ (λ n (z : SeatValue). having_found n (having_seen z.view c.args.j)) (sym c.of_word.ensures) c.seat.view_is
+
 pub returns-clause-same : goal.returns-clause-same
 returns-clause-same c n =
     ap (λ (m : Sat). m.0) ((c.load-found.ensures.2 c.args.j refl).same (λ d. n (word_verdict _ (subst IsDecided (sym c.of_word.ensures) d))))
-    ∙ ap (λ (z : SeatValue). z.view) c.seat.view_is
+    ∙ ap₂ (λ n (z : SeatValue). having_found n z.view) (sym c.of_word.ensures) c.seat.view_is
 
 pub returns-clause-kept : goal.returns-clause-kept
 returns-clause-kept c =
     let sees = c.load-found.ensures.2 c.args.j refl in
     keeps_seat _ _ _ _ _ c.seat.view_is c.load-found.ensures.0
-    (all_looked _ _ c.args.j c.of_word.result (λ v. ap (λ (m : Sat). m.0) (sees.seen (subst IsDecided c.of_word.ensures (verdict_word _ v))))
+    (all_looked _ _ c.args.j _ c.of_word.result (λ v. ap (λ (m : Sat). m.0) (sees.seen (subst IsDecided c.of_word.ensures (verdict_word _ v))))
     (λ n. ap (λ (m : Sat). m.0) (sees.same (λ d. n (word_verdict _ (subst IsDecided (sym c.of_word.ensures) d))))))

@@ -1,0 +1,5 @@
+use Rattle.std.proofs.Common.{rules}
+use Rattle.meta.proofs.reading.read_targets.Goals as goal
+
+pub returns : goal.returns
+returns = search rules
