@@ -74,7 +74,8 @@ impl<'a> Searcher<'a> {
         requires most { limit ≤ 256 }
         ensures preorder { let s = self.old in (visits : spec.Visits)
             → spec.IsPreorderOf (file_in s.repo.now.metadata) s.moment s.trusted.now path.now limit
-            visits → IfOk result (λ found. spec.search_by visits s.trusted.now path.now ≡ Some found) }
+            visits
+            → IfOk result (λ found. spec.search_by visits s.trusted.now path.now ≡ Some found) }
         ensures solved { let s = self.old in (snapshot : Snapshot)
             → spec.IsSolved (file_in s.repo.now.metadata) s.moment s.trusted.now.root.reading
             snapshot path.now limit }
