@@ -41,13 +41,21 @@ impl<'a, R> Clock for Stopped<'a, R> {
 impl<'a, R: Files + AllocGlobal> System for Stopped<'a, R> {
     ghost gives = { λ _ _ _. true };
 
+    ghost gives_locked = { λ _ _ _. true };
+
     ghost refuses = { λ _ _. true };
+
+    ghost locks = { λ _ _. true };
 
     ghost keeps = { λ _ _ _. true };
 
     ghost shows = { λ _ _. true };
 
     fn read(&self, path: &str) -> io::Result<Vec<u8>> {
+        fs::read(self.rt, path)
+    }
+
+    fn read_locked(&mut self, path: &str) -> io::Result<Vec<u8>> {
         fs::read(self.rt, path)
     }
 

@@ -42,7 +42,7 @@ IsNoState gives is_refused = (is_refused ≡ true)
 pub record HasNoState (terms : Terms) (old : World) : Type 0 where
   pub moment : Moment
   pub of_moment : IsMomentOf old.shows (moment_text terms) moment
-  pub no_state : IsNoState (old.gives terms.state.now) (old.refuses terms.state.now)
+  pub no_state : IsNoState (old.gives_locked terms.state.now) (old.refuses terms.state.now)
 
 -- # The cause of each failure. Any run may run out of memory, or not be able to write.
 

@@ -51,11 +51,12 @@ pub record IsRead (gives : List ℕ → Bool) (trusted : State) : Type 0 where
   pub given : gives text ≡ true
   pub of_text : state_of text ≡ Ok trusted
 
--- the moment and the trusted state that the words name were read, and more follows from them
+-- The moment and the trusted state that the words name were read, the latter while its file was
+-- locked, and more follows from them.
 pub record Begins (terms : Terms) (old : World) (follows : State → Moment → Type 0) : Type 0 where
   pub trusted : State
   pub moment : Moment
-  pub read : IsRead (old.gives terms.state.now) trusted
+  pub read : IsRead (old.gives_locked terms.state.now) trusted
   pub of_moment : IsMomentOf old.shows (moment_text terms) moment
   pub then : follows trusted moment
 

@@ -12,12 +12,15 @@ pub record Mirror : Type 0 where
   pub metadata : Folder
   pub targets : Folder
 
--- Which bytes the file of a path may give, and which file may not be read. Which second of Unix
--- time the clock may show. With which bytes the file of a path was stored. The folders, in order,
--- and what was printed, where that is known.
+-- Which bytes the file of a path may give, and which while it is locked; and which file may not be
+-- read. Which files are locked against other runs. Which second of Unix time the clock may show.
+-- With which bytes the file of a path was stored. The folders, in order, and what was printed,
+-- where that is known.
 pub record World : Type 0 where
   pub gives : List ℕ → List ℕ → Bool
+  pub gives_locked : List ℕ → List ℕ → Bool
   pub refuses : List ℕ → Bool
+  pub locks : List ℕ → Bool
   pub shows : ℕ → Bool
   pub keeps : List ℕ → List ℕ → Bool
   pub mirrors : List Mirror

@@ -73,7 +73,9 @@ pub struct Host<S, F, W> {
 impl<S: System, F: HasMirrors, W: Write> HasWorld for Host<S, F, W> {
     ghost world = { λ h. record {
       gives = S.gives h.system;
+      gives_locked = S.gives_locked h.system;
       refuses = S.refuses h.system;
+      locks = S.locks h.system;
       shows = S.shows h.system;
       keeps = S.keeps h.system;
       mirrors = F.mirrors h.folders;

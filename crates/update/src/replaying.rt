@@ -1,7 +1,7 @@
 //! One cycle after another, each on a repository in two folders.
 
 ghost use Rattle.std.specs.Prelude.{◌≡◌, ◌≢◌, ◌≤◌, ◌<◌, ◌⊎◌, true, IfErr, IfOk, IfSome, OnErr};
-ghost use Rattle.std.specs.Prelude.{length, map, slice_get, string_bytes};
+ghost use Rattle.std.specs.Prelude.{OnOk, length, map, slice_get, string_bytes};
 ghost use Rattle.std.specs.List.{AllZip};
 ghost use Rattle.examine.specs.Checks.{file_in};
 ghost use Rattle.update.specs.Causes.{AreWrong, IsCauseToRead, IsCauseToReplay};
@@ -40,10 +40,10 @@ pub struct Cycles<'a> {
 }
 
 impl<S: System, M: Folder, T: Folder + Sync, W: Write> Host<S, Vec<Folders<M, T>>, W> {
-    /// Replays what the terms name: reads the moment, then the state file, and then the folders, as
-    /// [`replay_from`](Host::replay_from) does. If one of them fails, nothing was stored or
-    /// printed. If out of memory or by an output error, that holds too, or the last state was
-    /// stored whole. What is stored for other paths stays.
+    /// Replays what the terms name: reads the moment, locks and reads the state file, and then
+    /// reads the folders, as [`replay_from`](Host::replay_from) does. The file stays locked. If one
+    /// of them fails, nothing was stored or printed. If out of memory or by an output error, that
+    /// holds too, or the last state was stored whole. What is stored for other paths stays.
     pub fn replay<R: Threads + Wait + Sync>(
         &mut self,
         rt: &R,
@@ -52,6 +52,8 @@ impl<S: System, M: Folder, T: Folder + Sync, W: Write> Host<S, Vec<Folders<M, T>
         keep: usize,
     ) -> Result<u8, Failure>
         ensures known { IfOk result (λ status. status ≤ 2) }
+        ensures locked { OnOk result
+            ((⟦<Self as HasWorld>⟧.world self.new).locks terms.now.state.now ≡ true) }
         ensures replayed { IfOk result (IsReplayed terms.now
             (⟦<Self as HasWorld>⟧.world self.old) (⟦<Self as HasWorld>⟧.world self.new)) }
         ensures order { OnErr result (IsUntouchedOrCycled terms.now
@@ -83,6 +85,8 @@ impl<S: System, M: Folder, T: Folder + Sync, W: Write> Host<S, Vec<Folders<M, T>
         cycles: &Cycles<'_>,
     ) -> Result<u8, Failure>
         ensures known { IfOk result (λ status. status ≤ 2) }
+        ensures locked { (⟦<Self as HasWorld>⟧.world self.new).locks
+            ≡ (⟦<Self as HasWorld>⟧.world self.old).locks }
         ensures replayed { IfOk result (IsReplayedFrom cycles.now.start
             (⟦<Self as HasWorld>⟧.world self.old) (⟦<Self as HasWorld>⟧.world self.new)) }
         ensures order { OnErr result (IsUntouchedOrCycledFrom cycles.now.start

@@ -1,15 +1,16 @@
 //! What a verification begins with.
 
-ghost use Rattle.std.specs.Prelude.{◌≡◌, ◌≤◌, true, IfErr, IfOk, map, string_bytes};
+ghost use Rattle.std.specs.Prelude.{◌≡◌, ◌≤◌, true, IfErr, IfOk, OnOk, map, string_bytes};
 ghost use Rattle.std.specs.List.{AllZip};
 ghost use Rattle.update.specs.Causes.{AreWrong, IsCauseToBegin, IsCauseToRead};
 ghost use Rattle.update.specs.Moments.{IsMomentOf};
 ghost use Rattle.update.specs.Runs.{AreMetadata, IsRead, moment_text, start_from, start_of};
 ghost use Rattle.update.specs.Same.{IsSame};
+ghost use Rattle.update.specs.World.{IsUntouched};
 
 use crate::clock::moment;
 use crate::host::{Folders, HasMirrors, HasWorld, Host};
-use crate::state::read_state;
+use crate::state::lock_state;
 use cycle::{Limits, Moment, Repo, Trusted};
 use failure::Failure;
 use folder::{Folder, load_starts};
@@ -56,27 +57,34 @@ pub struct Start<'a> {
 }
 
 impl<S: System, F: HasMirrors, W: Write> Host<S, F, W> {
-    /// Returns what the terms name, with the moment and then the trusted state that are read.
+    /// Reads the moment, and then locks and reads the trusted state that the terms name.
     pub(crate) fn begin<'a>(
-        &self,
+        &mut self,
         alloc: Global,
         terms: &'a Terms<'_>,
     ) -> Result<Start<'a>, Failure>
         ensures read { IfOk result (λ s. IsRead
-            ((⟦<Self as HasWorld>⟧.world self.now).gives terms.now.state.now) s.trusted) }
+            ((⟦<Self as HasWorld>⟧.world self.old).gives_locked terms.now.state.now)
+            s.trusted) }
+        ensures locked { OnOk result
+            ((⟦<Self as HasWorld>⟧.world self.new).locks terms.now.state.now ≡ true) }
+        ensures untouched { IsUntouched (⟦<Self as HasWorld>⟧.world self.old)
+            (⟦<Self as HasWorld>⟧.world self.new) }
+        ensures mirrors { (⟦<Self as HasWorld>⟧.world self.new).mirrors
+            ≡ (⟦<Self as HasWorld>⟧.world self.old).mirrors }
         ensures moment { IfOk result (λ s. IsMomentOf
-            (⟦<Self as HasWorld>⟧.world self.now).shows (moment_text terms.now) s.moment) }
+            (⟦<Self as HasWorld>⟧.world self.old).shows (moment_text terms.now) s.moment) }
         ensures start { IfOk result
             (λ s. start_of s ≡ start_from terms.now s.trusted s.moment) }
         ensures place { IfOk result (λ s. s.state.now ≡ terms.now.out.now) }
         ensures numbers { IfOk result (λ s. (s.limit ≡ terms.now.limit)
             × (s.workers ≡ terms.now.workers)) }
         ensures cause { IfErr result (IsCauseToBegin terms.now
-            (⟦<Self as HasWorld>⟧.world self.now)) }
+            (⟦<Self as HasWorld>⟧.world self.old)) }
     {
         let moment = moment(&self.system, terms.moment)?;
         Ok(Start {
-            trusted: read_state(alloc, &self.system, terms.state)?,
+            trusted: lock_state(alloc, &mut self.system, terms.state)?,
             moment,
             wanted: terms.wanted.as_slice(),
             limit: terms.limit,

@@ -1,6 +1,7 @@
 //! The verification of a repository in two folders.
 
-ghost use Rattle.std.specs.Prelude.{◌≡◌, ◌≢◌, ◌≤◌, true, IfErr, IfOk, OnErr, map, string_bytes};
+ghost use Rattle.std.specs.Prelude.{◌≡◌, ◌≢◌, ◌≤◌, true, IfErr, IfOk, OnErr, OnOk};
+ghost use Rattle.std.specs.Prelude.{map, string_bytes};
 ghost use Rattle.examine.specs.Checks.{file_in};
 ghost use Rattle.update.specs.Causes.{AreWrong, IsCauseToVerify, IsCauseToVerifyFrom};
 ghost use Rattle.update.specs.Same.{IsCauseToEnd};
@@ -23,10 +24,11 @@ use std::thread::Threads;
 use system::System;
 
 impl<S: System, M: Folder, T: Folder + Sync, W: Write> Host<S, Folders<M, T>, W> {
-    /// Verifies what the terms name: reads the moment, then the state file, and then the folders,
-    /// as [`verify_from`](Host::verify_from) does. If the moment, the state file or a folder fails,
-    /// nothing was stored or printed. If out of memory or by an output error, that holds too, or
-    /// the new state was stored whole. What is stored for other paths stays.
+    /// Verifies what the terms name: reads the moment, locks and reads the state file, and then
+    /// reads the folders, as [`verify_from`](Host::verify_from) does. The file stays locked. If the
+    /// moment, the state file or a folder fails, nothing was stored or printed. If out of memory or
+    /// by an output error, that holds too, or the new state was stored whole. What is stored for
+    /// other paths stays.
     pub fn verify<R: Threads + Wait + Sync>(
         &mut self,
         rt: &R,
@@ -34,6 +36,8 @@ impl<S: System, M: Folder, T: Folder + Sync, W: Write> Host<S, Folders<M, T>, W>
         terms: &Terms<'_>,
     ) -> Result<u8, Failure>
         ensures known { IfOk result (λ status. status ≤ 2) }
+        ensures locked { OnOk result
+            ((⟦<Self as HasWorld>⟧.world self.new).locks terms.now.state.now ≡ true) }
         ensures verified { IfOk result (IsVerified terms.now
             (⟦<Self as HasWorld>⟧.world self.old) (⟦<Self as HasWorld>⟧.world self.new)) }
         ensures order { OnErr result (IsUntouchedOrStored terms.now
@@ -70,6 +74,8 @@ impl<S: System, M: Folder, T: Folder + Sync, W: Write> Host<S, Folders<M, T>, W>
         start: &Start<'_>,
     ) -> Result<u8, Failure>
         ensures known { IfOk result (λ status. status ≤ 2) }
+        ensures locked { (⟦<Self as HasWorld>⟧.world self.new).locks
+            ≡ (⟦<Self as HasWorld>⟧.world self.old).locks }
         ensures verified { IfOk result (IsVerifiedFrom start.now
             (⟦<Self as HasWorld>⟧.world self.old) (⟦<Self as HasWorld>⟧.world self.new)) }
         ensures order { OnErr result (IsUntouchedOrStoredFrom start.now
