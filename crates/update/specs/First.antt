@@ -47,7 +47,9 @@ abbrev pub IsRefused : List ℕ → World → World → Type 0
 IsRefused root old new = Refuses root old
     (λ f. Appends old.printed new.printed (end_text (Stopped Root (fault_of f))))
 
--- nothing was stored, and nothing printed unless the root is refused, or the root's state was stored
+-- nothing was stored, and nothing printed unless the root is refused; or the root's state was
+-- stored
 abbrev pub IsBrokenOff : List ℕ → List ℕ → World → World → Type 0
-IsBrokenOff root state old new = ((new.keeps ≡ old.keeps)
-    × ((new.printed ≡ old.printed) ⊎ Refuses root old (λ _. ⊤))) ⊎ Trusts root state old new (λ _. ⊤)
+IsBrokenOff root state old new =
+    ((new.keeps ≡ old.keeps) × ((new.printed ≡ old.printed) ⊎ Refuses root old (λ _. ⊤)))
+    ⊎ Trusts root state old new (λ _. ⊤)
