@@ -9,9 +9,12 @@
 # sweep ends with the run that allocates fewer than N times. Swept are a run without arguments, and `make`, `init`,
 # `verify` and `replay` of one repository twice (each by no worker and by two) and `--help` over examples/first.script,
 # and `verify` (by no worker and by two) of two paths that two delegations lead to one role, which is signed for one.
+# Swept are also single commands of rows, by the program of crates/trials: `plan`, `worker`, `alone`, `lines`, `cycles`
+# and `leaves`. Such a run must print what it does with ample memory, or that the command or the rows couldn't be run.
+# `leaves` may also print `NoMemory` for one signature: the next one must then take the same leaf.
 # The script ends with status 1 at the first run that does otherwise.
 #
-# `rt run` proves and builds the program, once. A small library, made with `cc`, is loaded before the C library's `malloc`
+# `rt run` proves and builds the two programs, once. A small library, made with `cc`, is loaded before the C library's `malloc`
 # and `realloc` and makes the Nth call fail. (`rt try --fail-alloc N` has the same results, and builds the program for
 # each N, which takes a minute or two.)
 set -u
@@ -32,7 +35,7 @@ static unsigned long calls, refused;
 static int is_refused(void) {
     if (!calls) refused = strtoul(getenv("REFUSED"), 0, 10);
     if (__atomic_add_fetch(&calls, 1, __ATOMIC_SEQ_CST) != refused) return 0;
-    close(creat("met", 0600));
+    close(creat(getenv("MET"), 0600));
     return 1;
 }
 
@@ -48,6 +51,9 @@ void *realloc(void *old, size_t size) {
 END
 cc -shared -fPIC -O1 -o "$work/refuse.so" "$work/refuse.c" -ldl || exit 2
 (cd "$top/crates/tufcheck" && rt run) > "$work/built" 2>&1 || { tail -5 "$work/built"; exit 2; }
+(cd "$top/crates/trials" && rt run) > "$work/built" 2>&1
+[ -x "$top/crates/trials/out/trials" ] || { tail -5 "$work/built"; exit 2; }
+export MET="$work/met"
 cp "$top/crates/tufcheck/out/tufcheck" "$top/examples/first.script" "$top/crates/trials/data/cases/shared.script" "$work" && cd "$work" || exit 2
 
 # sweep NAME FILE STATE WORD..: sweeps the run with those words, which with ample memory prints that file, ends with the
@@ -108,3 +114,45 @@ good=1
 for workers in 0 2; do
     sweep "verify of two delegations by $workers workers" lines current "${verified[@]}" --workers $workers
 done
+
+# sweep_row COMMAND WORD..: sweeps the command of rows whose output with ample memory is the standard input. What the row
+# reads is below `rows/cases`, since the program runs in a folder that contains `cases` alone.
+sweep_row() {
+    local whole=0 n status
+    sed 's/^/  /' > expected
+    { echo "  $ $*" && cat expected; } > rows/cases/row.rows
+    for ((n = first; n <= last; n += step)); do
+        rm -f met
+        (cd rows && REFUSED=$n LD_PRELOAD="$work/refuse.so" "$top/crates/trials/out/trials" < /dev/null > ../printed 2> ../told)
+        status=$?
+        if [ $status = 0 ] && [ ! -s told ]; then
+            [ -e met ] || break
+            whole=$((whole + 1))
+        elif [ $status != 2 ] && ! grep -q "^+ the step can't be done: .*memory" printed && ! is_one_leaf_later; then
+            echo "$*: allocation $n: status $status"
+            cat printed told
+            exit 1
+        fi
+    done
+    echo "$*: allocations $first to $((n - step)) in steps of $step, $whole of them done without"
+}
+
+# Whether the row printed what was expected, but for one signature that was out of memory.
+is_one_leaf_later() {
+    [ "$(grep -c '^+ NoMemory$' printed)" = 1 ] &&
+        cmp -s <(sed -n 's/^+ /  /p' printed | grep -v NoMemory) <(sed '0,/^  Used$/{/^  Used$/d}' expected)
+}
+
+mkdir -p rows/cases && mv both repo rows/cases || exit 2
+sweep_row plan cases/both 4096 x/1 y/1 <<< '10 questions, 10 true'
+sweep_row worker valid invalid valid <<< 'done 3: Valid Invalid Valid, won 0'
+printf '%s\n' "$(cat lines)" '[1]' > both_lines
+sweep_row alone cases/both x/1 y/1 < both_lines
+sweep_row lines cases/both 2 4096 open x/1 y/1 < both_lines
+cp -r rows/cases/repo rows/cases/torn && truncate -s -1 rows/cases/torn/metadata/targets.json || exit 2
+printf 'cycle 1\nroot 1\nend ready\nok "abc.txt" 3 "targets"\ncycle 2\nroot 1\nend targets LengthWrong\nno "abc.txt" NotSearched\n[2]\n' > cycles
+for workers in 0 2; do
+    sweep_row cycles cases/repo,cases/torn $workers 4096 open 64 abc.txt < cycles
+done
+{ for ((leaf = 0; leaf < 32; leaf++)); do printf 'leaf %08x, 1292 bytes, valid: yes\n' $leaf; done; printf 'Used\nUsed\nsame key: yes\n'; } > leaves
+sweep_row leaves 32 hello < leaves

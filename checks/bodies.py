@@ -1,4 +1,4 @@
-"""Does the work of checks/bodies.sh: bodies.py REPOSITORY COPY [CRATE..]"""
+"""Does the work of checks/bodies.sh: bodies.py REPOSITORY COPY [--gate] [CRATE..]"""
 import re
 import shutil
 import subprocess
@@ -6,10 +6,14 @@ import sys
 from pathlib import Path
 
 TOP, COPY = Path(sys.argv[1]), Path(sys.argv[2])
+IS_GATE = sys.argv[3:4] == ["--gate"]
 HEAD = re.compile(r"( *)(?:pub(?:\(\w+\))? )?(?:const )?fn (\w+)")
 # An open goal, by its place, and a goal whose written answer doesn't hold, by the folder of the answer.
-GOAL = re.compile(r"(?:so far: )?note: (src/\S+?):(\d+):\d+: (?:it is not proved|`search` found no proof)")
-ANSWER = re.compile(r"(?:so far: )?(?:\./)?proofs/(\S+)/Answers\.antt:\d+:\d+: error: `(\w+)")
+GOAL = re.compile(r"(?:so far: )?note: (src/\S+?):(\d+):\d+: (it is not proved.*|`search` found no proof.*)")
+ANSWER = re.compile(r"(?:so far: )?(?:\./)?proofs/(\S+)/Answers\.antt:\d+:\d+: error: `((\w+)[^`]*)")
+# What isn't proved, and the goal's name, which ends with that of a clause that has one.
+MEANING = re.compile(r"it is not proved that (.+?) \(`([^`]+)`\)")
+CLAUSE = re.compile(r"returns\b.*?-clause-(\w+)")
 # Such an answer may name what the edit took away, which shows nothing about the contract.
 LOST = re.compile(r"has no field|is not in scope|has no `|was not admitted")
 
@@ -34,6 +38,17 @@ def function_at(text, line):
             last = next((n for n in range(at, len(lines)) if lines[n] == head[1] + "}"), at)
             return at if line <= last else None
     return None
+
+
+def meaning_of(goal):
+    """What an open goal is about: a clause of the function by its name, or what else isn't proved."""
+    found = MEANING.search(goal)
+    name = found[2] if found else goal
+    if clause := CLAUSE.match(name):
+        return f"clause `{clause[1]}`"
+    if name.startswith("returns"):
+        return "a clause without a name"
+    return found[1] if found else f"`{name}`"
 
 
 class Edit:
@@ -104,40 +119,68 @@ def answered(folder, place, goal):
     return {(file, at) for at, head in heads if head and head[2] == name}
 
 
-def open_functions(folder, said):
-    """The functions of which a check says that a goal of their own is open."""
-    found = set()
+def open_goals(folder, said):
+    """The functions of which a check says that goals of their own are open, each with what these are about."""
+    found = {}
     for line in said.split("\n"):
-        if goal := GOAL.match(line):
-            found.add((goal[1], function_at((folder / goal[1]).read_text(), int(goal[2]) - 1)))
+        functions, goal = set(), ""
+        if open_goal := GOAL.match(line):
+            text = (folder / open_goal[1]).read_text()
+            functions, goal = {(open_goal[1], function_at(text, int(open_goal[2]) - 1))}, open_goal[3]
         elif (answer := ANSWER.match(line)) and not LOST.search(line):
-            found |= answered(folder, *answer.groups())
+            functions, goal = answered(folder, answer[1], answer[3]), answer[2]
+        for function in functions:
+            found.setdefault(function, set()).add(meaning_of(goal))
     return found
 
 
+def described(folder, goals):
+    """The functions by their names, each with its open goals."""
+    lines = []
+    for (file, at), meanings in sorted(goals.items(), key=str):
+        head = HEAD.match((folder / file).read_text().split("\n")[at]) if at is not None else None
+        lines.append(f"{head[2] if head else file}: {', '.join(sorted(meanings))}")
+    return "; ".join(lines)
+
+
 def tried(crate, edits):
-    """Each edit, and what became of it."""
+    """Each edit, what became of it, and the open goals that refuse it."""
     said = checked(crate, edits)
-    found = open_functions(COPY / "crates" / crate, said)
+    folder = COPY / "crates" / crate
+    found = open_goals(folder, said)
     for edit in edits:
-        if edit.functions & found or found and edit.is_alone():
-            yield edit.name, "refused"
+        own = {it: found[it] for it in edit.functions & found.keys()}
+        # The gate's edits may change what has no contract, so that one above it refuses them.
+        if not own and (edit.is_alone() or IS_GATE and len(edits) == 1):
+            own = found
+        if own:
+            yield edit.name, "refused", described(folder, own)
         elif len(edits) > 1:
             yield from tried(crate, [edit])
         else:
-            yield edit.name, "PROVED" if re.search("^logic=proved", said, re.M) else "UNTRIED"
+            yield edit.name, "PROVED" if re.search("^logic=proved", said, re.M) else "UNTRIED", ""
+
+
+def folder_of(crate):
+    """The folder of a crate's edits: the gate's, or those that are tried outside it."""
+    return TOP / "crates" / crate / "must-fail" if IS_GATE else TOP / "checks/bodies" / crate
+
+
+def crates_with_edits():
+    """The names of all crates that have such edits."""
+    return sorted(it.name for it in (TOP / "crates").iterdir() if folder_of(it.name).is_dir())
 
 
 def main(crates):
     counts = {"refused": 0, "PROVED": 0, "UNTRIED": 0}
-    for crate in crates or sorted(it.name for it in (TOP / "checks/bodies").iterdir()):
-        edits = [Edit(crate, path) for path in sorted((TOP / "checks/bodies" / crate).glob("*.edit"))]
+    for crate in crates or crates_with_edits():
+        edits = [Edit(crate, path) for path in sorted(folder_of(crate).glob("*.edit"))]
         if not re.search("^logic=proved", checked(crate, []), re.M):
             raise Stop(f"{crate} isn't proved as it stands")
         for group in grouped(edits):
-            for name, end in tried(crate, group):
+            for name, end, goals in tried(crate, group):
                 counts[end] += 1
-                print(end, name, flush=True)
+                print(f"{end} {name}" + (f" by {goals}" if goals else ""), flush=True)
         # (those above it are tried over the unchanged crate)
         write(crate, [])
     print(", ".join(f"{count} {end.lower()}" for end, count in counts.items()))
@@ -146,7 +189,7 @@ def main(crates):
 
 if __name__ == "__main__":
     try:
-        sys.exit(main(sys.argv[3:]))
+        sys.exit(main(sys.argv[3 + IS_GATE :]))
     except Stop as why:
         print(f"bodies: {why}", file=sys.stderr)
         sys.exit(2)

@@ -1,12 +1,10 @@
-//! What given words ask for.
+//! The command line with given arguments.
 
 ghost use Rattle.std.specs.Prelude.{◌≡◌, ◌≤◌, ◌⊎◌, ◌↔◌, true, IfErr, IfOk};
 ghost use Rattle.failure.specs.Failures.{is_callers};
 
-use crate::disks::{replay_on_disk, verify_on_disk};
-use crate::making::make;
-use crate::terms::word;
-use clap::ArgMatches;
+use crate::carrying::carry_out;
+use crate::reading::read_subcommand;
 use clap::error::ErrorKind;
 use failure::{Failure, tell_failure};
 use report::put;
@@ -14,16 +12,14 @@ use std::alloc::Global;
 use std::io::Write;
 use std::sync::Wait;
 use std::thread::Threads;
-use system::Machine;
-use update::Host;
 
-/// Does what the words after the program's name ask for, or without a word verifies the sample
-/// repository, and answers the exit status: 0 where all wanted targets are good, 1 where one is
-/// refused or a file that is shown expires too soon, 2 where the update stopped or the root was
-/// refused, 3 for a mistake of the caller and 4 for a refusal of the system. The lines go to `out`,
-/// and what is said of a mistake or a refusal goes to `err`. Files, clock and standard input are
-/// those of `rt`, and what checks ahead is started by `threads`.
-pub fn perform<T: Threads + Wait + Sync, W: Write, E: Write>(
+/// Carries out the command line of these arguments, those after the program's name, or verifies the
+/// sample repository if there are none. Returns the exit status: 0 if all wanted targets are
+/// accepted, 1 if one is refused or a file that is shown expires too soon, 2 if the update stopped
+/// or the root is refused, 3 for a usage error and 4 for a system error. Prints lines to `out`, and
+/// the reason of an error to `err`. Files, clock and standard input are those of `rt`, and
+/// `threads` starts the threads that decide checks in advance.
+pub fn command<T: Threads + Wait + Sync, W: Write, E: Write>(
     rt: &HostRuntime,
     threads: &T,
     alloc: Global,
@@ -36,12 +32,13 @@ pub fn perform<T: Threads + Wait + Sync, W: Write, E: Write>(
     let done = if words.is_empty() {
         sample::run(alloc, out)
     } else {
-        perform_words(rt, threads, alloc, words, out, err)
+        parse_and_carry_out(rt, threads, alloc, words, out, err)
     };
     status_of(done, err)
 }
 
-fn perform_words<T: Threads + Wait + Sync, W: Write, E: Write>(
+/// Parses the arguments, and carries out their subcommand or prints what `clap` reports.
+fn parse_and_carry_out<T: Threads + Wait + Sync, W: Write, E: Write>(
     rt: &HostRuntime,
     threads: &T,
     alloc: Global,
@@ -52,55 +49,15 @@ fn perform_words<T: Threads + Wait + Sync, W: Write, E: Write>(
     ensures known { IfOk result (λ status. status ≤ 3) }
 {
     match words::parse(alloc, words) {
-        Ok(matches) => perform_command(rt, threads, alloc, &matches, out),
-        Err(error) => refuse_words(alloc, &error, out, err),
-    }
-}
-
-fn perform_command<T: Threads + Wait + Sync, W: Write>(
-    rt: &HostRuntime,
-    threads: &T,
-    alloc: Global,
-    matches: &ArgMatches<'_>,
-    out: &mut W,
-) -> Result<u8, Failure>
-    ensures known { IfOk result (λ status. status ≤ 2) }
-{
-    let (name, words) = matches.subcommand().ok_or(Failure::Words)?;
-    match name {
-        "init" => {
-            let mut host = Host {
-                system: Machine::new(rt),
-                folders: (),
-                out,
-            };
-            host.init(alloc, word(words, "ROOT")?, word(words, "out")?)
+        Ok(matches) => {
+            let subcommand = read_subcommand(rt, alloc, &matches)?;
+            carry_out(rt, threads, alloc, &subcommand, out).0
         }
-        "make" => make(rt, alloc, word(words, "SCRIPT")?, word(words, "DIR")?),
-        "replay" => replay_on_disk(rt, threads, alloc, words, out),
-        "show" => show(rt, alloc, words, out),
-        _ => verify_on_disk(rt, threads, alloc, words, out),
+        Err(error) => report_error(alloc, &error, out, err),
     }
 }
 
-/// Shows the trusted state that the words name.
-fn show<W: Write>(
-    rt: &HostRuntime,
-    alloc: Global,
-    words: &ArgMatches<'_>,
-    out: &mut W,
-) -> Result<u8, Failure>
-    ensures known { IfOk result (λ status. status ≤ 1) }
-{
-    let mut host = Host {
-        system: Machine::new(rt),
-        folders: (),
-        out,
-    };
-    host.show(alloc, word(words, "STATE")?, words.get_str("before"))
-}
-
-/// The status, after a failure was told.
+/// Returns the exit status. Prints the line of a failure to `err`.
 pub(crate) fn status_of<E: Write>(done: Result<u8, Failure>, err: &mut E) -> u8
     ensures status { IfOk done (λ status. result ≡ status) }
     ensures caller { IfErr done (λ failure. (result ≡ 3) ↔ (is_callers failure ≡ true)) }
@@ -115,9 +72,9 @@ pub(crate) fn status_of<E: Write>(done: Result<u8, Failure>, err: &mut E) -> u8
     }
 }
 
-/// Prints what `clap` says of the words: help or the version to `out` with status 0, a mistake to
-/// `err` with status 3.
-fn refuse_words<W: Write, E: Write>(
+/// Prints what `clap` reports: help or the version to `out` with status 0, a usage error to `err`
+/// with status 3.
+fn report_error<W: Write, E: Write>(
     alloc: Global,
     error: &clap::Error,
     out: &mut W,

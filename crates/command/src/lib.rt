@@ -1,14 +1,21 @@
-//! The command line: what its words ask for is done, and the status is answered.
+//! The command line: reads its arguments, carries out its subcommand and returns the exit status.
 //!
-//! - [`run`] does what the words of the process ask for, and [`perform`] what given words ask for.
+//! - [`run`] does so with the arguments of the process, and [`command`] with given ones.
+//! - [`carry_out`] carries out a [`Subcommand`]: what it prints and returns is what the run of
+//!   `update` prints and returns that the subcommand names.
 #![tactic(auto)]
 
-mod disks;
+mod carrying;
 mod dispatch;
+mod folders;
 mod listed;
 mod making;
 mod process;
+mod reading;
+mod subcommand;
 mod terms;
 
-pub use dispatch::perform;
+pub use carrying::carry_out;
+pub use dispatch::command;
 pub use process::run;
+pub use subcommand::Subcommand;

@@ -8,8 +8,8 @@ use std::io::Read;
 use system::Machine;
 use update::read_file;
 
-/// Adds the paths of the file that `--paths-from` names, in order. Fails as `Input` if the file
-/// can't be read, and as `Words` if a path in it is empty or isn't UTF-8.
+/// Adds the paths of the file that `--paths-from` names, in order. Fails with `Input` if the file
+/// can't be read, and with `Words` if a path in it is empty or isn't UTF-8.
 pub fn push_listed(
     rt: &HostRuntime,
     alloc: Global,
@@ -28,7 +28,7 @@ pub fn push_listed(
     Ok(())
 }
 
-/// The bytes of the file; `-` is standard input, up to its end.
+/// Returns the bytes of the file; `-` is standard input, up to its end.
 fn bytes_of(rt: &HostRuntime, alloc: Global, file: &str) -> Result<Vec<u8>, Failure> {
     if file != "-" {
         return read_file(&Machine::new(rt), file, Failure::Input);

@@ -6,18 +6,13 @@ use failure::{Failure, of_io};
 use folder::path_below;
 use std::alloc::Global;
 use std::fs;
-use std::rt::{Clock, Files};
+use std::rt::Files;
 use system::Machine;
 use update::read_file;
 
-/// Writes what the script of that path makes below a folder. Where the script is refused, nothing
-/// is written.
-pub fn make<R: Files + Clock + AllocGlobal>(
-    rt: &R,
-    alloc: Global,
-    script: &str,
-    folder: &str,
-) -> Result<u8, Failure>
+/// Writes what the script of that path makes below a folder, and returns status 0. If the script is
+/// invalid, nothing is written.
+pub fn make(rt: &HostRuntime, alloc: Global, script: &str, folder: &str) -> Result<u8, Failure>
     ensures status { IfOk result (λ status. status ≡ 0) }
 {
     let script = read_file(&Machine::new(rt), script, Failure::Input)?;
@@ -30,7 +25,7 @@ pub fn make<R: Files + Clock + AllocGlobal>(
     Ok(0)
 }
 
-/// Writes the file of that name below the folder, and makes the folders in which it lies.
+/// Writes the file of that name below the folder, and makes the folders that contain it.
 fn write_below<R: Files>(
     rt: &R,
     alloc: Global,

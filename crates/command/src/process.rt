@@ -1,8 +1,8 @@
-//! The words of the process.
+//! The arguments of the process.
 
 ghost use Rattle.std.specs.Prelude.{◌≤◌};
 
-use crate::dispatch::{perform, status_of};
+use crate::dispatch::{command, status_of};
 use failure::{Failure, of_io};
 use std::alloc::Global;
 use std::env;
@@ -11,8 +11,7 @@ use std::rt::Env;
 use std::sync::Wait;
 use std::thread::Threads;
 
-/// Does what the words after the program's name ask for, and answers the exit status, as
-/// [`perform`] does.
+/// Carries out the command line of the process, and returns the exit status, as [`command`] does.
 pub fn run<T: Threads + Wait + Sync, W: Write, E: Write>(
     rt: &HostRuntime,
     threads: &T,
@@ -23,12 +22,12 @@ pub fn run<T: Threads + Wait + Sync, W: Write, E: Write>(
     ensures known { result ≤ 4 }
 {
     match words_of(rt, alloc) {
-        Ok(words) => perform(rt, threads, alloc, words.as_slice(), out, err),
+        Ok(words) => command(rt, threads, alloc, words.as_slice(), out, err),
         Err(failure) => status_of(Err(failure), err),
     }
 }
 
-/// The words after the program's name. One that isn't UTF-8 refuses all.
+/// Returns the arguments after the program's name. Fails with `Words` if one isn't UTF-8.
 fn words_of<R: Env + AllocGlobal>(rt: &R, alloc: Global) -> Result<Vec<String>, Failure> {
     let all = env::args(rt).map_err(|error| of_io(&error, Failure::Words))?;
     let mut words = Vec::new(alloc);

@@ -1,11 +1,11 @@
-//! The words behind a command.
+//! The arguments of a subcommand.
 
 use clap::ArgMatches;
 use failure::Failure;
 use std::alloc::{AllocError, Global};
 use update::Terms;
 
-/// What both `verify` and `replay` name.
+/// Returns what the arguments of `verify` and of `replay` name.
 pub fn terms<'a>(alloc: Global, matches: &ArgMatches<'a>) -> Result<Terms<'a>, Failure> {
     Ok(Terms {
         state: word(matches, "state")?,
@@ -17,17 +17,17 @@ pub fn terms<'a>(alloc: Global, matches: &ArgMatches<'a>) -> Result<Terms<'a>, F
     })
 }
 
-/// The word of that name, which has to be there.
+/// Returns the argument of that name. Fails with `Words` if it is missing.
 pub fn word<'a>(matches: &ArgMatches<'a>, name: &str) -> Result<&'a str, Failure> {
     matches.get_str(name).ok_or(Failure::Words)
 }
 
-/// The number of that name, which has to be there.
+/// Returns the number of that name. Fails with `Words` if it is missing.
 pub fn number(matches: &ArgMatches<'_>, name: &str) -> Result<usize, Failure> {
     matches.get_one::<usize>(name).ok_or(Failure::Words)
 }
 
-/// All words of that name, in order.
+/// Returns all arguments of that name, in order.
 pub fn all_of(
     alloc: Global,
     matches: &ArgMatches<'_>,

@@ -26,7 +26,7 @@ use Rattle.deleg.specs.declared.accepted.Accepted.{Accepted}
 use Rattle.deleg.specs.declared.found.Found.{Found}
 use Rattle.deleg.specs.declared.found.Found.TheVariants.{Listed, LimitReached}
 use Rattle.cycle.specs.Looked.{AreAlike, is_metadata_name, most_looked_at, looked_at}
-use Rattle.cycle.specs.Workflow.{Course, closed_course, course, searched, workflow}
+use Rattle.cycle.specs.Workflow.{Course, Repository, Request, closed_course, course, searched, workflow}
 use Rattle.deleg.specs.declared.accepted.Search.{Search}
 
 -- ---- names
@@ -306,17 +306,16 @@ module _ (f g : Files) (same : (name : List ℕ) → looked_at f name ≡ looked
 made : State → End → List (Option Search) → Course
 made s e all = record { trusted = s; end = e; searches = all }
 
-of : Files → Moment → List (List ℕ) → ℕ → Advanced → Course
-of f now wanted most a = made a.state a.end (map (searched f now most a.state a.end) wanted)
+of : Files → Request → Advanced → Course
+of f r a = made a.state a.end (map (searched f r.moment r.limit a.state a.end) r.wanted)
 
-pub same_course : (f g : Files) (now : Moment) (s : State) (wanted : List (List ℕ)) (most : ℕ) → AreAlike f g
-    → course f now s wanted most ≡ course g now s wanted most
+pub same_course : (f g : Files) (r : Request) → AreAlike f g → course r f ≡ course r g
 unfolding made of
-same_course f g now s wanted most same =
-    let a : Advanced = advanced g now s in
-    ap (of f now wanted most) (same_advanced f g same now s)
-    ∙ ap (made a.state a.end) (map-same wanted (searched f now most a.state a.end) (searched g now most a.state a.end) (same_searched f g same now most a.state a.end))
+same_course f g r same =
+    let a : Advanced = advanced g r.moment r.trusted in
+    ap (of f r) (same_advanced f g same r.moment r.trusted)
+    ∙ ap (made a.state a.end) (map-same r.wanted (searched f r.moment r.limit a.state a.end) (searched g r.moment r.limit a.state a.end) (same_searched f g same r.moment r.limit a.state a.end))
 
-pub same_workflow : (f g targets : Files) (now : Moment) (s : State) (wanted : List (List ℕ)) (most : ℕ) → AreAlike f g
-    → workflow f targets now s wanted most ≡ workflow g targets now s wanted most
-same_workflow f g targets now s wanted most same = ap (closed_course targets) (same_course f g now s wanted most same)
+pub same_workflow : (r : Request) (a b : Repository) → AreAlike a.metadata b.metadata → a.targets ≡ b.targets → workflow r a ≡ workflow r b
+same_workflow r a b same targets =
+    ap (closed_course a.targets) (same_course a.metadata b.metadata r same) ∙ ap (λ t. closed_course t (course r b.metadata)) targets

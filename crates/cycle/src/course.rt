@@ -16,8 +16,8 @@ use std::alloc::Global;
 use std::marker::Model;
 
 /// The workflow up to the searches: the new trusted state, how the cycle ended, and the search for
-/// each wanted path, by position. No target file has been looked at. Contracts see these three
-/// parts; the counts have no influence on an outcome.
+/// each wanted path, by position. No target file was read. Contracts see these three parts; the
+/// counts don't affect an outcome.
 #[derive(Drop)]
 pub struct Course {
     trusted: Trusted,
@@ -92,7 +92,7 @@ impl Course {
         self.searches.as_slice()
     }
 
-    /// Returns how many checks were planned, taken from elsewhere and computed.
+    /// Returns the counts of the run's checks.
     pub fn stats(&self) -> Stats {
         self.stats
     }

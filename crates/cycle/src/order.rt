@@ -3,18 +3,19 @@
 ghost use Rattle.std.specs.Prelude.{◌≡◌, All, IfOk, IfSome, map, string_bytes, true};
 ghost use Rattle.examine.specs.Checks.{Files, file_in};
 ghost use Rattle.rolechain.specs.Advance.{is_ready};
+ghost use Rattle.cycle.specs.Inputs.{repository_of, request_of};
 ghost use Rattle.cycle.specs.Workflow as spec;
 
 use crate::course::Course;
 use crate::limits::Limits;
 use crate::outcome::Outcome;
 use crate::roles::gather_roles;
+use crate::round::Round;
 use crate::store::{InMemory, Store};
 use crate::target::verdicts_of;
 use cjson::NoMemory;
 use deleg::{Search, Searcher};
 use keys::Judge;
-use meta::{Moment, Repo};
 use rolechain::{End, Trusted, advance};
 use std::alloc::Global;
 
@@ -22,10 +23,10 @@ use std::alloc::Global;
 pub(crate) trait Ordered {
     type Gives: Drop;
 
-    /// The result, on which no judge has any influence.
+    /// The result, which doesn't depend on the judge.
     ghost gives: { Self → Self.Gives };
 
-    /// Does the work. Fails only if out of memory.
+    /// Does the work sequentially. Fails only if out of memory.
     fn in_order<J: Judge>(&self, judge: &mut J) -> Result<Self::Gives, NoMemory>
         ensures { IfOk result (λ o. o ≡ gives self.now) };
 }
@@ -38,26 +39,22 @@ pub(crate) struct Cycle<'a> {
     pub alloc: Global,
     /// The trusted state at the start.
     pub trusted: &'a Trusted,
-    /// The repository.
-    pub repo: &'a Repo,
-    /// The moment, in UTC.
-    pub moment: Moment,
-    /// The wanted paths.
-    pub wanted: &'a [String],
+    /// The repository, the moment and the wanted paths.
+    pub round: Round<'a>,
     /// The limits.
-    pub limits: &'a Limits,
+    pub limits: Limits,
 }
 
 impl Ordered for Cycle<'_> {
     type Gives = Course;
 
-    ghost gives = { λ c. spec.course (file_in c.repo.now.metadata) c.moment c.trusted.now
-        (map string_bytes c.wanted.now) c.limits.now.roles };
+    ghost gives = { λ c. spec.course (request_of c) (file_in c.round.repo.now.metadata) };
 
     /// Examines each file when its turn comes, and searches for each wanted path on its own, in
     /// order.
     fn in_order<J: Judge>(&self, judge: &mut J) -> Result<Course, NoMemory> {
-        let (trusted, end) = advance(self.alloc, self.trusted, self.repo, self.moment, judge)?;
+        let Round { repo, now, .. } = self.round;
+        let (trusted, end) = advance(self.alloc, self.trusted, repo, now, judge)?;
         let searches = searches(self, &trusted, end, judge)?;
         Ok(Course::new(trusted, end, searches))
     }
@@ -73,9 +70,7 @@ pub(crate) struct Whole<'a> {
 impl Ordered for Whole<'_> {
     type Gives = Outcome;
 
-    ghost gives = { λ w. let c = w.cycle.now in spec.workflow (file_in c.repo.now.metadata)
-        (file_in c.repo.now.targets) c.moment c.trusted.now (map string_bytes c.wanted.now)
-        c.limits.now.roles };
+    ghost gives = { λ w. spec.workflow (request_of w.cycle.now) (repository_of w.cycle.now) };
 
     fn in_order<J: Judge>(&self, judge: &mut J) -> Result<Outcome, NoMemory> {
         let cycle = self.cycle;
@@ -91,11 +86,11 @@ fn close_in_memory<J: Judge>(
     judge: &mut J,
 ) -> Result<Outcome, NoMemory>
     ensures { IfOk result (λ o.
-        o ≡ spec.closed_course (file_in cycle.now.repo.now.targets) course) }
+        o ≡ spec.closed_course (file_in cycle.now.round.repo.now.targets) course) }
 {
     let store = InMemory {
         alloc: cycle.alloc,
-        files: &cycle.repo.targets,
+        files: &cycle.round.repo.targets,
     };
     close(cycle.alloc, course, &store, judge)
 }
@@ -128,14 +123,15 @@ fn searches<J: Judge>(
     judge: &mut J,
 ) -> Result<Vec<Option<Search>>, NoMemory>
     requires { end ≡ End.Ready → is_ready trusted.now ≡ true }
-    ensures { IfOk result (λ all. all.items
-        ≡ map (spec.searched (file_in cycle.now.repo.now.metadata) cycle.now.moment
-        cycle.now.limits.now.roles trusted.now end) (map string_bytes cycle.now.wanted.now)) }
+    ensures { let r = request_of cycle.now in IfOk result (λ all. all.items
+        ≡ map (spec.searched (file_in cycle.now.round.repo.now.metadata) r.moment r.limit
+        trusted.now end) r.wanted) }
 {
-    let mut all = Vec::with_capacity(cycle.alloc, cycle.wanted.len())?;
-    let mut searcher = Searcher::new(cycle.alloc, trusted, cycle.repo, cycle.moment);
-    for path in cycle.wanted {
-        all.push(search_path(&mut searcher, cycle.limits, end, path.as_str(), judge)?)?;
+    let Round { repo, now, wanted } = cycle.round;
+    let mut all = Vec::with_capacity(cycle.alloc, wanted.len())?;
+    let mut searcher = Searcher::new(cycle.alloc, trusted, repo, now);
+    for path in wanted {
+        all.push(search_path(&mut searcher, &cycle.limits, end, path.as_str(), judge)?)?;
     }
     Ok(all)
 }

@@ -75,7 +75,7 @@ same_digest (Some d) false digest h = absurd (cc)
 both : {a b c d : Bool} → a ≡ b → c ≡ d → (a || c) ≡ (b || d)
 both {a} {b} {c} {d} p q = ap (λ x. x || c) p ∙ ap (λ y. b || y) q
 
--- a measure that was taken as far as the target needs it tells what the bytes tell
+-- a measure that was taken as far as the target needs it passes the checks that the bytes pass
 pub measured_is : (need : Need) (bytes : List ℕ) (t : Target) → covers need t ≡ true
     → measured_content t (measure_of need bytes) ≡ content None (Some t.length) (Some t.hashes) bytes
 measured_is need bytes t covered =

@@ -1,4 +1,4 @@
-//! A course that is ended by the target files of a folder.
+//! The end of a course, by the target files of a folder.
 
 ghost use Rattle.std.specs.Prelude.{◌≡◌, ◌≤◌, ◌⊎◌, true, All, IfErr, IfOk, map, string_bytes};
 ghost use Rattle.folder.specs.Folders.{HasFailed};
@@ -20,8 +20,8 @@ use std::thread::Threads;
 /// byte. No other file is opened. At most `threads` files are digested at once, or one at a time if
 /// it is 0.
 ///
-/// The outcome is that of all target files with these names that begin with the bytes which were
-/// read, whatever else they have. Fails if the folder does, or if out of memory.
+/// Returns the outcome for all target files with these names that begin with the bytes that were
+/// read, whatever follows them. Fails if the folder fails, or if out of memory.
 pub fn close<R: Threads + Sync, F: Folder + Sync>(
     rt: &R,
     alloc: Global,

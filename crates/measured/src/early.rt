@@ -1,4 +1,4 @@
-//! Files that several threads measure beside one another.
+//! Measures of files by several threads at once.
 
 ghost use Rattle.std.specs.Prelude.{◌≡◌, ◌<◌, ℕ, List, Bool, All, IfSome, string_bytes};
 ghost use Rattle.folder.specs.Measures.{IsMeasureOf};
@@ -9,7 +9,7 @@ use folder::{Folder, Measure, Need};
 use std::alloc::{AllocError, Global};
 use std::thread::{self, Threads};
 
-/// A file, what is needed of it, and its measure once a thread has found it.
+/// A file's name, what is needed of the file, and its measure once a thread has taken it.
 #[derive(Drop)]
 pub struct Job {
     pub name: String,
@@ -17,8 +17,8 @@ pub struct Job {
     pub measure: Option<Measure>,
 }
 
-/// Measures the files that are wanted, by at most so many threads. A file that a thread can't
-/// measure stays as it was.
+/// Measures the wanted files, by at most `threads` threads. What is known of a file is unchanged if
+/// its thread can't measure it. Fails only if out of memory.
 pub(crate) fn read_early<R: Threads + Sync, F: Folder + Sync>(
     rt: &R,
     alloc: Global,
@@ -35,7 +35,7 @@ pub(crate) fn read_early<R: Threads + Sync, F: Folder + Sync>(
     keep_all(jobs, known)
 }
 
-/// A job for each file that is wanted.
+/// Returns a job for each wanted file. Fails only if out of memory.
 fn jobs_of(alloc: Global, known: &Known) -> Result<Vec<Job>, AllocError> {
     let mut jobs = Vec::new(alloc);
     for (name, entry) in &known.files {
@@ -77,7 +77,7 @@ fn measure_job<F: Folder>(alloc: Global, folder: &F, job: &mut Job)
     job.measure = folder.measure_shared(alloc, job.name.as_str(), job.need);
 }
 
-/// Keeps all measures that were found.
+/// Stores all measures that were taken.
 fn keep_all(jobs: Vec<Job>, known: &mut Known) -> Result<(), AllocError>
     ensures known { (names : List (List ℕ)) (holds : List ℕ → List ℕ → Bool)
         (found : List ℕ → Bool) → All (λ j. IfSome j.measure
@@ -90,7 +90,7 @@ fn keep_all(jobs: Vec<Job>, known: &mut Known) -> Result<(), AllocError>
     Ok(())
 }
 
-/// Keeps a measure that was found of a file that is wanted.
+/// Stores the measure of a wanted file, if it was taken.
 fn keep(job: Job, known: &mut Known) -> Result<(), AllocError>
     ensures known { (names : List (List ℕ)) (holds : List ℕ → List ℕ → Bool)
         (found : List ℕ → Bool)

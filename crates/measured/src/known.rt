@@ -1,4 +1,4 @@
-//! What is known of the files of a folder.
+//! The names of a folder's files, and the measures taken so far.
 
 ghost use Rattle.std.specs.Prelude.{◌≡◌, ◌∷◌, [], ℕ, List, Bool, Some, IfOk, OnOk, OnErr};
 ghost use Rattle.std.specs.Prelude.{find, is_some, map, option_map, string_bytes};
@@ -13,20 +13,20 @@ use meta::names::digest_name;
 use std::alloc::{AllocError, Global};
 use std::collections::BTreeMap;
 
-/// What is needed of a file, and its measure once it was read.
+/// What is needed of a file, and its measure once the file was read.
 #[derive(Clone, Copy)]
 pub struct Wanted {
     pub need: Need,
     pub measure: Option<Measure>,
 }
 
-/// The names of the files, and what is known of those that are wanted.
+/// The names of the files, each with what is known of the file if it is wanted.
 #[derive(Drop)]
 pub struct Known {
     pub files: BTreeMap<String, Option<Wanted>>,
 }
 
-/// The names, of which none is wanted yet.
+/// Returns these names, with no file wanted yet. Fails only if out of memory.
 pub(crate) fn named(alloc: Global, names: Vec<String>) -> Result<Known, AllocError>
     ensures { IfOk result (λ k. (holds : List ℕ → List ℕ → Bool) (found : List ℕ → Bool)
         → IsKnown (map string_bytes names.items) holds found k) }
@@ -40,7 +40,7 @@ pub(crate) fn named(alloc: Global, names: Vec<String>) -> Result<Known, AllocErr
     Ok(known)
 }
 
-/// Stores the value under the name.
+/// Stores the value under the name. Fails only if out of memory.
 #[tactic(auto, using(std::proofs::lemmas::Map::Text::text_keys))]
 pub(crate) fn put(known: &mut Known, name: String, value: Option<Wanted>) -> Result<(), AllocError>
     ensures put { OnOk result (Puts (string_bytes name) value known.old known.new) }
@@ -50,15 +50,16 @@ pub(crate) fn put(known: &mut Known, name: String, value: Option<Wanted>) -> Res
     Ok(())
 }
 
-/// What is known of the file of that name, if it is there.
+/// Returns what is known of the file of that name, if there is such a file.
 pub(crate) fn entry_of(known: &Known, name: &str) -> Option<Option<Wanted>>
     ensures { result ≡ get_by_text known.now.files name.now }
 {
     Some(*known.files.get(name)?)
 }
 
-/// The first of the target's names that is there: its path, or under consistent snapshots the names
-/// under its sha256 and its sha512 digest, each where it is listed (TUF 1.0 section 5.7).
+/// Returns the first of the target's names that is there: its path, or under consistent snapshots
+/// the names under its sha256 and its sha512 digest, each if it is listed (TUF 1.0 section 5.7).
+/// Fails only if out of memory.
 pub(crate) fn place(
     alloc: Global,
     known: &Known,
@@ -85,7 +86,7 @@ pub(crate) fn place(
     Ok(if_there(known, name))
 }
 
-/// The name of the target's file under that digest.
+/// Returns the name of the target's file under that digest. Fails only if out of memory.
 fn name_under(alloc: Global, digest: &[u8], target: &Target) -> Result<String, AllocError>
     ensures { IfOk result (λ s. string_bytes s ∷ []
         ≡ hashed_name target.now.path (Some digest.now)) }

@@ -1,5 +1,5 @@
-//! The target files of a folder. Only those that a search found are read, each once, and none is
-//! held in memory.
+//! The check of target files in a folder. Only files that a search found are read, each once, in
+//! pieces.
 //!
 //! - [`close`] ends a course by the target files of a folder, which several threads may digest.
 #![tactic(auto)]

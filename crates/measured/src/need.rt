@@ -1,4 +1,4 @@
-//! What has to be read of a file to check a target.
+//! The part of a file that is read to check a target.
 
 ghost use Rattle.std.specs.Prelude.{◌≡◌};
 ghost use Rattle.measured.specs.Known as spec;
@@ -6,15 +6,15 @@ ghost use Rattle.measured.specs.Known as spec;
 use folder::Need;
 use meta::Target;
 
-/// Nothing is read.
+/// Nothing of the file.
 pub(crate) const NOTHING: Need = Need {
     up_to: 0,
     sha256: false,
     sha512: false,
 };
 
-/// Whether it is enough to check the target's length and digests. One byte more than the listed
-/// length tells that a file is too long.
+/// Returns whether this is enough to check the target's length and digests. It takes one byte more
+/// than the listed length to see that a file is too long.
 pub(crate) fn covers(need: Need, target: &Target) -> bool
     ensures { result ≡ spec.covers need target.now }
 {
@@ -24,7 +24,7 @@ pub(crate) fn covers(need: Need, target: &Target) -> bool
         && (hashes.sha512.is_none() || need.sha512)
 }
 
-/// Enough for one more target.
+/// Returns what is needed for one more target.
 pub(crate) fn widened(need: Need, target: &Target) -> Need
     ensures { result ≡ spec.widened need target.now }
 {

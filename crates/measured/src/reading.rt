@@ -1,4 +1,4 @@
-//! The files that searches found, each read once.
+//! The reading of the files that searches found, each once.
 
 ghost use Rattle.std.specs.Prelude.{◌≡◌, ◌≤◌, ◌⊎◌, true, false, ℕ, List, Bool, All, IfErr, OnOk};
 ghost use Rattle.std.specs.Prelude.{is_some, option_map, string_bytes};
@@ -17,7 +17,7 @@ use failure::Failure;
 use folder::{Folder, Need};
 use std::alloc::{AllocError, Global};
 
-/// The target that the search found.
+/// Returns the target that the search found.
 pub(crate) fn target_of(search: &Option<Search>) -> Option<&Target>
     ensures { option_map (λ t. t.now) result ≡ target_of search.now }
 {
@@ -27,7 +27,7 @@ pub(crate) fn target_of(search: &Option<Search>) -> Option<&Target>
     }
 }
 
-/// Notes what the searches need of each file that they found.
+/// Notes what the searches need of each file that they found. Fails only if out of memory.
 pub(crate) fn note_all(
     alloc: Global,
     searches: &[Option<Search>],
@@ -43,7 +43,7 @@ pub(crate) fn note_all(
     Ok(())
 }
 
-/// Notes what one search needs of the file that it found.
+/// Notes what one search needs of the file that it found. Fails only if out of memory.
 fn note(
     alloc: Global,
     search: &Option<Search>,
@@ -72,7 +72,7 @@ fn note(
     )
 }
 
-/// What has been needed of the file so far.
+/// Returns what has been needed of the file so far.
 fn need_of(entry: Option<Option<Wanted>>) -> Need
     ensures { (t : Target)
         → option_map_or (λ o. spec.is_measured o t) entry false ≡ true
@@ -84,7 +84,8 @@ fn need_of(entry: Option<Option<Wanted>>) -> Need
     }
 }
 
-/// Reads each file that a search found and that hasn't been read as far as it is needed.
+/// Reads each file that a search found, unless it was read as far as it is needed. Fails if the
+/// folder fails, or if out of memory.
 pub(crate) fn read_all<F: Folder>(
     alloc: Global,
     folder: &mut F,
@@ -109,7 +110,7 @@ pub(crate) fn read_all<F: Folder>(
     Ok(())
 }
 
-/// Reads the file that the search found.
+/// Reads the file that the search found, if it found one that is there.
 fn read<F: Folder>(
     alloc: Global,
     folder: &mut F,
@@ -138,7 +139,7 @@ fn read<F: Folder>(
     read_file(alloc, folder, name, target, known)
 }
 
-/// Reads the file of that name, which is there, as far as the target needs it.
+/// Reads the file of that name, which is there, unless it was read as far as the target needs it.
 fn read_file<F: Folder>(
     alloc: Global,
     folder: &mut F,
@@ -170,7 +171,7 @@ fn read_file<F: Folder>(
     Ok(())
 }
 
-/// Whether the file was measured as far as the target needs it.
+/// Returns whether the file was measured as far as the target needs it.
 fn is_measured(entry: Option<Option<Wanted>>, target: &Target) -> bool
     ensures { result ≡ option_map_or (λ o. spec.is_measured o target.now) entry false }
 {

@@ -10,7 +10,7 @@ use keys::Judge;
 use meta::{Fault, Stop, Target};
 use std::alloc::Global;
 
-/// Files by name, some of which were measured.
+/// The names of the files, with the measures that were taken.
 #[derive(Clone, Copy)]
 pub(crate) struct Measured<'a> {
     pub alloc: Global,
@@ -22,7 +22,7 @@ impl Store for Measured<'_> {
 
     ghost knows = { λ s consistent t. spec.knows s.known.now consistent t ≡ true };
 
-    /// Doesn't ask the judge, which would need the bytes.
+    /// Compares the measure. Doesn't use the judge, which would need the bytes.
     #[tactic(auto, using(crate::proofs::Checking::checked, crate::proofs::Checking::missing))]
     fn check<J: Judge>(
         &self,

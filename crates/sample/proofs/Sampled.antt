@@ -1,25 +1,22 @@
 -- What is printed of an outcome of the workflow.
 use Rattle.std.proofs.Common.{◌≡◌, Result, Ok, Err, IfOk, List, ℕ, Option, subst}
-use Rattle.examine.specs.Checks.{Files}
-use Rattle.cycle.specs.Workflow.{Outcome, workflow}
-use Rattle.update.specs.Runs.{IsTold, Start, outcome_of}
+use Rattle.cycle.specs.Workflow.{Outcome, Repository, Request, workflow}
+use Rattle.update.specs.Runs.{IsTold}
 use Rattle.sample.specs.Sampled.{IsSampled}
 
 -- the lines and the status of an outcome of the workflow
-pub sampled : {E : Type 0} (start : Start) (metadata targets : Files) (o : Outcome) (wanted : List (List ℕ)) (old new : Option (List ℕ)) (r : Result ℕ E)
-    → start.wanted ≡ wanted
-    → o ≡ workflow metadata targets start.moment start.trusted start.wanted start.limit
-    → IfOk r (λ status. IsTold o wanted status old new)
-    → IfOk r (λ status. IsSampled wanted status old new)
-unfolding outcome_of
-sampled start metadata targets o wanted old new (Ok status) paths is told = record {
-  start = start;
-  metadata = metadata;
-  targets = targets;
+pub sampled : {E : Type 0} (r : Request) (repo : Repository) (o : Outcome) (wanted : List (List ℕ)) (old new : Option (List ℕ)) (status : Result ℕ E)
+    → r.wanted ≡ wanted
+    → o ≡ workflow r repo
+    → IfOk status (λ status. IsTold o wanted status old new)
+    → IfOk status (λ status. IsSampled wanted status old new)
+sampled r repo o wanted old new (Ok status) paths is told = record {
+  request = r;
+  repo = repo;
   of_paths = paths;
   told = subst (λ o. IsTold o wanted status old new) is told;
 }
-sampled start metadata targets o wanted old new (Err e) paths is told = tt
+sampled r repo o wanted old new (Err e) paths is told = tt
 
 -- the wanted paths by another name
 pub renamed : {E : Type 0} (wanted other : List (List ℕ)) (old new : Option (List ℕ)) (r : Result ℕ E) → wanted ≡ other

@@ -12,10 +12,15 @@ use std::time::SystemTime;
 
 /// The files and the clock of the operating system, and the file that this run has locked. Any
 /// bytes may be read and any time shown, since others write and set them too.
-#[derive(Drop)]
 pub struct Machine<'a, R: Files> {
     rt: &'a R,
     locked: Option<R::File>,
+}
+
+impl<'a, R: Files> Drop for Machine<'a, R> {
+    fn drop(self) {
+        let Machine { rt, locked } = self;
+    }
 }
 
 impl<'a, R: Files> Machine<'a, R> {

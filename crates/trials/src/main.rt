@@ -11,7 +11,7 @@
 mod rows;
 
 use rows::run_rows;
-use shell::run_sessions;
+use command_cases::run_sessions;
 use std::process::ExitCode;
 
 fn main(rt: HostRuntime) -> ExitCode {

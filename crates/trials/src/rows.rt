@@ -45,11 +45,11 @@ fn perform<F: Files + AllocGlobal + Clone + Drop, T: Threads + Wait + Sync>(
     alloc: Global,
     step: &Step,
 ) -> Result<Told> {
-    if let Some(printed) = vectors::Layers::new(files, alloc).printed(step)? {
+    if let Some(printed) = file_rows::Layers::new(files, alloc).printed(step)? {
         return Ok(Told::printed(alloc, printed));
     }
-    if let Some(printed) = outcomes::Layers::new(files, alloc).printed(step)? {
+    if let Some(printed) = cycle_rows::Layers::new(files, alloc).printed(step)? {
         return Ok(Told::printed(alloc, printed));
     }
-    schedules::perform(files, threads, alloc, step)
+    thread_rows::perform(files, threads, alloc, step)
 }

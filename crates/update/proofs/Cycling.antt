@@ -4,7 +4,7 @@ use Rattle.std.specs.Bool.{⊤}
 use Rattle.std.specs.List.{AllZip}
 use Rattle.examine.specs.Checks.{file_in}
 use Rattle.update.specs.Cycles.{AreOutcomesIn, AreOutcomesOn, AreStored, Contents, MayGive, after, from_state, last_state}
-use Rattle.update.specs.Runs.{AreMetadata, MayBeSeen, IsOutcomeIn, IsOutcomeOn, Loaded, Outcome, Start, State, state_text}
+use Rattle.update.specs.Runs.{AreMetadata, MayBeSeen, IsOutcomeIn, IsOutcomeOn, Loaded, Outcome, Request, State, state_text}
 use Rattle.update.specs.Same.{IsSame}
 use Rattle.update.specs.World.{Mirror}
 
@@ -18,21 +18,21 @@ all_zip_push R (a ∷ xs) (b ∷ ys) x y h r = (h.0, all_zip_push R xs ys x y h.
 
 -- ---- one cycle more
 
-last_more : (s : Start) (os : List Outcome) (o : Outcome) → last_state s (os ++ o ∷ []) ≡ o.trusted
+last_more : (s : Request) (os : List Outcome) (o : Outcome) → last_state s (os ++ o ∷ []) ≡ o.trusted
 last_more s [] o = refl
 last_more s (p ∷ os) o = last_more (after s p) os o
 
-pub state_more : (s : Start) (os all : List Outcome) (o : Outcome) (later : State) → later ≡ o.trusted → all ≡ os ++ o ∷ [] → later ≡ last_state s all
+pub state_more : (s : Request) (os all : List Outcome) (o : Outcome) (later : State) → later ≡ o.trusted → all ≡ os ++ o ∷ [] → later ≡ last_state s all
 state_more s os all o later is all_is = is ∙ sym (last_more s os o) ∙ sym (ap (last_state s) all_is)
 
-outcomes_more : (s : Start) (cs : List Contents) (os : List Outcome) (c : Contents) (o : Outcome) → AreOutcomesIn s cs os → IsOutcomeIn (from_state s (last_state s os)) (file_in c.metadata) c.targets o
+outcomes_more : (s : Request) (cs : List Contents) (os : List Outcome) (c : Contents) (o : Outcome) → AreOutcomesIn s cs os → IsOutcomeIn (from_state s (last_state s os)) (file_in c.metadata) c.targets o
     → AreOutcomesIn s (cs ++ c ∷ []) (os ++ o ∷ [])
 outcomes_more s [] [] c o h one = (one, tt)
 outcomes_more s [] (p ∷ os) c o h one = absurd h
 outcomes_more s (n ∷ cs) [] c o h one = absurd h
 outcomes_more s (n ∷ cs) (p ∷ os) c o h one = (h.0, outcomes_more (after s p) cs os c o h.1 one)
 
-pub cycle_more : (s : Start) (ms : List Mirror) (m : Mirror) (os all : List Outcome) (o : Outcome) (now : State) (metadata : Loaded)
+pub cycle_more : (s : Request) (ms : List Mirror) (m : Mirror) (os all : List Outcome) (o : Outcome) (now : State) (metadata : Loaded)
     → AreOutcomesOn ms s os → now ≡ last_state s os → AreMetadata m.metadata.lists m.metadata.holds metadata
     → IsOutcomeOn m.targets.lists m.targets.holds (from_state s now) (file_in metadata) o → all ≡ os ++ o ∷ []
     → AreOutcomesOn (ms ++ m ∷ []) s all
@@ -47,12 +47,12 @@ cycle_more s ms m os all o now metadata before state loaded is all_is =
 pub counted_more : {A B : Type 0} (xs : List A) (ys : List B) (x : A) (y : B) → length xs ≡ length ys → length (xs ++ x ∷ []) ≡ length (ys ++ y ∷ [])
 counted_more xs ys x y is = length-append xs (x ∷ []) ∙ ap (λ n. n + 1) is ∙ sym (length-append ys (y ∷ []))
 
-pub none_yet : (s : Start) (os : List Outcome) → os ≡ [] → AreOutcomesOn [] s os
+pub none_yet : (s : Request) (os : List Outcome) → os ≡ [] → AreOutcomesOn [] s os
 none_yet s os is = subst (AreOutcomesOn [] s) (sym is) (record { contents = []; given = tt; of_workflow = tt })
 
 -- ---- the state after the cycles
 
-module _ (ms : List Mirror) (start : Start) (keeps : List ℕ → Bool) (os : List Outcome) where
+module _ (ms : List Mirror) (start : Request) (keeps : List ℕ → Bool) (os : List Outcome) where
   -- it is stored, and more holds of the outcomes
   pub replayed : (P : List Outcome → Type 0) → AreOutcomesOn ms start os → keeps (state_text (last_state start os)) ≡ true → P os
       → AreStored ms start keeps P
@@ -87,5 +87,5 @@ all_given_before (m ∷ ms) [] cs h k = absurd h
 all_given_before (m ∷ ms) (n ∷ ns) [] h k = absurd k
 all_given_before (m ∷ ms) (n ∷ ns) (c ∷ cs) h k = (given_before m n c h.0 k.0, all_given_before ms ns cs h.1 k.1)
 
-pub outcomes_before : (ms ns : List Mirror) (s : Start) (os : List Outcome) → AllZip IsSame ms ns → AreOutcomesOn ns s os → AreOutcomesOn ms s os
+pub outcomes_before : (ms ns : List Mirror) (s : Request) (os : List Outcome) → AllZip IsSame ms ns → AreOutcomesOn ns s os → AreOutcomesOn ms s os
 outcomes_before ms ns s os same are = record { contents = are.contents; given = all_given_before ms ns are.contents same are.given; of_workflow = are.of_workflow }

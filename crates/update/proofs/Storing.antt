@@ -3,7 +3,7 @@ use Rattle.std.proofs.Common.{◌≡◌, ◌∙◌, ap, Result, Ok, Err, IfOk, I
 use Rattle.cycle.specs.Workflow.{Course, Files, Outcome, closed_course, course}
 use Rattle.measured.specs.Closed.{IsClosed, is_found}
 use Rattle.cycle.proofs.Looking.{same_course}
-use Rattle.update.specs.Runs.{IsOutcomeOn, Start, outcome_of}
+use Rattle.update.specs.Runs.{IsOutcomeOn, Request}
 
 -- what holds anyway holds after an answer, and after a failure
 pub after_answer : {A E : Type 0} {P : Type 0} (r : Result A E) → P → OnOk r P
@@ -15,28 +15,27 @@ after_failure (Ok x) p = tt
 after_failure (Err e) p = p
 
 -- the outcome of a closed course, where its parts have other names
-pub closed_outcome : {E : Type 0} (lists : List (List ℕ) → Bool) (holds : List ℕ → List ℕ → Bool) (s : Start) (metadata : Files) (most : ℕ) (c : Course) (r : Result Outcome E)
-    → c ≡ course metadata s.moment s.trusted s.wanted most → most ≡ s.limit
+pub closed_outcome : {E : Type 0} (lists : List (List ℕ) → Bool) (holds : List ℕ → List ℕ → Bool) (s : Request) (metadata : Files) (most : ℕ) (c : Course) (r : Result Outcome E)
+    → c ≡ course (record s { limit = most }) metadata → most ≡ s.limit
     → IfOk r (IsClosed lists holds c) → IfOk r (IsOutcomeOn lists holds s metadata)
-unfolding outcome_of
 closed_outcome lists holds s metadata most c (Ok o) is limit h = record {
   targets = h.seen;
   may_be_seen = h.may_be_seen;
   of_files = record {
-    outcome = λ whole files alike are. h.outcome files are ∙ ap (closed_course files)
-        (same ∙ sym (same_course whole metadata s.moment s.trusted s.wanted s.limit alike));
+    outcome = λ repo alike are. h.outcome repo.targets are ∙ ap (closed_course repo.targets)
+        (same ∙ sym (same_course repo.metadata metadata s alike));
     only_found = subst (λ k. (name : List ℕ) → IfSome (h.seen.read name) (λ _. is_found k.trusted.root.reading.consistent k.searches name ≡ true)) same h.found;
     files = h.files;
     are_seen = h.are_seen;
   };
 }
   where
-    same : c ≡ course metadata s.moment s.trusted s.wanted s.limit
-    same = is ∙ ap (course metadata s.moment s.trusted s.wanted) limit
+    same : c ≡ course s metadata
+    same = is ∙ ap (λ n. course (record s { limit = n }) metadata) limit
 closed_outcome lists holds s metadata most c (Err e) is limit h = tt
 
 -- the folder's meaning by another name
-pub outcome_on : (lists lists' : List (List ℕ) → Bool) (holds holds' : List ℕ → List ℕ → Bool) (s : Start) (metadata : Files) (o : Outcome)
+pub outcome_on : (lists lists' : List (List ℕ) → Bool) (holds holds' : List ℕ → List ℕ → Bool) (s : Request) (metadata : Files) (o : Outcome)
     → lists ≡ lists' → holds ≡ holds' → IsOutcomeOn lists holds s metadata o → IsOutcomeOn lists' holds' s metadata o
 outcome_on lists lists' holds holds' s metadata o same_lists same_bytes is =
     subst (λ h. IsOutcomeOn lists' h s metadata o) same_bytes

@@ -5,7 +5,7 @@ use Rattle.std.specs.Io.KnownBytes.{Appends}
 use Rattle.std.specs.Prelude.{◌≡◌, ◌⊎◌, ℕ, List, Bool, true, Option, map, string_bytes, [], ◌∷◌}
 use Rattle.examine.specs.Checks.{file_in}
 use Rattle.report.specs.Lines.{last_status, cycles_text}
-use Rattle.update.specs.Runs.{AreMetadata, Begins, IsOutcomeIn, IsUntouched, Loaded, MayBeSeen, Mirror, Outcome, Seen, Start, State, World, start_from, start_of, state_text}
+use Rattle.update.specs.Runs.{AreMetadata, Begins, IsOutcomeIn, IsUntouched, Loaded, MayBeSeen, Mirror, Outcome, Request, Seen, State, World, start_from, start_of, state_text}
 use Rattle.update.specs.declared.start.Terms.{Terms}
 use Rattle.update.specs.declared.start.Start as program
 
@@ -19,21 +19,21 @@ pub record MayGive (mirror : Mirror) (c : Contents) : Type 0 where
   pub metadata : AreMetadata mirror.metadata.lists mirror.metadata.holds c.metadata
   pub targets : MayBeSeen mirror.targets.lists mirror.targets.holds c.targets
 
--- the same start with another state
-abbrev pub from_state : Start → State → Start
+-- the same request from another state
+abbrev pub from_state : Request → State → Request
 from_state s trusted = record s { trusted = trusted }
 
 -- what the next cycle begins with
-abbrev pub after : Start → Outcome → Start
+abbrev pub after : Request → Outcome → Request
 after s o = from_state s o.trusted
 
 -- the state after the cycles
-abbrev pub last_state : Start → List Outcome → State
+abbrev pub last_state : Request → List Outcome → State
 last_state s [] = s.trusted
 last_state s (o ∷ os) = last_state (after s o) os
 
 -- the outcomes of the cycles, each from the state of the one before
-abbrev pub AreOutcomesIn : Start → List Contents → List Outcome → Type 0
+abbrev pub AreOutcomesIn : Request → List Contents → List Outcome → Type 0
 AreOutcomesIn s [] [] = Unit {0}
 AreOutcomesIn s [] (o ∷ os) = ⊥
 AreOutcomesIn s (c ∷ cs) [] = ⊥
@@ -41,7 +41,8 @@ AreOutcomesIn s (c ∷ cs) (o ∷ os) =
     IsOutcomeIn s (file_in c.metadata) c.targets o × AreOutcomesIn (after s o) cs os
 
 -- what was read of the repositories, and the outcomes of the cycles
-pub record AreOutcomesOn (mirrors : List Mirror) (start : Start) (os : List Outcome) : Type 0 where
+pub record AreOutcomesOn (mirrors : List Mirror) (start : Request) (os : List Outcome)
+    : Type 0 where
   pub contents : List Contents
   pub given : AllZip MayGive mirrors contents
   pub of_workflow : AreOutcomesIn start contents os
@@ -53,7 +54,7 @@ pub record AreTold (os : List Outcome) (wanted : List (List ℕ)) (status : ℕ)
   pub answered : status ≡ last_status os
 
 -- the outcomes of the cycles: the state after them is stored, and more holds of them
-pub record AreStored (mirrors : List Mirror) (start : Start) (keeps : List ℕ → Bool)
+pub record AreStored (mirrors : List Mirror) (start : Request) (keeps : List ℕ → Bool)
     (follows : List Outcome → Type 0) : Type 0 where
   pub outcomes : List Outcome
   pub of_cycles : AreOutcomesOn mirrors start outcomes

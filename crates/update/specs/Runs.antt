@@ -8,7 +8,7 @@ use Rattle.examine.specs.Checks.{file_in}
 use Rattle.rolechain.specs.Text.{state_of}
 use Rattle.rolechain.specs.Kept.{kept_of, kept_text}
 pub use Rattle.rolechain.specs.Advance.{State}
-pub use Rattle.cycle.specs.Workflow.{Files, Outcome, course, workflow}
+pub use Rattle.cycle.specs.Workflow.{Files, Outcome, Repository, Request, course, request, workflow}
 use Rattle.cycle.specs.Looked.{AreAlike, most_looked_at}
 use Rattle.folder.specs.Starts.{AreStarts}
 use Rattle.measured.specs.Closed.{is_found}
@@ -21,25 +21,13 @@ use Rattle.update.specs.declared.start.Start as program
 
 -- # What it begins with.
 
--- the trusted state, the moment, the wanted paths, and how many roles a search visits at most
-pub record Start : Type 0 where
-  pub trusted : State
-  pub moment : Moment
-  pub wanted : List (List ℕ)
-  pub limit : ℕ
+-- what a value of the program requests
+abbrev pub start_of : program.Start → Request
+start_of s = request s.trusted s.moment s.wanted.now s.limit
 
-abbrev pub start_at : State → Moment → List (List ℕ) → ℕ → Start
-start_at trusted moment wanted limit =
-    record { trusted = trusted; moment = moment; wanted = wanted; limit = limit }
-
--- what a value of the program stands for
-abbrev pub start_of : program.Start → Start
-start_of s = start_at s.trusted s.moment (map string_bytes s.wanted.now) s.limit
-
--- what the words say, with a state and a moment that were read
-abbrev pub start_from : Terms → State → Moment → Start
-start_from terms trusted moment =
-    start_at trusted moment (map string_bytes terms.wanted.items) terms.limit
+-- what the words request, with a state and a moment that were read
+abbrev pub start_from : Terms → State → Moment → Request
+start_from terms trusted moment = request trusted moment terms.wanted.items terms.limit
 
 -- the text of the moment, if the words have one
 abbrev pub moment_text : Terms → Option (List ℕ)
@@ -62,10 +50,6 @@ pub record Begins (terms : Terms) (old : World) (follows : State → Moment → 
 
 -- # Its outcome.
 
--- the workflow's outcome on these files of metadata and of targets
-unfoldable pub outcome_of : Start → Files → Files → Outcome
-outcome_of s metadata targets = workflow metadata targets s.moment s.trusted s.wanted s.limit
-
 -- what is read from a folder
 abbrev pub Loaded : Type 0
 Loaded = BTreeMap (String Global) (Vec ℕ Global)
@@ -76,17 +60,17 @@ abbrev pub AreMetadata : (List (List ℕ) → Bool) → (List ℕ → List ℕ �
 AreMetadata lists holds files = AreStarts (codes ".json") most_looked_at lists holds files
 
 -- the name is one of a target that a search found
-abbrev pub is_found_from : Start → Files → List ℕ → Bool
+abbrev pub is_found_from : Request → Files → List ℕ → Bool
 is_found_from s metadata name =
-    let c = course metadata s.moment s.trusted s.wanted s.limit in
+    let c = course s metadata in
     is_found c.trusted.root.reading.consistent c.searches name
 
 -- The outcome on all metadata files of which the same is looked at, and on all target files that
 -- are seen so. There are such target files, and none was read but of targets that searches found.
-pub record IsOutcomeIn (start : Start) (metadata : Files) (targets : Seen) (o : Outcome)
+pub record IsOutcomeIn (start : Request) (metadata : Files) (targets : Seen) (o : Outcome)
     : Type 0 where
-  pub outcome : (whole files : Files) → AreAlike whole metadata → AreSeen targets files
-      → o ≡ outcome_of start whole files
+  pub outcome : (repo : Repository) → AreAlike repo.metadata metadata
+      → AreSeen targets repo.targets → o ≡ workflow start repo
   pub only_found : (name : List ℕ) → IfSome (targets.read name)
       (λ _. is_found_from start metadata name ≡ true)
   pub files : Files
@@ -94,7 +78,7 @@ pub record IsOutcomeIn (start : Start) (metadata : Files) (targets : Seen) (o : 
 
 -- what was seen of the target files, and the outcome
 pub record IsOutcomeOn (lists : List (List ℕ) → Bool) (holds : List ℕ → List ℕ → Bool)
-    (start : Start) (metadata : Files) (o : Outcome) : Type 0 where
+    (start : Request) (metadata : Files) (o : Outcome) : Type 0 where
   pub targets : Seen
   pub may_be_seen : MayBeSeen lists holds targets
   pub of_files : IsOutcomeIn start metadata targets o
@@ -106,7 +90,7 @@ unfoldable pub state_text : State → List ℕ
 state_text s = kept_text (kept_of s)
 
 -- The outcome on the folders of a repository: its new state is stored, and more holds of it.
-pub record IsStoredOn (mirror : Mirror) (start : Start) (keeps : List ℕ → Bool)
+pub record IsStoredOn (mirror : Mirror) (start : Request) (keeps : List ℕ → Bool)
     (follows : Outcome → Type 0) : Type 0 where
   pub metadata : Loaded
   pub in_metadata : AreMetadata mirror.metadata.lists mirror.metadata.holds metadata
@@ -117,7 +101,7 @@ pub record IsStoredOn (mirror : Mirror) (start : Start) (keeps : List ℕ → Bo
   pub then : follows outcome
 
 -- the same on the only repository
-abbrev pub IsStored : List Mirror → Start → (List ℕ → Bool) → (Outcome → Type 0) → Type 0
+abbrev pub IsStored : List Mirror → Request → (List ℕ → Bool) → (Outcome → Type 0) → Type 0
 IsStored (m ∷ []) start keeps follows = IsStoredOn m start keeps follows
 IsStored _ start keeps follows = ⊥
 

@@ -1,4 +1,4 @@
-Hash bins: the role of a path is told by the first bits of its SHA-256. That of abc is ba7816bf.., that of the empty path e3b0c442.., and that of abd a52d159f.. .
+Hash bins: the first bits of a path's SHA-256 name its role. That of abc is ba7816bf.., that of the empty path e3b0c442.., and that of abd a52d159f.. .
 
 Eight bits, of which one bin is written.
   $ make
@@ -23,7 +23,7 @@ Eight bits, of which one bin is written.
   ok "abc" 3 "bin-ba"
   [1]
 
-Another number of bits tells another bin. The number has as many digits as that of the last bin.
+Another number of bits leads to another bin. The number has as many digits as that of the last bin.
   $ make
   > @one
   > key 5 5 4

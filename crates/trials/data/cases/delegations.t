@@ -85,7 +85,7 @@ After a terminating delegation nothing else is tried.
   no "p" NotFound
   [1]
 
-At most so many roles are visited as the limit says, the top-level role among them.
+No more roles are visited than the limit allows, the top-level role among them.
   $ make
   > @one
   > key 5 5 4
@@ -160,7 +160,7 @@ A terminating delegation to a role that was visited is skipped, and ends the sea
   no "p" NotFound
   [1]
 
-Roles are told in the order of their names, and not in that of the search.
+Roles are printed in the order of their names, and not in that of the search.
   $ make
   > @one
   > key 5 5 4

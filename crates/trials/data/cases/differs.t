@@ -1,4 +1,4 @@
-Most of what is written here is knowingly wrong, to show how a difference is told.
+Most of what is written here is knowingly wrong, to show how a difference is printed.
   $ put old
   > abc
   $ put new

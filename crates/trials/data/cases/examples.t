@@ -1,4 +1,4 @@
-The scripts of the folder examples, without their comments. What is told and stored is the same by any number of
+The scripts of the folder examples, without their comments. What is printed and stored is the same by any number of
 workers.
 
 first.script: the least repository.

@@ -1,4 +1,4 @@
-Without a word a sample repository is made and verified in memory.
+Without arguments a sample repository is made and verified in memory.
   $ tufcheck
   root 1
   end ready

@@ -126,7 +126,7 @@ Folders that aren't there, and one that is a file. No state is written.
   $ has new
   [1]
 
-A folder is read before the state is written, so of both the folder is told. A state that can't be written is told in
+A folder is read before the state is written, so of both the folder is reported. A state that can't be written is reported in
 place of all lines.
   $ tufcheck verify --state old --metadata none --targets targets --now 2026-01-01T00:00:00Z --out none/new
   ! tufcheck: folder

@@ -126,7 +126,7 @@ A path that is empty or isn't UTF-8 is a mistake. Nothing is verified or stored.
   $ has two
   [1]
 
-A file that can't be read is a failure of the system, and is told before the moment and the state.
+A file that can't be read is a system error, and is reported before the moment and the state.
   $ verify one two --paths-from none
   ! tufcheck: input
   [4]

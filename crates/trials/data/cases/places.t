@@ -10,17 +10,34 @@ Where a state is stored. It is written beside its place and moved there, so the 
   end ready
   ok "abc.txt" 3 "targets"
 
-Over another state, and nothing is left beside it.
+Over another state, which keeps its mode, and nothing is left beside it.
   $ copy old state
+  $ unlock state
+  $ mode state
+  700
   $ verify state state abc.txt
   root 1
   end ready
   ok "abc.txt" 3 "targets"
   $ same state good
+  $ mode state
+  700
   $ has state.1.new
   [1]
+  $ tufcheck replay --state state --now 2026-01-01T00:00:00Z --out state abc.txt .
+  cycle 1
+  root 1
+  end ready
+  ok "abc.txt" 3 "targets"
+  $ mode state
+  700
+  $ init state
+  root 1
+  $ same state old
+  $ mode state
+  700
 
-A file that stands beside it already stays as it is.
+A file that already has the temporary file's name stays unchanged.
   $ put new.1.new
   > mine
   $ copy new.1.new mine

@@ -152,7 +152,7 @@ One moment serves all.
   no "abc.txt" NotSearched
   [2]
 
-Where a folder can't be read, nothing is told of those before it, and no state is written.
+If a folder can't be read, nothing is printed of those before it, and no state is written.
   $ tufcheck replay --state first --now 2026-01-01T00:00:00Z --out none abc.txt same/one same/four
   ! tufcheck: folder
   [4]

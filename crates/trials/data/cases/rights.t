@@ -58,7 +58,7 @@ Of the folder of targets only the files are opened that a path leads to, once th
   $ copy good metadata/targets.json
   $ remove new
 
-The same for several repositories, one after another. Of none is anything told where one of them can't be read.
+The same for several repositories, one after another. Nothing is printed of any if one of them can't be read.
   $ tufcheck replay --state old --now 2026-01-01T00:00:00Z --out new d . .
   ! tufcheck: folder
   [4]

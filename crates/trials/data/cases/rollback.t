@@ -112,7 +112,7 @@ A lower listed targets file.
   $ keeps three
   root snapshot targets timestamp
 
-A name gone.
+A name that is no longer listed. The new state has the new timestamp, and the old snapshot.
   $ make
   > @keys
   > key 5 5 4
@@ -127,6 +127,10 @@ A name gone.
   $ verify one two
   root 1
   end ready
+  $ folder old
+  $ copy metadata/1.root.json old/root
+  $ copy metadata/snapshot.json old/snapshot
+  $ copy metadata/targets.json old/targets
   $ make
   > @keys
   > write targets 1 4
@@ -136,8 +140,8 @@ A name gone.
   root 1
   end snapshot Rollback
   [2]
-  $ keeps three
-  root snapshot targets timestamp
+  $ state right root=old/root snapshot=old/snapshot targets=old/targets timestamp=metadata/timestamp.json
+  $ same three right
 
 A snapshot replaced after an equal timestamp.
   $ make
@@ -270,7 +274,7 @@ An equal timestamp stays, and with it the moment at which it expires. The new on
   no "abc.txt" NotSearched
   [2]
 
-Of a snapshot's faults the first is told: the version, the rollback, the expiry.
+The first of a snapshot's faults is reported: the version, the rollback, the expiry.
   $ make
   > @wide
   > write root 1 1

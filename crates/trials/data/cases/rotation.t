@@ -1,12 +1,13 @@
-The same, where the second repository has other keys: what they were for is no longer trusted, and lower versions of it
-are let in.
+The same, where the second repository has other keys of timestamp or snapshot: the trusted timestamp and snapshot are
+dropped, and lower versions are accepted. Without another key each of them is refused (rollback.t): of the timestamp, of the
+snapshot that it lists, and of the targets file that the snapshot lists.
 
-A rotated timestamp key lets a lower version in.
+A rotated timestamp key: lower versions of all three are accepted.
   $ make
   > @keys
   > write root 1 1
-  > write targets 1 4
-  > write snapshot 1 3
+  > write targets 3 4
+  > write snapshot 5 3
   > write timestamp 9 2
   $ init one
   root 1
@@ -18,21 +19,21 @@ A rotated timestamp key lets a lower version in.
   > key 5 5 4
   > top timestamp 1 5
   > write root 2 1
-  > write targets 1 4
-  > write snapshot 1 3
-  > write timestamp 1 5
+  > write targets 2 4
+  > write snapshot 4 3
+  > write timestamp 8 5
   $ verify two three
   root 2
   end ready
-  $ keeps three
-  root snapshot targets timestamp
+  $ state right root=metadata/2.root.json snapshot=metadata/snapshot.json targets=metadata/targets.json timestamp=metadata/timestamp.json
+  $ same three right
 
-A snapshot key changed and changed back. That drops the trusted snapshot too, so a lower version of the targets file is let in.
+A snapshot key changed and changed back: lower versions of all three are accepted.
   $ make
   > @keys
   > write root 1 1
   > write targets 3 4
-  > write snapshot 1 3
+  > write snapshot 5 3
   > write timestamp 9 2
   $ init one
   root 1
@@ -47,15 +48,43 @@ A snapshot key changed and changed back. That drops the trusted snapshot too, so
   > top snapshot 1 3
   > write root 3 1
   > write targets 2 4
-  > write snapshot 1 3
-  > write timestamp 1 2
+  > write snapshot 4 3
+  > write timestamp 8 2
   $ verify two three
   root 3
   end ready
-  $ keeps three
-  root snapshot targets timestamp
+  $ state right root=metadata/3.root.json snapshot=metadata/snapshot.json targets=metadata/targets.json timestamp=metadata/timestamp.json
+  $ same three right
 
-Keys of W8 give way to keys of W4 in all roles. The trusted timestamp and snapshot are dropped, so lower versions of the timestamp and of the listed targets file are let in.
+The same of a timestamp key.
+  $ make
+  > @keys
+  > write root 1 1
+  > write targets 3 4
+  > write snapshot 5 3
+  > write timestamp 9 2
+  $ init one
+  root 1
+  $ verify one two
+  root 1
+  end ready
+  $ make
+  > @keys
+  > key 5 5 4
+  > top timestamp 1 5
+  > write root 2 1
+  > top timestamp 1 2
+  > write root 3 1
+  > write targets 2 4
+  > write snapshot 4 3
+  > write timestamp 8 2
+  $ verify two three
+  root 3
+  end ready
+  $ state right root=metadata/3.root.json snapshot=metadata/snapshot.json targets=metadata/targets.json timestamp=metadata/timestamp.json
+  $ same three right
+
+Keys of W4 in place of keys of W8 in all roles. The root is signed by both root keys, and lower versions of all three are accepted.
   $ make
   > key 1 5 8
   > key 2 5 8
@@ -67,7 +96,7 @@ Keys of W8 give way to keys of W4 in all roles. The trusted timestamp and snapsh
   > top targets 1 4
   > write root 1 1
   > write targets 3 4
-  > write snapshot 1 3
+  > write snapshot 5 3
   > write timestamp 9 2
   $ init one
   root 1
@@ -86,13 +115,13 @@ Keys of W8 give way to keys of W4 in all roles. The trusted timestamp and snapsh
   > top targets 1 8
   > write root 2 1,5
   > write targets 2 8
-  > write snapshot 1 7
-  > write timestamp 1 6
+  > write snapshot 4 7
+  > write timestamp 8 6
   $ verify two three
   root 2
   end ready
-  $ keeps three
-  root snapshot targets timestamp
+  $ state right root=metadata/2.root.json snapshot=metadata/snapshot.json targets=metadata/targets.json timestamp=metadata/timestamp.json
+  $ same three right
 
 Rotation after a fast forward.
   $ make

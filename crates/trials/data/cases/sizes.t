@@ -115,45 +115,56 @@ A cycle accepts 256 roots, and the next one goes on.
   root 258
   end ready
 
-A line of 300 roles, four of which list a path. The search visits 32 roles unless told otherwise, the top-level role among
-them, and 256 at most.
+A line of 300 roles, four of which list a path. The search visits 32 roles unless given another limit, the top-level role
+among them, and 256 at most. The roles are printed in the order of their names, which is that of the line: 255 are accepted
+at the most.
   $ make
   > @one
   > key 5 10
-  > delegate targets r1 1 5 go paths p,q,s,t
-  > @1..299 delegate r{} r{+} 1 5 go paths p,q,s,t
-  > target r31 p 31 sha256
-  > target r32 q 31 sha256
-  > target r255 s 31 sha256
-  > target r300 t 31 sha256
-  > @1..300 write r{} 1 5
+  > delegate targets r1001 1 5 go paths p,q,s,t
+  > @1001..1299 delegate r{} r{+} 1 5 go paths p,q,s,t
+  > target r1031 p 31 sha256
+  > target r1032 q 31 sha256
+  > target r1255 s 31 sha256
+  > target r1300 t 31 sha256
+  > @1001..1300 write r{} 1 5
   > @top
   $ init old
   root 1
   $ verify old new p
   root 1
   end ready
+  role "r1001" 1
   ...
-  ok "p" 1 "r31"
+  role "r1031" 1
+  ok "p" 1 "r1031"
   $ verify old new q
   root 1
   end ready
+  role "r1001" 1
   ...
+  role "r1031" 1
   no "q" LimitReached
   [1]
   $ verify old new --limit 33 q
   root 1
   end ready
+  role "r1001" 1
   ...
-  ok "q" 1 "r32"
+  role "r1032" 1
+  ok "q" 1 "r1032"
   $ verify old new --limit 256 s
   root 1
   end ready
+  role "r1001" 1
   ...
-  ok "s" 1 "r255"
-  $ verify old new --limit 256 t
+  role "r1255" 1
+  ok "s" 1 "r1255"
+  $ by 0,8 old new --limit 256 t
   root 1
   end ready
+  role "r1001" 1
   ...
+  role "r1255" 1
   no "t" LimitReached
   [1]

@@ -110,7 +110,7 @@ A root in a state has 512,000 bytes at most.
   $ has new
   [1]
 
-Another spelling is told before the folders are looked at.
+Another spelling is reported before the folders are looked at.
   $ put old
   $ remove targets
   $ verify old new abc.txt

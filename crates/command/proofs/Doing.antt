@@ -1,0 +1,60 @@
+-- What a subcommand does, from what its run does.
+use Rattle.std.proofs.Common.{◌≡◌, ◌≢◌, ◌⊎◌, inl, inr, ℕ, List, Option, Result, Ok, Err, IfOk, IfErr, [], ◌∷◌, length, subst, sym}
+use Rattle.failure.specs.declared.failure.Failure.{Failure}
+use Rattle.failure.specs.declared.failure.Failure.TheVariants.{Memory, Output}
+use Rattle.update.specs.Causes.{IsCauseToReplay, IsCauseToVerify}
+use Rattle.update.specs.Cycles.{IsReplayed}
+use Rattle.update.specs.First.{IsRefused, IsTrusted}
+use Rattle.update.specs.Runs.{IsVerified}
+use Rattle.update.specs.World.{IsUntouched, Mirror, World}
+use Rattle.update.specs.declared.start.Terms.{Terms}
+use Rattle.command.specs.Done.{IsCauseOfReplay, IsCauseOfVerify, IsFirst, IsReplayedOf, IsVerifiedOf, system_with}
+
+-- ---- a status
+
+pub first_of : (r : Result ℕ Failure) (root state : List ℕ) (old new : World) → IfOk r (λ status. (status ≡ 0) ⊎ (status ≡ 2))
+    → IfOk r (λ status. status ≡ 0 → IsTrusted root state old new) → IfOk r (λ status. status ≡ 2 → IsRefused root old new)
+    → IfOk r (IsFirst root state old new)
+first_of (Ok status) root state old new (inl zero) trusted refused = inl (zero, trusted zero)
+first_of (Ok status) root state old new (inr two) trusted refused = inr (two, refused two)
+first_of (Err f) root state old new either trusted refused = tt
+
+pub verified_of : (r : Result ℕ Failure) (terms : Terms) (m : Mirror) (ns : List Mirror) (old new : Option (List ℕ))
+    → IfOk r (IsVerified terms (system_with (m ∷ []) old) (system_with ns new)) → IfOk r (IsVerifiedOf terms old new)
+verified_of (Ok status) terms m ns old new is = record { mirror = m; then = is }
+verified_of (Err f) terms m ns old new is = tt
+
+pub replayed_of : (r : Result ℕ Failure) (terms : Terms) (count : ℕ) (ms ns : List Mirror) (old new : Option (List ℕ)) → length ms ≡ count
+    → IfOk r (IsReplayed terms (system_with ms old) (system_with ns new)) → IfOk r (IsReplayedOf terms count old new)
+replayed_of (Ok status) terms count ms ns old new each is = record { mirrors = ms; each = each; then = is }
+replayed_of (Err f) terms count ms ns old new each is = tt
+
+-- ---- a failure
+
+pub quiet_of : (r : Result ℕ Failure) (old new : World) → IfErr r (λ f. f ≢ Memory → f ≢ Output → IsUntouched old new)
+    → IfErr r (λ f. f ≢ Memory → f ≢ Output → new.printed ≡ old.printed)
+quiet_of (Ok status) old new is = tt
+quiet_of (Err f) old new is = λ memory output. (is memory output).1
+
+pub cause_of_verify : (r : Result ℕ Failure) (terms : Terms) (ms ns : List Mirror) (old : Option (List ℕ))
+    → IfErr r (IsCauseToVerify terms (system_with ms old) (system_with ns old)) → IfErr r (IsCauseOfVerify terms old)
+cause_of_verify (Ok status) terms ms ns old is = tt
+cause_of_verify (Err f) terms ms ns old is = record { before = ms; afterwards = ns; then = is }
+
+pub cause_of_replay : (r : Result ℕ Failure) (terms : Terms) (keep : ℕ) (ms ns : List Mirror) (old : Option (List ℕ))
+    → IfErr r (IsCauseToReplay terms keep (system_with ms old) (system_with ns old)) → IfErr r (IsCauseOfReplay terms keep old)
+cause_of_replay (Ok status) terms keep ms ns old is = tt
+cause_of_replay (Err f) terms keep ms ns old is = record { before = ms; afterwards = ns; then = is }
+
+pub verify_out_of_memory : (f : Failure) (terms : Terms) (old : Option (List ℕ)) → f ≡ Memory → IsCauseOfVerify terms old f
+verify_out_of_memory f terms old is = subst (IsCauseOfVerify terms old) (sym is) (record { before = []; afterwards = []; then = inl tt })
+
+pub replay_out_of_memory : (f : Failure) (terms : Terms) (keep : ℕ) (old : Option (List ℕ)) → f ≡ Memory → IsCauseOfReplay terms keep old f
+replay_out_of_memory f terms keep old is = subst (IsCauseOfReplay terms keep old) (sym is) (record { before = []; afterwards = []; then = inl tt })
+
+-- what is used of these for each run
+pub ruleset beginning = (first_of, quiet_of)
+
+pub ruleset verifying = (verified_of, quiet_of, cause_of_verify)
+
+pub ruleset replaying = (replayed_of, quiet_of, cause_of_replay)

@@ -1,0 +1,5 @@
+use Rattle.command.proofs.Doing.{replay_out_of_memory}
+use Rattle.command.proofs.folders.replay_in.Goals as goal
+
+pub returns-in-Err-clause-cause : goal.returns-in-Err-clause-cause
+returns-in-Err-clause-cause g c = replay_out_of_memory c.from.result c.args.terms.now c.args.keep _ c.from.ensures

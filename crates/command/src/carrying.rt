@@ -1,0 +1,112 @@
+//! Carrying out a subcommand.
+
+ghost use Rattle.std.specs.Prelude.{◌≡◌, ◌≢◌, ◌≤◌, [], IfErr, IfOk, option_map};
+ghost use Rattle.command.specs.Done.{IsCause, IsDone, IsFirst, system_with};
+ghost use Rattle.update.specs.Causes.{IsCauseOfFirst};
+ghost use Rattle.update.specs.Shown.{IsCauseToShow, IsShown};
+
+use crate::folders::{replay_in, verify_in};
+use crate::making::make;
+use crate::subcommand::Subcommand;
+use failure::Failure;
+use std::alloc::Global;
+use std::io::Write;
+use std::sync::Wait;
+use std::thread::Threads;
+use system::Machine;
+use update::Host;
+
+/// Carries out a subcommand on the file system, and returns its status: 0 if all wanted targets
+/// are accepted, 1 if one is refused or a file that is shown expires too soon, 2 if the update
+/// stopped or the root is refused. Prints the lines of the outcome to `out`, which is returned too.
+/// Fails as the run does that the subcommand names.
+pub fn carry_out<T: Threads + Wait + Sync, W: Write>(
+    rt: &HostRuntime,
+    threads: &T,
+    alloc: Global,
+    subcommand: &Subcommand<'_>,
+    out: W,
+) -> (Result<u8, Failure>, W)
+    ensures known { IfOk result.0 (λ status. status ≤ 2) }
+    ensures done { IfOk result.0 (IsDone subcommand.now
+        (W.contents out) (W.contents result.1)) }
+    ensures quiet { IfErr result.0 (λ f. f ≢ Failure.Memory → f ≢ Failure.Output
+        → W.contents result.1 ≡ W.contents out) }
+    ensures cause { IfErr result.0 (IsCause subcommand.now (W.contents out)) }
+{
+    match subcommand {
+        Subcommand::Init { root, state } => init(rt, alloc, root, state, out),
+        Subcommand::Verify {
+            terms,
+            metadata,
+            targets,
+        } => verify_in(rt, threads, alloc, terms, metadata, targets, out),
+        Subcommand::Replay {
+            terms,
+            keep,
+            repositories,
+        } => replay_in(
+            rt,
+            threads,
+            alloc,
+            terms,
+            *keep,
+            repositories.as_slice(),
+            out,
+        ),
+        Subcommand::Show { state, before } => show(rt, alloc, state, *before, out),
+        Subcommand::Make { script, folder } => (make(rt, alloc, script, folder), out),
+    }
+}
+
+/// Trusts the root file of a path, and stores the state for a path.
+#[tactic(auto, using(crate::proofs::Doing::beginning))]
+fn init<W: Write>(
+    rt: &HostRuntime,
+    alloc: Global,
+    root: &str,
+    state: &str,
+    out: W,
+) -> (Result<u8, Failure>, W)
+    ensures known { IfOk result.0 (λ status. status ≤ 2) }
+    ensures first { IfOk result.0 (IsFirst root.now state.now
+        (system_with [] (W.contents out)) (system_with [] (W.contents result.1))) }
+    ensures quiet { IfErr result.0 (λ f. f ≢ Failure.Memory → f ≢ Failure.Output
+        → W.contents result.1 ≡ W.contents out) }
+    ensures cause { IfErr result.0
+        (IsCauseOfFirst root.now (system_with [] (W.contents out))) }
+{
+    let mut host = Host {
+        system: Machine::new(rt),
+        folders: (),
+        out,
+    };
+    let done = host.init(alloc, root, state);
+    (done, host.out)
+}
+
+/// Prints the trusted state of a path.
+#[tactic(auto, using(crate::proofs::Doing::quiet_of))]
+fn show<W: Write>(
+    rt: &HostRuntime,
+    alloc: Global,
+    state: &str,
+    before: Option<&str>,
+    out: W,
+) -> (Result<u8, Failure>, W)
+    ensures known { IfOk result.0 (λ status. status ≤ 1) }
+    ensures shown { IfOk result.0 (IsShown state.now (option_map (λ t. t.now) before.entry)
+        (system_with [] (W.contents out)) (system_with [] (W.contents result.1))) }
+    ensures quiet { IfErr result.0 (λ f. f ≢ Failure.Memory → f ≢ Failure.Output
+        → W.contents result.1 ≡ W.contents out) }
+    ensures cause { IfErr result.0 (IsCauseToShow state.now (option_map (λ t. t.now) before.entry)
+        (system_with [] (W.contents out))) }
+{
+    let mut host = Host {
+        system: Machine::new(rt),
+        folders: (),
+        out,
+    };
+    let done = host.show(alloc, state, before);
+    (done, host.out)
+}

@@ -1,0 +1,113 @@
+//! Repositories in folders of the file system.
+
+ghost use Rattle.std.specs.Prelude.{◌≡◌, ◌≢◌, ◌≤◌, IfErr, IfOk, length};
+ghost use Rattle.command.specs.Done.{IsReplayedOf, IsVerifiedOf, IsCauseOfVerify};
+ghost use Rattle.command.specs.Done.{IsCauseOfReplay};
+
+use failure::Failure;
+use folder::{Depth, Disk, path_below};
+use std::alloc::{AllocError, Global};
+use std::io::Write;
+use std::rt::Files;
+use std::sync::Wait;
+use std::thread::Threads;
+use system::Machine;
+use update::{Folders, Host, Terms};
+
+/// Verifies the repository in the folders `metadata` and `targets`.
+#[tactic(auto, using(crate::proofs::Doing::verifying))]
+pub fn verify_in<T: Threads + Wait + Sync, W: Write>(
+    rt: &HostRuntime,
+    threads: &T,
+    alloc: Global,
+    terms: &Terms<'_>,
+    metadata: &str,
+    targets: &str,
+    out: W,
+) -> (Result<u8, Failure>, W)
+    ensures known { IfOk result.0 (λ status. status ≤ 2) }
+    ensures verified { IfOk result.0 (IsVerifiedOf terms.now
+        (W.contents out) (W.contents result.1)) }
+    ensures quiet { IfErr result.0 (λ f. f ≢ Failure.Memory → f ≢ Failure.Output
+        → W.contents result.1 ≡ W.contents out) }
+    ensures cause { IfErr result.0 (IsCauseOfVerify terms.now (W.contents out)) }
+{
+    let folders = match two_folders(rt, alloc, metadata, targets) {
+        Ok(folders) => folders,
+        Err(error) => return (Err(Failure::from(error)), out),
+    };
+    let mut host = Host {
+        system: Machine::new(rt),
+        folders,
+        out,
+    };
+    let done = host.verify(threads, alloc, terms);
+    (done, host.out)
+}
+
+/// Returns the folders of these paths.
+fn two_folders<'a, R: Files>(
+    rt: &'a R,
+    alloc: Global,
+    metadata: &str,
+    targets: &str,
+) -> Result<Folders<Disk<'a, R>, Disk<'a, R>>, AllocError> {
+    let metadata = String::from_str(alloc, metadata)?;
+    let targets = String::from_str(alloc, targets)?;
+    Ok(folders_of(rt, metadata, targets))
+}
+
+/// Verifies the repositories, one after another.
+#[tactic(auto, using(crate::proofs::Doing::replaying))]
+pub fn replay_in<T: Threads + Wait + Sync, W: Write>(
+    rt: &HostRuntime,
+    threads: &T,
+    alloc: Global,
+    terms: &Terms<'_>,
+    keep: usize,
+    repositories: &[String],
+    out: W,
+) -> (Result<u8, Failure>, W)
+    ensures known { IfOk result.0 (λ status. status ≤ 2) }
+    ensures replayed { IfOk result.0 (IsReplayedOf terms.now (length repositories.now)
+        (W.contents out) (W.contents result.1)) }
+    ensures quiet { IfErr result.0 (λ f. f ≢ Failure.Memory → f ≢ Failure.Output
+        → W.contents result.1 ≡ W.contents out) }
+    ensures cause { IfErr result.0 (IsCauseOfReplay terms.now keep (W.contents out)) }
+{
+    let folders = match all_folders(rt, alloc, repositories) {
+        Ok(folders) => folders,
+        Err(error) => return (Err(Failure::from(error)), out),
+    };
+    let mut host = Host {
+        system: Machine::new(rt),
+        folders,
+        out,
+    };
+    let done = host.replay(threads, alloc, terms, keep);
+    (done, host.out)
+}
+
+/// Returns the two folders of each repository.
+fn all_folders<'a, R: Files + AllocGlobal>(
+    rt: &'a R,
+    alloc: Global,
+    repositories: &[String],
+) -> Result<Vec<Folders<Disk<'a, R>, Disk<'a, R>>>, AllocError>
+    ensures each { IfOk result (λ all. length all.items ≡ length repositories.now) }
+{
+    let mut all = Vec::new(alloc);
+    for repository in repositories {
+        let metadata = path_below(alloc, repository.as_str(), "metadata")?;
+        let targets = path_below(alloc, repository.as_str(), "targets")?;
+        all.push(folders_of(rt, metadata, targets))?;
+    }
+    Ok(all)
+}
+
+fn folders_of<R>(rt: &R, metadata: String, targets: String) -> Folders<Disk<'_, R>, Disk<'_, R>> {
+    Folders {
+        metadata: Disk::new(rt, metadata, Depth::Here),
+        targets: Disk::new(rt, targets, Depth::Below),
+    }
+}

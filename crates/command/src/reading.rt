@@ -1,0 +1,82 @@
+//! Subcommands, read from the command line.
+
+use crate::listed::push_listed;
+use crate::subcommand::Subcommand;
+use crate::terms::{all_of, number, terms, word};
+use clap::ArgMatches;
+use failure::Failure;
+use std::alloc::Global;
+use update::Terms;
+
+/// Returns the subcommand that the arguments name. Reads the file of `--paths-from`, if there is
+/// one. Fails with `Words` if an argument is missing, and as [`push_listed`] does.
+pub fn read_subcommand<'a>(
+    rt: &HostRuntime,
+    alloc: Global,
+    matches: &ArgMatches<'a>,
+) -> Result<Subcommand<'a>, Failure> {
+    let (name, words) = matches.subcommand().ok_or(Failure::Words)?;
+    match name {
+        "init" => init_of(words),
+        "make" => make_of(words),
+        "replay" => replay_of(rt, alloc, words),
+        "show" => show_of(words),
+        _ => verify_of(rt, alloc, words),
+    }
+}
+
+fn init_of<'a>(words: &ArgMatches<'a>) -> Result<Subcommand<'a>, Failure> {
+    Ok(Subcommand::Init {
+        root: word(words, "ROOT")?,
+        state: word(words, "out")?,
+    })
+}
+
+fn make_of<'a>(words: &ArgMatches<'a>) -> Result<Subcommand<'a>, Failure> {
+    Ok(Subcommand::Make {
+        script: word(words, "SCRIPT")?,
+        folder: word(words, "DIR")?,
+    })
+}
+
+fn show_of<'a>(words: &ArgMatches<'a>) -> Result<Subcommand<'a>, Failure> {
+    Ok(Subcommand::Show {
+        state: word(words, "STATE")?,
+        before: words.get_str("before"),
+    })
+}
+
+fn replay_of<'a>(
+    rt: &HostRuntime,
+    alloc: Global,
+    words: &ArgMatches<'a>,
+) -> Result<Subcommand<'a>, Failure> {
+    Ok(Subcommand::Replay {
+        terms: all_terms(rt, alloc, words)?,
+        keep: number(words, "keep")?,
+        repositories: all_of(alloc, words, "DIR")?,
+    })
+}
+
+fn verify_of<'a>(
+    rt: &HostRuntime,
+    alloc: Global,
+    words: &ArgMatches<'a>,
+) -> Result<Subcommand<'a>, Failure> {
+    Ok(Subcommand::Verify {
+        terms: all_terms(rt, alloc, words)?,
+        metadata: word(words, "metadata")?,
+        targets: word(words, "targets")?,
+    })
+}
+
+/// Returns what both `verify` and `replay` name, with the paths of the file of `--paths-from`.
+fn all_terms<'a>(
+    rt: &HostRuntime,
+    alloc: Global,
+    words: &ArgMatches<'a>,
+) -> Result<Terms<'a>, Failure> {
+    let mut terms = terms(alloc, words)?;
+    push_listed(rt, alloc, words, &mut terms.wanted)?;
+    Ok(terms)
+}

@@ -1,0 +1,47 @@
+//! The subcommands and their arguments.
+
+use update::Terms;
+
+/// A subcommand of the command line, with its arguments.
+#[derive(Drop)]
+pub enum Subcommand<'a> {
+    /// Trusts the root file of a path, and stores the state for a path.
+    Init {
+        /// The path of the root file.
+        root: &'a str,
+        /// The path of the state file.
+        state: &'a str,
+    },
+    /// Verifies the repository of two folders.
+    Verify {
+        /// What the arguments name, with the paths that a file lists.
+        terms: Terms<'a>,
+        /// The path of the folder of metadata files.
+        metadata: &'a str,
+        /// The path of the folder of target files.
+        targets: &'a str,
+    },
+    /// Verifies repositories, one after another.
+    Replay {
+        /// What the arguments name, with the paths that a file lists.
+        terms: Terms<'a>,
+        /// The number of files in the signature cache, 1 to 4,096.
+        keep: usize,
+        /// The path of each repository, with the folders `metadata` and `targets` in it.
+        repositories: Vec<String>,
+    },
+    /// Prints a trusted state.
+    Show {
+        /// The path of the state file.
+        state: &'a str,
+        /// The text of the moment before which a file expires too soon.
+        before: Option<&'a str>,
+    },
+    /// Makes a repository from a script.
+    Make {
+        /// The path of the script.
+        script: &'a str,
+        /// The path of the folder for the repository.
+        folder: &'a str,
+    },
+}

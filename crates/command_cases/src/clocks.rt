@@ -1,0 +1,238 @@
+//! Clocks that show one time, and folders that fail.
+
+ghost use Rattle.std.specs.Prelude.{◌≡◌, ◌≤◌, ◌<◌, ◌⊎◌, ◌^◌, ◌-◌, true, IsErr, OnErr};
+ghost use Rattle.folder.specs.Folders.{HasFailed};
+
+use crate::shell::{NOW, Shell};
+use anyhow::{Context, Result};
+use cycle::{Moment, Trusted};
+use failure::{Failure, tell_failure};
+use folder::{Depth, Disk, Folder, LoadFault};
+use sessions::{Step, Told};
+use std::alloc::Global;
+use std::rt::{Clock, Files};
+use std::sync::Wait;
+use std::thread::Threads;
+use std::time::Duration;
+use std::{fs, io};
+use system::{System, store, whole_seconds};
+use update::{Folders, Host, Start, moment};
+
+/// The files of a session beside a clock that shows one time since 1970, or that can't be read.
+#[derive(Clone, Copy, Drop)]
+struct Stopped<'a, R> {
+    rt: &'a R,
+    time: Option<Duration>,
+}
+
+impl<'a, R> Clock for Stopped<'a, R> {
+    fn monotonic(&self) -> io::Result<Duration> {
+        self.since_1970()
+    }
+
+    fn since_1970(&self) -> io::Result<Duration> {
+        match self.time {
+            Some(time) => Ok(time),
+            None => Err(io::Error::from(io::ErrorKind::Unsupported)),
+        }
+    }
+}
+
+impl<'a, R: Files + AllocGlobal> System for Stopped<'a, R> {
+    ghost gives = { λ _ _ _. true };
+
+    ghost gives_locked = { λ _ _ _. true };
+
+    ghost refuses = { λ _ _. true };
+
+    ghost locks = { λ _ _. true };
+
+    ghost keeps = { λ _ _ _. true };
+
+    ghost shows = { λ _ _. true };
+
+    fn read(&self, path: &str) -> io::Result<Vec<u8>> {
+        fs::read(self.rt, path)
+    }
+
+    fn read_locked(&mut self, path: &str) -> io::Result<Vec<u8>> {
+        fs::read(self.rt, path)
+    }
+
+    fn store(&mut self, path: &str, bytes: &[u8]) -> io::Result<()> {
+        store(self.rt, path, bytes)
+    }
+
+    fn seconds(&self) -> Option<u64> {
+        whole_seconds(self)
+    }
+}
+
+/// Returns the day and the second of a verification's moment: of the text, or without a text of a
+/// clock that shows these seconds and nanoseconds. `none` is a clock that can't be read.
+pub fn clock<T>(shell: &Shell<'_, T>, words: &[String]) -> Result<Told> {
+    let seconds = words.first().context("no seconds")?.as_str();
+    let time = if seconds == "none" {
+        None
+    } else {
+        let nanos = words.get(1).context("no nanoseconds")?.as_str();
+        Some(time_of(seconds.parse::<u64>()?, nanos.parse::<u64>()?))
+    };
+    let system = Stopped { rt: shell.rt, time };
+    match moment(&system, words.get(2).map(|text| text.as_str())) {
+        Ok(moment) => day_and_second(shell.alloc, moment),
+        Err(failure) => failed(shell.alloc, failure),
+    }
+}
+
+fn day_and_second(alloc: Global, moment: Moment) -> Result<Told> {
+    let (day, second) = (moment.day(), moment.second());
+    let text = format!(in alloc; "day {day}, second {second}\n")?;
+    Ok(Told::printed(alloc, text))
+}
+
+/// Returns the time of these seconds and nanoseconds.
+fn time_of(seconds: u64, nanos: u64) -> Duration {
+    Duration::from_secs(seconds).saturating_add(Duration::from_nanos(nanos))
+}
+
+/// Returns the line of a failure, with its status.
+fn failed(alloc: Global, failure: Failure) -> Result<Told> {
+    let mut told = Told::nothing(alloc);
+    tell_failure(failure, &mut told.err)?;
+    told.status = failure.status();
+    Ok(told)
+}
+
+/// A folder of the session. Some calls succeed, and all later ones fail.
+#[derive(Drop)]
+struct FailingFolder<'a> {
+    disk: Disk<'a, HostRuntime>,
+    calls: u64,
+    faults: u64,
+}
+
+impl<'a> FailingFolder<'a> {
+    /// Returns a folder whose first `calls` calls are those of the disk. All later ones fail.
+    fn after(disk: Disk<'a, HostRuntime>, calls: u64) -> FailingFolder<'a> {
+        FailingFolder {
+            disk,
+            calls,
+            faults: 0,
+        }
+    }
+
+    fn turn(&mut self) -> Result<(), LoadFault>
+        ensures failed { OnErr result (HasFailed self.old.faults self.new.faults) }
+        ensures counts { self.old.faults ≤ self.new.faults }
+    {
+        if self.calls == 0 {
+            return Err(self.counted(LoadFault::Folder));
+        }
+        self.calls -= 1;
+        Ok(())
+    }
+
+    /// Counts the fault and returns it.
+    fn counted(&mut self, fault: LoadFault) -> LoadFault
+        ensures failed { HasFailed self.old.faults self.new.faults }
+        ensures counts { self.old.faults ≤ self.new.faults }
+    {
+        self.faults = self.faults.saturating_add(1);
+        fault
+    }
+}
+
+impl<'a> Folder for FailingFolder<'a> {
+    ghost lists = { λ _ _. true };
+
+    ghost holds = { λ _ _ _. true };
+
+    ghost failures = { λ s. s.faults };
+
+    fn names(&mut self, alloc: Global) -> Result<Vec<String>, LoadFault> {
+        self.turn()?;
+        match self.disk.names(alloc) {
+            Ok(names) => Ok(names),
+            Err(fault) => Err(self.counted(fault)),
+        }
+    }
+
+    fn read(&mut self, alloc: Global, name: &str) -> Result<Vec<u8>, LoadFault> {
+        self.turn()?;
+        match self.disk.read(alloc, name) {
+            Ok(bytes) => Ok(bytes),
+            Err(fault) => Err(self.counted(fault)),
+        }
+    }
+
+    fn failed(&self) -> u64 {
+        self.faults
+    }
+}
+
+/// Verifies the folders `metadata` and `targets`, whose calls fail after given numbers of them, for
+/// the wanted paths from the root of version 1, and stores the state under the given name.
+pub fn failing<T: Threads + Wait + Sync>(shell: &Shell<'_, T>, step: &Step) -> Result<Told> {
+    let root = fs::read(shell.rt, "metadata/1.root.json")?;
+    let start = Start {
+        trusted: Trusted::from_root(shell.alloc, root.as_slice())?,
+        moment: Moment::read(NOW).context("no moment")?,
+        wanted: step.words_behind(3),
+        limit: 32,
+        workers: 2,
+        state: step.word(2)?,
+    };
+    verified(shell, &start, failing_folders(shell, step)?)
+}
+
+/// Returns the folders whose calls fail after the numbers that the step gives.
+fn failing_folders<'a, T>(
+    shell: &Shell<'a, T>,
+    step: &Step,
+) -> Result<Folders<FailingFolder<'a>, FailingFolder<'a>>> {
+    let metadata = String::from_str(shell.alloc, "metadata")?;
+    let targets = String::from_str(shell.alloc, "targets")?;
+    let metadata = Disk::new(shell.rt, metadata, Depth::Here);
+    let targets = Disk::new(shell.rt, targets, Depth::Below);
+    Ok(Folders {
+        metadata: FailingFolder::after(metadata, step.word(0)?.parse::<u64>()?),
+        targets: FailingFolder::after(targets, step.word(1)?.parse::<u64>()?),
+    })
+}
+
+/// Returns the lines and the status of a verification of these folders, or of its failure.
+fn verified<'a, T: Threads + Wait + Sync>(
+    shell: &Shell<'a, T>,
+    start: &Start<'_>,
+    folders: Folders<FailingFolder<'a>, FailingFolder<'a>>,
+) -> Result<Told> {
+    let mut told = Told::nothing(shell.alloc);
+    match verify(shell, start, folders, &mut told.out) {
+        Ok(status) => told.status = status,
+        Err(failure) => {
+            tell_failure(failure, &mut told.err)?;
+            told.status = failure.status();
+        }
+    }
+    Ok(told)
+}
+
+/// Verifies the folders, beside a clock that can't be read.
+fn verify<'a, T: Threads + Wait + Sync>(
+    shell: &Shell<'a, T>,
+    start: &Start<'_>,
+    folders: Folders<FailingFolder<'a>, FailingFolder<'a>>,
+    out: &mut Vec<u8>,
+) -> Result<u8, Failure> {
+    let system = Stopped {
+        rt: shell.rt,
+        time: None,
+    };
+    let mut host = Host {
+        system,
+        folders,
+        out,
+    };
+    host.verify_from(shell.threads, shell.alloc, start)
+}

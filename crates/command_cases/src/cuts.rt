@@ -1,0 +1,84 @@
+//! Verifications of a truncated file.
+
+use crate::shell::Shell;
+use crate::workers::by;
+use anyhow::{Result, ensure};
+use sessions::{Step, Told};
+use std::alloc::Global;
+use std::fs;
+use std::io::Write;
+use std::sync::Wait;
+use std::thread::Threads;
+
+/// An output, and the number of lengths that led to it.
+#[derive(Drop)]
+struct Answer {
+    told: Told,
+    lengths: u32,
+}
+
+/// Truncates a file at each multiple of a step below its length, and verifies each time by several
+/// numbers of workers. Returns each different output once, after the number of lengths that led to
+/// it. Then restores the file.
+pub fn cuts<T: Threads + Wait + Sync>(shell: &Shell<'_, T>, step: &Step) -> Result<Told> {
+    let size = step.word(0)?.parse::<usize>()?;
+    let name = step.word(1)?;
+    let whole = fs::read(shell.rt, name)?;
+    let answers = answers_of(shell, step, size, whole.as_slice())?;
+    fs::write(shell.rt, name, whole.as_slice())?;
+    all_told(shell.alloc, answers.as_slice())
+}
+
+/// Returns the outputs for the beginnings of a file, whose lengths are the multiples of a step.
+fn answers_of<T: Threads + Wait + Sync>(
+    shell: &Shell<'_, T>,
+    step: &Step,
+    size: usize,
+    whole: &[u8],
+) -> Result<Vec<Answer>> {
+    ensure!(size > 0, "no step");
+    let mut cut: Vec<u8> = Vec::new(shell.alloc);
+    let mut answers: Vec<Answer> = Vec::new(shell.alloc);
+    for part in whole.chunks(size) {
+        let told = verified(shell, step, cut.as_slice())?;
+        count(&mut answers, told)?;
+        cut.extend_from_slice(part)?;
+    }
+    Ok(answers)
+}
+
+/// Returns the output of a verification of the step's states if its file has these bytes, by each
+/// of its numbers of workers.
+fn verified<T: Threads + Wait + Sync>(
+    shell: &Shell<'_, T>,
+    step: &Step,
+    bytes: &[u8],
+) -> Result<Told> {
+    fs::write(shell.rt, step.word(1)?, bytes)?;
+    let (old, new) = (step.word(3)?, step.word(4)?);
+    by(shell, step.word(2)?, old, new, step.words_behind(5))
+}
+
+/// Counts one more length that led to this output.
+fn count(answers: &mut Vec<Answer>, told: Told) -> Result<()> {
+    for answer in answers.iter_mut() {
+        if answer.told.is(&told) {
+            answer.lengths = answer.lengths.saturating_add(1);
+            return Ok(());
+        }
+    }
+    answers.push(Answer { told, lengths: 1 })?;
+    Ok(())
+}
+
+/// Returns each output after the number of its lengths and its status.
+fn all_told(alloc: Global, answers: &[Answer]) -> Result<Told> {
+    let mut all = Told::nothing(alloc);
+    for answer in answers {
+        let (lengths, status) = (answer.lengths, answer.told.status);
+        writeln!(all.out, "{lengths} lengths, status {status}")?;
+        all.out.extend_from_slice(answer.told.out.as_slice())?;
+        all.err.extend_from_slice(answer.told.err.as_slice())?;
+    }
+    Ok(all)
+}

@@ -1,0 +1,18 @@
+//! Runs sessions of the command line, which `README.md` says how to write.
+//!
+//! [`run_sessions`] runs those of the folder `cases` and prints a line for each, with the steps
+//! whose output differs from the expected one.
+#![tactic(auto)]
+
+mod change;
+mod clocks;
+mod cuts;
+mod files;
+mod narrow;
+mod rights;
+mod run;
+mod session;
+mod shell;
+mod workers;
+
+pub use run::run_sessions;

@@ -1,0 +1,71 @@
+//! Outputs that fail.
+
+use crate::shell::Shell;
+use anyhow::Result;
+use command::command;
+use sessions::{Step, Told};
+use std::io::{self, ErrorKind, Write};
+use std::sync::Wait;
+use std::thread::Threads;
+
+/// A writer that takes a number of bytes, after which writes and flushes fail.
+#[derive(Drop)]
+struct Narrow {
+    room: usize,
+}
+
+impl Write for Narrow {
+    fn write(&mut self, bytes: &[u8]) -> io::Result<usize> {
+        self.flush()?;
+        let taken = self.room.min(bytes.len());
+        self.room -= taken;
+        Ok(taken)
+    }
+
+    fn flush(&mut self) -> io::Result<()> {
+        if self.room == 0 {
+            return Err(io::Error::from(ErrorKind::BrokenPipe));
+        }
+        Ok(())
+    }
+}
+
+/// Runs the command line with a standard output that takes a number of bytes.
+pub fn with_narrow_output<T: Threads + Wait + Sync>(
+    shell: &Shell<'_, T>,
+    step: &Step,
+) -> Result<Told> {
+    let mut out = Narrow {
+        room: step.word(0)?.parse::<usize>()?,
+    };
+    let mut told = Told::nothing(shell.alloc);
+    told.status = command(
+        shell.rt,
+        shell.threads,
+        shell.alloc,
+        step.words_behind(1),
+        &mut out,
+        &mut told.err,
+    );
+    Ok(told)
+}
+
+/// Runs the command line with a standard error that takes a number of bytes.
+pub fn with_narrow_error<T: Threads + Wait + Sync>(
+    shell: &Shell<'_, T>,
+    step: &Step,
+) -> Result<Told> {
+    let mut err = Narrow {
+        room: step.word(0)?.parse::<usize>()?,
+    };
+    let mut told = Told::nothing(shell.alloc);
+    told.status = command(
+        shell.rt,
+        shell.threads,
+        shell.alloc,
+        step.words_behind(1),
+        &mut told.out,
+        &mut err,
+    );
+    Ok(told)
+}

@@ -1,0 +1,80 @@
+//! Verifications by several numbers of workers.
+
+use crate::shell::{Shell, push_word, push_words};
+use anyhow::{Context, Result, bail};
+use sessions::{Step, Told};
+use std::fs;
+use std::sync::Wait;
+use std::thread::Threads;
+
+/// The output of a verification, and the state that is at its place afterwards, if there is one.
+#[derive(Drop)]
+struct Ran {
+    told: Told,
+    state: Option<Vec<u8>>,
+}
+
+impl Ran {
+    fn is(&self, other: &Ran) -> bool {
+        self.state == other.state && self.told.is(&other.told)
+    }
+}
+
+/// Verifies as the step says: from one state to another, with further arguments.
+pub fn verify<T: Threads + Wait + Sync>(shell: &Shell<'_, T>, step: &Step) -> Result<Told> {
+    shell.verify(step.word(0)?, step.word(1)?, step.words_behind(2))
+}
+
+/// Verifies as the step says by each of the numbers of workers that its first word lists.
+pub fn verify_by<T: Threads + Wait + Sync>(shell: &Shell<'_, T>, step: &Step) -> Result<Told> {
+    let (old, new) = (step.word(1)?, step.word(2)?);
+    by(shell, step.word(0)?, old, new, step.words_behind(3))
+}
+
+/// Verifies by each of the numbers of workers, which are separated by commas, and returns the
+/// output of the first run. Fails if another one prints or stores something else.
+pub fn by<T: Threads + Wait + Sync>(
+    shell: &Shell<'_, T>,
+    numbers: &str,
+    old: &str,
+    new: &str,
+    more: &[String],
+) -> Result<Told> {
+    let mut first: Option<Ran> = None;
+    for number in numbers.split(",") {
+        let next = verify_with(shell, number, old, new, more)?;
+        let Some(ran) = &first else {
+            first = Some(next);
+            continue;
+        };
+        if !ran.is(&next) {
+            bail!("{number} workers tell or store something else");
+        }
+    }
+    Ok(first.context("no number")?.told)
+}
+
+/// Verifies by that number of workers.
+fn verify_with<T: Threads + Wait + Sync>(
+    shell: &Shell<'_, T>,
+    number: &str,
+    old: &str,
+    new: &str,
+    more: &[String],
+) -> Result<Ran> {
+    let mut words = Vec::new(shell.alloc);
+    push_word(shell.alloc, &mut words, "--workers")?;
+    push_word(shell.alloc, &mut words, number)?;
+    push_words(&mut words, more)?;
+    let told = shell.verify(old, new, words.as_slice())?;
+    let state = state_at(shell.rt, new)?;
+    Ok(Ran { told, state })
+}
+
+/// Returns the state of that name, if there is one.
+fn state_at(rt: &HostRuntime, name: &str) -> Result<Option<Vec<u8>>> {
+    if !fs::exists(rt, name)? {
+        return Ok(None);
+    }
+    Ok(Some(fs::read(rt, name)?))
+}

@@ -1,5 +1,0 @@
-use Rattle.board.specs.Board.{IsFree}
-use Rattle.schedules.proofs.boards.won_of.Given as goal
-
-abbrev pub invariant-loop-j : goal.invariant-loop-j
-invariant-loop-j l = IsFree l.board l.seat

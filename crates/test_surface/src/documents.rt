@@ -1,0 +1,47 @@
+//! Canonical texts and documents.
+
+use cjson::{Canon, Doc, DocFault, Entry, canonical, signed_bytes};
+use serde_json::Value;
+use std::test::Fail;
+
+/// A file with an entry.
+const FILE: &[u8] =
+    b"{\"signatures\":[{\"keyid\":\"k\",\"sig\":\"00\"}],\"signed\":{ \"b\":1, \"a\":[] }}";
+
+/// The canonical text of what it signs.
+const SIGNED: &[u8] = b"{\"a\":[],\"b\":1}";
+
+#[test]
+fn documents(rt: HostRuntime) -> Result<(), Fail> {
+    let doc: Doc = signed_bytes(rt.alloc(), FILE)?;
+    let tree: &Value = doc.tree();
+    let bytes: &[u8] = doc.bytes();
+    let entries: &[Entry] = doc.entries();
+    let text: Result<Vec<u8>, Canon> = canonical(rt.alloc(), tree);
+    assert_eq!(rt; bytes, SIGNED);
+    assert_eq!(rt; text?.as_slice(), SIGNED);
+    assert_eq!(rt; entries.len(), 1);
+    assert_eq!(rt; entries[0].keyid.as_str(), "k");
+    assert_eq!(rt; entries[0].sig.as_str(), "00");
+    Ok(())
+}
+
+#[test]
+fn faults(rt: HostRuntime) -> Result<(), Fail> {
+    let rows = [
+        ("{", DocFault::NotJson),
+        ("[]", DocFault::NotObject),
+        (
+            "{\"signatures\":{},\"signed\":{\"a\":1.5}}",
+            DocFault::Float,
+        ),
+        ("{\"signatures\":{},\"signed\":{}}", DocFault::BadSignatures),
+    ];
+    for (file, fault) in rows {
+        let found = signed_bytes(rt.alloc(), file.as_bytes()).err();
+        assert_eq!(rt; found, Some(fault), "{file}");
+    }
+    let number = Value::from_str(rt.alloc(), "1.5")?;
+    assert_eq!(rt; canonical(rt.alloc(), &number).err(), Some(Canon::Float));
+    Ok(())
+}

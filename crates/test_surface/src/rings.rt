@@ -1,0 +1,88 @@
+//! Keys of a file, thresholds and judges.
+
+use cjson::{Canon, NoMemory, signed_bytes};
+use keys::{
+    Algorithm, Ask, DigestAsk, Direct, Judge, KeyRing, RoleKeys, SignatureAsk, enough, key_id,
+};
+use lms::{Height, Secret, Width};
+use serde_json::Value;
+use sha2::{Digest, Sha256};
+use std::test::Fail;
+
+#[test]
+fn rings_and_roles(rt: HostRuntime) -> Result<(), Fail> {
+    let alloc = rt.alloc();
+    let keys = Value::from_str(alloc, "{\"k\":{}}")?;
+    let ring: Result<Option<KeyRing>, NoMemory> = KeyRing::read(alloc, &keys);
+    let ring = ring?.ok_or("a ring")?;
+    let role = Value::from_str(alloc, "{\"keyids\":[\"k\"],\"threshold\":2}")?;
+    let role: Result<Option<RoleKeys>, NoMemory> = RoleKeys::read(alloc, &role);
+    let role = role?.ok_or("a role")?;
+    assert_eq!(rt; role.ids.as_slice().len(), 1);
+    assert_eq!(rt; role.threshold.get(), 2);
+    let doc = signed_bytes(alloc, b"{\"signatures\":[],\"signed\":{}}")?;
+    let is_met: Result<bool, NoMemory> = enough(
+        alloc,
+        &doc,
+        "root.json",
+        &ring,
+        &role,
+        &mut Direct,
+    );
+    assert!(rt; !is_met?);
+    Ok(())
+}
+
+/// What `printf {} | sha256sum` prints.
+#[test]
+fn ids(rt: HostRuntime) -> Result<(), Fail> {
+    let key = Value::from_str(rt.alloc(), "{}")?;
+    let id: Result<String, Canon> = key_id(rt.alloc(), &key);
+    assert_eq!(rt;
+        id?.as_str(),
+        "44136fa355b3678a1146ad16f7e8649e94fb4fc21fe77e8310c060f61caaff8a"
+    );
+    Ok(())
+}
+
+#[test]
+fn digests_are_judged(rt: HostRuntime) -> Result<(), Fail> {
+    let digest: [u8; 32] = Sha256::digest(b"abc");
+    for (bytes, is_so) in [(b"abc", true), (b"abd", false)] {
+        let ask = Ask::Digest(DigestAsk {
+            file: "abc.txt",
+            algorithm: Algorithm::Sha256,
+            bytes,
+            digest: &digest,
+        });
+        let valid: Result<bool, NoMemory> = Direct.valid(&ask);
+        assert_eq!(rt; valid?, is_so);
+        assert!(rt; ask.same(&ask));
+    }
+    Ok(())
+}
+
+#[test]
+fn signatures_are_judged(rt: HostRuntime) -> Result<(), Fail> {
+    let mut secret = Secret::of(rt.alloc(), [1; 16], [2; 32], Width::W4, Height::H5)?;
+    let public = secret.public();
+    let sig = hex::encode(rt.alloc(), secret.sign(b"abc")?)?;
+    let one = Ask::Signature(SignatureAsk {
+        file: "root.json",
+        place: 0,
+        public: &public,
+        message: b"abc",
+        sig: sig.as_str(),
+    });
+    let other = Ask::Signature(SignatureAsk {
+        file: "root.json",
+        place: 1,
+        public: &public,
+        message: b"abd",
+        sig: sig.as_str(),
+    });
+    assert!(rt; Direct.valid(&one)?);
+    assert!(rt; !Direct.valid(&other)?);
+    assert!(rt; !one.same(&other));
+    Ok(())
+}
