@@ -6,7 +6,7 @@ use cjson::{Doc, canonical, read_tree, signed_bytes};
 use lms::Height;
 use seals::{Signer, seal, secret};
 use serde_json::Value;
-use sessions::{Step, Told, script_of};
+use sessions::{Output, Step, script_of};
 use std::alloc::Global;
 use std::fs;
 use std::rt::Files;
@@ -15,7 +15,7 @@ use std::rt::Files;
 /// text, in which `...` matches as little as possible, and the others are the new one, in the form
 /// of a script's lines. With the byte of a key, makes the change in what the file signs, which the
 /// key then signs under the id of the first signature that was there.
-pub fn change<T>(shell: &Shell<'_, T>, step: &Step) -> Result<Told> {
+pub fn change<T>(shell: &Shell<'_, T>, step: &Step) -> Result<Output> {
     let (name, key) = (step.word(0)?, step.words().get(1));
     let (old, new) = step
         .script
@@ -26,7 +26,7 @@ pub fn change<T>(shell: &Shell<'_, T>, step: &Step) -> Result<Told> {
     let file = fs::read(shell.rt, name)?;
     let bytes = with_change(shell.alloc, file.as_slice(), key, old.as_str(), new)?;
     fs::write(shell.rt, name, bytes.as_slice())?;
-    Ok(Told::nothing(shell.alloc))
+    Ok(Output::nothing(shell.alloc))
 }
 
 fn with_change(

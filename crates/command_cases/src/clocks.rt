@@ -8,7 +8,7 @@ use anyhow::{Context, Result};
 use cycle::{Moment, Trusted};
 use failure::{Failure, tell_failure};
 use folder::{Depth, Disk, Folder, LoadFault};
-use sessions::{Step, Told};
+use sessions::{Output, Step};
 use std::alloc::Global;
 use std::rt::{Clock, Files};
 use std::sync::Wait;
@@ -70,7 +70,7 @@ impl<'a, R: Files + AllocGlobal> System for Stopped<'a, R> {
 
 /// Returns the day and the second of a verification's moment: of the text, or without a text of a
 /// clock that shows these seconds and nanoseconds. `none` is a clock that can't be read.
-pub fn clock<T>(shell: &Shell<'_, T>, words: &[String]) -> Result<Told> {
+pub fn clock<T>(shell: &Shell<'_, T>, words: &[String]) -> Result<Output> {
     let seconds = words.first().context("no seconds")?.as_str();
     let time = if seconds == "none" {
         None
@@ -85,10 +85,10 @@ pub fn clock<T>(shell: &Shell<'_, T>, words: &[String]) -> Result<Told> {
     }
 }
 
-fn day_and_second(alloc: Global, moment: Moment) -> Result<Told> {
+fn day_and_second(alloc: Global, moment: Moment) -> Result<Output> {
     let (day, second) = (moment.day(), moment.second());
     let text = format!(in alloc; "day {day}, second {second}\n")?;
-    Ok(Told::printed(alloc, text))
+    Ok(Output::printed(alloc, text))
 }
 
 /// Returns the time of these seconds and nanoseconds.
@@ -97,11 +97,11 @@ fn time_of(seconds: u64, nanos: u64) -> Duration {
 }
 
 /// Returns the line of a failure, with its status.
-fn failed(alloc: Global, failure: Failure) -> Result<Told> {
-    let mut told = Told::nothing(alloc);
-    tell_failure(failure, &mut told.err)?;
-    told.status = failure.status();
-    Ok(told)
+fn failed(alloc: Global, failure: Failure) -> Result<Output> {
+    let mut output = Output::nothing(alloc);
+    tell_failure(failure, &mut output.err)?;
+    output.status = failure.status();
+    Ok(output)
 }
 
 /// A folder of the session. Some calls succeed, and all later ones fail.
@@ -173,7 +173,7 @@ impl<'a> Folder for FailingFolder<'a> {
 
 /// Verifies the folders `metadata` and `targets`, whose calls fail after given numbers of them, for
 /// the wanted paths from the root of version 1, and stores the state under the given name.
-pub fn failing<T: Threads + Wait + Sync>(shell: &Shell<'_, T>, step: &Step) -> Result<Told> {
+pub fn failing<T: Threads + Wait + Sync>(shell: &Shell<'_, T>, step: &Step) -> Result<Output> {
     let root = fs::read(shell.rt, "metadata/1.root.json")?;
     let start = Start {
         trusted: Trusted::from_root(shell.alloc, root.as_slice())?,
@@ -206,16 +206,16 @@ fn verified<'a, T: Threads + Wait + Sync>(
     shell: &Shell<'a, T>,
     start: &Start<'_>,
     folders: Folders<FailingFolder<'a>, FailingFolder<'a>>,
-) -> Result<Told> {
-    let mut told = Told::nothing(shell.alloc);
-    match verify(shell, start, folders, &mut told.out) {
-        Ok(status) => told.status = status,
+) -> Result<Output> {
+    let mut output = Output::nothing(shell.alloc);
+    match verify(shell, start, folders, &mut output.out) {
+        Ok(status) => output.status = status,
         Err(failure) => {
-            tell_failure(failure, &mut told.err)?;
-            told.status = failure.status();
+            tell_failure(failure, &mut output.err)?;
+            output.status = failure.status();
         }
     }
-    Ok(told)
+    Ok(output)
 }
 
 /// Verifies the folders, beside a clock that can't be read.

@@ -3,7 +3,7 @@
 use crate::shell::Shell;
 use crate::workers::by;
 use anyhow::{Result, ensure};
-use sessions::{Step, Told};
+use sessions::{Output, Step};
 use std::alloc::Global;
 use std::fs;
 use std::io::Write;
@@ -13,14 +13,14 @@ use std::thread::Threads;
 /// An output, and the number of lengths that led to it.
 #[derive(Drop)]
 struct Answer {
-    told: Told,
+    output: Output,
     lengths: u32,
 }
 
 /// Truncates a file at each multiple of a step below its length, and verifies each time by several
 /// numbers of workers. Returns each different output once, after the number of lengths that led to
 /// it. Then restores the file.
-pub fn cuts<T: Threads + Wait + Sync>(shell: &Shell<'_, T>, step: &Step) -> Result<Told> {
+pub fn cuts<T: Threads + Wait + Sync>(shell: &Shell<'_, T>, step: &Step) -> Result<Output> {
     let size = step.word(0)?.parse::<usize>()?;
     let name = step.word(1)?;
     let whole = fs::read(shell.rt, name)?;
@@ -40,8 +40,8 @@ fn answers_of<T: Threads + Wait + Sync>(
     let mut cut: Vec<u8> = Vec::new(shell.alloc);
     let mut answers: Vec<Answer> = Vec::new(shell.alloc);
     for part in whole.chunks(size) {
-        let told = verified(shell, step, cut.as_slice())?;
-        count(&mut answers, told)?;
+        let output = verified(shell, step, cut.as_slice())?;
+        count(&mut answers, output)?;
         cut.extend_from_slice(part)?;
     }
     Ok(answers)
@@ -53,32 +53,32 @@ fn verified<T: Threads + Wait + Sync>(
     shell: &Shell<'_, T>,
     step: &Step,
     bytes: &[u8],
-) -> Result<Told> {
+) -> Result<Output> {
     fs::write(shell.rt, step.word(1)?, bytes)?;
     let (old, new) = (step.word(3)?, step.word(4)?);
     by(shell, step.word(2)?, old, new, step.words_behind(5))
 }
 
 /// Counts one more length that led to this output.
-fn count(answers: &mut Vec<Answer>, told: Told) -> Result<()> {
+fn count(answers: &mut Vec<Answer>, output: Output) -> Result<()> {
     for answer in answers.iter_mut() {
-        if answer.told.is(&told) {
+        if answer.output.is(&output) {
             answer.lengths = answer.lengths.saturating_add(1);
             return Ok(());
         }
     }
-    answers.push(Answer { told, lengths: 1 })?;
+    answers.push(Answer { output, lengths: 1 })?;
     Ok(())
 }
 
 /// Returns each output after the number of its lengths and its status.
-fn all_told(alloc: Global, answers: &[Answer]) -> Result<Told> {
-    let mut all = Told::nothing(alloc);
+fn all_told(alloc: Global, answers: &[Answer]) -> Result<Output> {
+    let mut all = Output::nothing(alloc);
     for answer in answers {
-        let (lengths, status) = (answer.lengths, answer.told.status);
+        let (lengths, status) = (answer.lengths, answer.output.status);
         writeln!(all.out, "{lengths} lengths, status {status}")?;
-        all.out.extend_from_slice(answer.told.out.as_slice())?;
-        all.err.extend_from_slice(answer.told.err.as_slice())?;
+        all.out.extend_from_slice(answer.output.out.as_slice())?;
+        all.err.extend_from_slice(answer.output.err.as_slice())?;
     }
     Ok(all)
 }

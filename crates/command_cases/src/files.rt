@@ -3,14 +3,14 @@
 use crate::shell::Shell;
 use anyhow::{Context, Result};
 use folder::{Depth, Disk, load};
-use sessions::{Step, Told};
+use sessions::{Output, Step};
 use sha2::{Digest, Sha256};
 use std::alloc::Global;
 use std::collections::BTreeMap;
 use std::fs;
 
 /// Writes a state file with the members `NAME=FILE`, in this order.
-pub fn state<T>(shell: &Shell<'_, T>, step: &Step) -> Result<Told> {
+pub fn state<T>(shell: &Shell<'_, T>, step: &Step) -> Result<Output> {
     let mut text = String::from_str(shell.alloc, "{")?;
     let mut comma = "";
     for member in step.words_behind(1) {
@@ -19,7 +19,7 @@ pub fn state<T>(shell: &Shell<'_, T>, step: &Step) -> Result<Told> {
     }
     text.push('}')?;
     fs::write(shell.rt, step.word(0)?, text.as_str())?;
-    Ok(Told::nothing(shell.alloc))
+    Ok(Output::nothing(shell.alloc))
 }
 
 fn push_member<T>(
@@ -35,7 +35,7 @@ fn push_member<T>(
 }
 
 /// Returns the names of a state file's members, in its order.
-pub fn keeps<T>(shell: &Shell<'_, T>, step: &Step) -> Result<Told> {
+pub fn keeps<T>(shell: &Shell<'_, T>, step: &Step) -> Result<Output> {
     let text = fs::read_to_string(shell.rt, step.word(0)?)?;
     let mut line = String::new(shell.alloc);
     for (place, part) in text.as_str().split("\"").enumerate() {
@@ -44,7 +44,7 @@ pub fn keeps<T>(shell: &Shell<'_, T>, step: &Step) -> Result<Told> {
         }
     }
     line.push('\n')?;
-    Ok(Told::printed(shell.alloc, line))
+    Ok(Output::printed(shell.alloc, line))
 }
 
 /// Adds a name after the others.
@@ -56,14 +56,14 @@ fn push_name(line: &mut String, name: &str) -> Result<()> {
 }
 
 /// Returns the name and the SHA-256 of each file that was made, in the order of the names' bytes.
-pub fn digests<T>(shell: &Shell<'_, T>) -> Result<Told> {
+pub fn digests<T>(shell: &Shell<'_, T>) -> Result<Output> {
     let mut text = String::new(shell.alloc);
     for name in ["metadata", "targets"] {
         let path = String::from_str(shell.alloc, name)?;
         let files = load(shell.alloc, &mut Disk::new(shell.rt, path, Depth::Below))?;
         push_digests(shell.alloc, &mut text, name, &files)?;
     }
-    Ok(Told::printed(shell.alloc, text))
+    Ok(Output::printed(shell.alloc, text))
 }
 
 fn push_digests(

@@ -3,7 +3,7 @@
 use crate::shell::Shell;
 use anyhow::Result;
 use command::command;
-use sessions::{Step, Told};
+use sessions::{Output, Step};
 use std::io::{self, ErrorKind, Write};
 use std::sync::Wait;
 use std::thread::Threads;
@@ -34,38 +34,38 @@ impl Write for Narrow {
 pub fn with_narrow_output<T: Threads + Wait + Sync>(
     shell: &Shell<'_, T>,
     step: &Step,
-) -> Result<Told> {
+) -> Result<Output> {
     let mut out = Narrow {
         room: step.word(0)?.parse::<usize>()?,
     };
-    let mut told = Told::nothing(shell.alloc);
-    told.status = command(
+    let mut output = Output::nothing(shell.alloc);
+    output.status = command(
         shell.rt,
         shell.threads,
         shell.alloc,
         step.words_behind(1),
         &mut out,
-        &mut told.err,
+        &mut output.err,
     );
-    Ok(told)
+    Ok(output)
 }
 
 /// Runs the command line with a standard error that takes a number of bytes.
 pub fn with_narrow_error<T: Threads + Wait + Sync>(
     shell: &Shell<'_, T>,
     step: &Step,
-) -> Result<Told> {
+) -> Result<Output> {
     let mut err = Narrow {
         room: step.word(0)?.parse::<usize>()?,
     };
-    let mut told = Told::nothing(shell.alloc);
-    told.status = command(
+    let mut output = Output::nothing(shell.alloc);
+    output.status = command(
         shell.rt,
         shell.threads,
         shell.alloc,
         step.words_behind(1),
-        &mut told.out,
+        &mut output.out,
         &mut err,
     );
-    Ok(told)
+    Ok(output)
 }

@@ -9,13 +9,13 @@ use crate::rights::{allow, link, mode};
 use crate::shell::Shell;
 use crate::workers::{verify, verify_by};
 use anyhow::{Result, bail};
-use sessions::{Step, Told};
+use sessions::{Output, Step};
 use std::sync::Wait;
 use std::thread::Threads;
 
 impl<'a, T: Threads + Wait + Sync> Shell<'a, T> {
     /// Runs a step, and returns its command's output. An error is why the step can't be run.
-    pub fn perform(&self, step: &Step) -> Result<Told> {
+    pub fn perform(&self, step: &Step) -> Result<Output> {
         match step.name()? {
             "tufcheck" => self.run(step.words()),
             "make" => self.make(step.script.as_slice()),
@@ -28,7 +28,7 @@ impl<'a, T: Threads + Wait + Sync> Shell<'a, T> {
     }
 
     /// Runs a step that changes files of the folder, or prints what they contain.
-    fn perform_on_files(&self, step: &Step) -> Result<Told> {
+    fn perform_on_files(&self, step: &Step) -> Result<Output> {
         match step.name()? {
             "change" => change(self, step),
             "state" => state(self, step),
@@ -44,7 +44,7 @@ impl<'a, T: Threads + Wait + Sync> Shell<'a, T> {
     }
 
     /// Runs a step with a stream, a folder or a clock that fails.
-    fn perform_amiss(&self, step: &Step) -> Result<Told> {
+    fn perform_amiss(&self, step: &Step) -> Result<Output> {
         match step.name()? {
             "narrow" => with_narrow_output(self, step),
             "deaf" => with_narrow_error(self, step),

@@ -2,7 +2,7 @@
 
 use anyhow::Result;
 use command::command;
-use sessions::{Step, Told, script_of, words_of};
+use sessions::{Output, Step, script_of, words_of};
 use std::alloc::Global;
 use std::fs;
 use std::sync::Wait;
@@ -25,27 +25,27 @@ impl<'a, T: Threads + Wait + Sync> Shell<'a, T> {
     }
 
     /// Runs the command line with these arguments.
-    pub fn run(&self, words: &[String]) -> Result<Told> {
-        let mut told = Told::nothing(self.alloc);
-        told.status = command(
+    pub fn run(&self, words: &[String]) -> Result<Output> {
+        let mut output = Output::nothing(self.alloc);
+        output.status = command(
             self.rt,
             self.threads,
             self.alloc,
             words,
-            &mut told.out,
-            &mut told.err,
+            &mut output.out,
+            &mut output.err,
         );
-        Ok(told)
+        Ok(output)
     }
 
     /// Runs the command line with the words of a line as arguments.
-    fn run_line(&self, line: &str) -> Result<Told> {
+    fn run_line(&self, line: &str) -> Result<Output> {
         let words = words_of(self.alloc, line)?;
         self.run(words.as_slice())
     }
 
     /// Makes the script's files in place of the folders `metadata` and `targets`.
-    pub fn make(&self, lines: &[String]) -> Result<Told> {
+    pub fn make(&self, lines: &[String]) -> Result<Output> {
         self.empty("metadata")?;
         self.empty("targets")?;
         let script = script_of(self.rt, self.alloc, lines)?;
@@ -62,14 +62,14 @@ impl<'a, T: Threads + Wait + Sync> Shell<'a, T> {
     }
 
     /// Trusts the root of version 1.
-    pub fn init(&self, step: &Step) -> Result<Told> {
+    pub fn init(&self, step: &Step) -> Result<Output> {
         let state = step.word(0)?;
         let line = format!(in self.alloc; "init metadata/1.root.json --out {state}")?;
         self.run_line(line.as_str())
     }
 
     /// Verifies the folders `metadata` and `targets` from the state `old`, with further arguments.
-    pub fn verify(&self, old: &str, new: &str, more: &[String]) -> Result<Told> {
+    pub fn verify(&self, old: &str, new: &str, more: &[String]) -> Result<Output> {
         let line = format!(in self.alloc;
             "verify --state {old} --metadata metadata --targets targets --out {new}"
         )?;

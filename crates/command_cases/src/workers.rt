@@ -2,7 +2,7 @@
 
 use crate::shell::{Shell, push_word, push_words};
 use anyhow::{Context, Result, bail};
-use sessions::{Step, Told};
+use sessions::{Output, Step};
 use std::fs;
 use std::sync::Wait;
 use std::thread::Threads;
@@ -10,23 +10,23 @@ use std::thread::Threads;
 /// The output of a verification, and the state that is at its place afterwards, if there is one.
 #[derive(Drop)]
 struct Ran {
-    told: Told,
+    output: Output,
     state: Option<Vec<u8>>,
 }
 
 impl Ran {
     fn is(&self, other: &Ran) -> bool {
-        self.state == other.state && self.told.is(&other.told)
+        self.state == other.state && self.output.is(&other.output)
     }
 }
 
 /// Verifies as the step says: from one state to another, with further arguments.
-pub fn verify<T: Threads + Wait + Sync>(shell: &Shell<'_, T>, step: &Step) -> Result<Told> {
+pub fn verify<T: Threads + Wait + Sync>(shell: &Shell<'_, T>, step: &Step) -> Result<Output> {
     shell.verify(step.word(0)?, step.word(1)?, step.words_behind(2))
 }
 
 /// Verifies as the step says by each of the numbers of workers that its first word lists.
-pub fn verify_by<T: Threads + Wait + Sync>(shell: &Shell<'_, T>, step: &Step) -> Result<Told> {
+pub fn verify_by<T: Threads + Wait + Sync>(shell: &Shell<'_, T>, step: &Step) -> Result<Output> {
     let (old, new) = (step.word(1)?, step.word(2)?);
     by(shell, step.word(0)?, old, new, step.words_behind(3))
 }
@@ -39,7 +39,7 @@ pub fn by<T: Threads + Wait + Sync>(
     old: &str,
     new: &str,
     more: &[String],
-) -> Result<Told> {
+) -> Result<Output> {
     let mut first: Option<Ran> = None;
     for number in numbers.split(",") {
         let next = verify_with(shell, number, old, new, more)?;
@@ -51,7 +51,7 @@ pub fn by<T: Threads + Wait + Sync>(
             bail!("{number} workers tell or store something else");
         }
     }
-    Ok(first.context("no number")?.told)
+    Ok(first.context("no number")?.output)
 }
 
 /// Verifies by that number of workers.
@@ -66,9 +66,9 @@ fn verify_with<T: Threads + Wait + Sync>(
     push_word(shell.alloc, &mut words, "--workers")?;
     push_word(shell.alloc, &mut words, number)?;
     push_words(&mut words, more)?;
-    let told = shell.verify(old, new, words.as_slice())?;
+    let output = shell.verify(old, new, words.as_slice())?;
     let state = state_at(shell.rt, new)?;
-    Ok(Ran { told, state })
+    Ok(Ran { output, state })
 }
 
 /// Returns the state of that name, if there is one.

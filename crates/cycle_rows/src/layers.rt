@@ -33,7 +33,7 @@ impl<'a, R: Files + AllocGlobal + Clone + Drop> Layers<'a, R> {
             "trust" => states::trust(self, step),
             "state" => states::state(self, step),
             "state-text" => states::state_text(self.alloc, step),
-            "search" => searches::told(self.alloc, step),
+            "search" => searches::output(self.alloc, step),
             "verdict" => verdicts::verdict(self.alloc, step),
             "end" => verdicts::end(self.alloc, step),
             _ => return of_names(self.alloc, step),

@@ -1,6 +1,6 @@
 //! Patterns and prefixes of paths, names of files, and lines that name them.
 
-use crate::plain::{told, yes_or_no};
+use crate::plain::{output, yes_or_no};
 use anyhow::Result;
 use cjson::form::FromJson;
 use deleg::{bin_name, matches, prefix_matches};
@@ -13,12 +13,12 @@ use std::alloc::Global;
 
 /// Returns whether a pattern matches a path.
 pub fn pattern(alloc: Global, step: &Step) -> Result<String> {
-    told(alloc, matches(step.word(0)?, step.word(1)?))
+    output(alloc, matches(step.word(0)?, step.word(1)?))
 }
 
 /// Returns whether a path's digest begins with a prefix of hexadecimal digits.
 pub fn prefix(alloc: Global, step: &Step) -> Result<String> {
-    told(alloc, prefix_matches(step.word(0)?, step.word(1)?))
+    output(alloc, prefix_matches(step.word(0)?, step.word(1)?))
 }
 
 /// Returns the name of the path's bin, for a number of bits.

@@ -177,7 +177,7 @@ fn state(alloc: Global, targets: &str) -> Result<Trusted> {
 
 /// Searches for a path with a limit, in the repository of the lines, and returns the lines of the
 /// result.
-pub fn told(alloc: Global, step: &Step) -> Result<String> {
+pub fn output(alloc: Global, step: &Step) -> Result<String> {
     let parts = parts_of(alloc, step.script.as_slice())?;
     let trusted = state(alloc, parts.top(alloc)?.as_str())?;
     let limit = Within::new(step.word(1)?.parse()?).context("a limit is 1 to 256")?;

@@ -1,6 +1,6 @@
 //! Moments and their texts.
 
-use crate::plain::told;
+use crate::plain::output;
 use anyhow::{Context, Result};
 use moment::Moment;
 use sessions::Step;
@@ -19,7 +19,7 @@ pub fn at(alloc: Global, step: &Step) -> Result<String> {
 /// Returns whether the moment of the first seconds is before that of the second ones.
 pub fn before(alloc: Global, step: &Step) -> Result<String> {
     let (one, other) = (moment(step, 0)?, moment(step, 1)?);
-    told(alloc, one.is_before(other))
+    output(alloc, one.is_before(other))
 }
 
 fn moment(step: &Step, place: usize) -> Result<Moment> {

@@ -30,7 +30,7 @@ pub fn yes_or_no(is_so: bool) -> &'static str {
 }
 
 /// Returns the line of a truth.
-pub fn told(alloc: Global, is_so: bool) -> Result<String> {
+pub fn output(alloc: Global, is_so: bool) -> Result<String> {
     let word = yes_or_no(is_so);
     Ok(format!(in alloc; "{word}\n")?)
 }

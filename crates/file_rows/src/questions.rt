@@ -1,6 +1,6 @@
 //! Results of checks, and whether two checks are the same.
 
-use crate::plain::told;
+use crate::plain::output;
 use anyhow::{Context, Result, bail};
 use keys::{Algorithm, Ask, DigestAsk, Direct, Judge, SignatureAsk};
 use lms::Public;
@@ -23,7 +23,7 @@ pub fn digest(alloc: Global, step: &Step) -> Result<String> {
         bytes: step.word(2)?.as_bytes(),
         digest: &digest,
     };
-    told(alloc, Direct.valid(&Ask::Digest(ask))?)
+    output(alloc, Direct.valid(&Ask::Digest(ask))?)
 }
 
 fn algorithm_of(word: &str) -> Result<Algorithm> {
@@ -39,7 +39,7 @@ pub fn alike(alloc: Global, step: &Step) -> Result<String> {
     let public = Public::read(&PUBLIC).context("no public key")?;
     let one = ask_of(step.word(0)?, &public)?;
     let other = ask_of(step.word(1)?, &public)?;
-    told(alloc, one.same(&other))
+    output(alloc, one.same(&other))
 }
 
 /// Returns the check of a signature in a file at a place, as `a:0`, or of a file's digest, as `a`.

@@ -40,16 +40,16 @@ fn file_after(alloc: Global, good: &str, lines: &[String]) -> Result<Vec<u8>> {
 
 fn read_as(alloc: Global, kind: &str, bytes: Vec<u8>) -> Result<String> {
     match kind {
-        "root" => told::<Root>(alloc, bytes),
-        "timestamp" => told::<Timestamp>(alloc, bytes),
-        "snapshot" => told::<Snapshot>(alloc, bytes),
-        "targets" => told::<Targets>(alloc, bytes),
+        "root" => output::<Root>(alloc, bytes),
+        "timestamp" => output::<Timestamp>(alloc, bytes),
+        "snapshot" => output::<Snapshot>(alloc, bytes),
+        "targets" => output::<Targets>(alloc, bytes),
         _ => bail!("no such kind"),
     }
 }
 
 /// Returns the contents of the file, after a copy, and whether the copy has its bytes.
-fn told<A: Reading + Shown + Drop>(alloc: Global, bytes: Vec<u8>) -> Result<String> {
+fn output<A: Reading + Shown + Drop>(alloc: Global, bytes: Vec<u8>) -> Result<String> {
     let given = bytes.clone()?;
     match Part::<A>::read(alloc, bytes) {
         Ok(part) => copied(alloc, &part, given.as_slice()),

@@ -1,7 +1,7 @@
 //! Signatures of other programs, and those of secret keys.
 
 use crate::layers::Layers;
-use crate::plain::{told, yes_or_no};
+use crate::plain::{output, yes_or_no};
 use anyhow::{Context, Result, bail};
 use lms::{Height, MOST_SIGNATURE, Public, Secret, Width, verify};
 use sessions::Step;
@@ -103,7 +103,7 @@ pub fn verified<R: Files + AllocGlobal + Clone + Drop>(
 ) -> Result<String> {
     let mut vector = vector_in(layers, step.word(0)?)?;
     vector.change(step.words_behind(1))?;
-    told(layers.alloc, vector.is_valid()?)
+    output(layers.alloc, vector.is_valid()?)
 }
 
 /// Returns the secret key whose identifier and seed have the byte 1 throughout.

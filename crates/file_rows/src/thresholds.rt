@@ -1,7 +1,7 @@
 //! Whether enough of a role's keys signed a file.
 
 use crate::layers::Layers;
-use crate::plain::{Json, told};
+use crate::plain::{Json, output};
 use anyhow::{Context, Result, bail};
 use cjson::{NoMemory, signed_bytes};
 use keys::{Ask, Direct, Judge, KeyRing, RoleKeys, enough, key_id};
@@ -213,7 +213,7 @@ pub fn is_enough<R: Files + AllocGlobal + Clone + Drop>(
     layers: &Layers<'_, R>,
     step: &Step,
 ) -> Result<String> {
-    told(layers.alloc, asked(layers, step, &mut Direct)?)
+    output(layers.alloc, asked(layers, step, &mut Direct)?)
 }
 
 /// Returns whether enough keys signed the file that is named `root.json`.
@@ -260,7 +260,7 @@ pub fn asks<R: Files + AllocGlobal + Clone + Drop>(
         asks: String::new(layers.alloc),
     };
     let is_met = asked(layers, step, &mut witness)?;
-    let mut text = told(layers.alloc, is_met)?;
+    let mut text = output(layers.alloc, is_met)?;
     text.push_str(witness.asks.as_str())?;
     Ok(text)
 }

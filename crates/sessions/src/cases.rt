@@ -3,8 +3,8 @@
 use crate::case::{Step, steps_of};
 use crate::compare::is_as_expected;
 use crate::given::given_by;
+use crate::output::Output;
 use crate::room;
-use crate::told::Told;
 use anyhow::{Context, Result};
 use std::alloc::Global;
 use std::fs;
@@ -22,7 +22,7 @@ struct Report {
 /// their names. Prints a report of each, and returns how many differ. Each session starts with
 /// nothing but the folder `cases`, and what it made is removed afterwards. `perform` runs the steps
 /// whose commands this crate hasn't; its error is why a step can't be run.
-pub fn run_all<R: Files + AllocGlobal + Clone + Drop, F: Fn(&Step) -> Result<Told>, W: Write>(
+pub fn run_all<R: Files + AllocGlobal + Clone + Drop, F: Fn(&Step) -> Result<Output>, W: Write>(
     rt: &R,
     alloc: Global,
     out: &mut W,
@@ -45,7 +45,7 @@ pub fn run_all<R: Files + AllocGlobal + Clone + Drop, F: Fn(&Step) -> Result<Tol
 
 /// Runs the session of that file, prints its report, and removes what it made. Returns whether a
 /// step's output differs from the expected one.
-fn differs<R: Files + AllocGlobal + Clone + Drop, F: Fn(&Step) -> Result<Told>, W: Write>(
+fn differs<R: Files + AllocGlobal + Clone + Drop, F: Fn(&Step) -> Result<Output>, W: Write>(
     rt: &R,
     alloc: Global,
     out: &mut W,
@@ -61,7 +61,7 @@ fn differs<R: Files + AllocGlobal + Clone + Drop, F: Fn(&Step) -> Result<Told>, 
     Ok(!differences.is_empty())
 }
 
-fn report_of<R: Files + AllocGlobal + Clone + Drop, F: Fn(&Step) -> Result<Told>>(
+fn report_of<R: Files + AllocGlobal + Clone + Drop, F: Fn(&Step) -> Result<Output>>(
     rt: &R,
     alloc: Global,
     perform: &F,
@@ -88,7 +88,7 @@ fn steps_in<R: Files + AllocGlobal>(rt: &R, alloc: Global, name: &str) -> Result
 }
 
 /// Runs a step, and adds its output if that differs from the expected one.
-fn compare<R: Files + AllocGlobal + Clone + Drop, F: Fn(&Step) -> Result<Told>>(
+fn compare<R: Files + AllocGlobal + Clone + Drop, F: Fn(&Step) -> Result<Output>>(
     rt: &R,
     alloc: Global,
     perform: &F,

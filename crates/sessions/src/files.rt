@@ -1,8 +1,8 @@
 //! The commands that look at files and change them.
 
 use crate::case::Step;
+use crate::output::Output;
 use crate::script::script_of;
-use crate::told::Told;
 use anyhow::Result;
 use std::alloc::Global;
 use std::fs;
@@ -13,11 +13,11 @@ pub fn put<R: Files + AllocGlobal + Clone + Drop>(
     rt: &R,
     alloc: Global,
     step: &Step,
-) -> Result<Told> {
+) -> Result<Output> {
     let text = script_of(rt, alloc, step.script.as_slice())?;
     let text = text.as_str().strip_suffix("\n").unwrap_or("");
     fs::write(rt, step.word(0)?, text)?;
-    Ok(Told::nothing(alloc))
+    Ok(Output::nothing(alloc))
 }
 
 /// Writes a file with the bytes of another.
@@ -25,10 +25,10 @@ pub fn copy<R: Files + AllocGlobal + Clone + Drop>(
     rt: &R,
     alloc: Global,
     step: &Step,
-) -> Result<Told> {
+) -> Result<Output> {
     let bytes = fs::read(rt, step.word(0)?)?;
     fs::write(rt, step.word(1)?, bytes.as_slice())?;
-    Ok(Told::nothing(alloc))
+    Ok(Output::nothing(alloc))
 }
 
 /// Makes a folder, and those that contain it.
@@ -36,9 +36,9 @@ pub fn folder<R: Files + AllocGlobal + Clone + Drop>(
     rt: &R,
     alloc: Global,
     step: &Step,
-) -> Result<Told> {
+) -> Result<Output> {
     fs::create_dir_all(rt, step.word(0)?)?;
-    Ok(Told::nothing(alloc))
+    Ok(Output::nothing(alloc))
 }
 
 /// Removes a file, or a folder with all that is in it.
@@ -46,14 +46,14 @@ pub fn remove<R: Files + AllocGlobal + Clone + Drop>(
     rt: &R,
     alloc: Global,
     step: &Step,
-) -> Result<Told> {
+) -> Result<Output> {
     let name = step.word(0)?;
     if fs::symlink_metadata(rt, name)?.is_dir() {
         fs::remove_dir_all(rt, name)?;
     } else {
         fs::remove_file(rt, name)?;
     }
-    Ok(Told::nothing(alloc))
+    Ok(Output::nothing(alloc))
 }
 
 /// Appends blanks to a file up to this number of bytes, or cuts it off there.
@@ -61,13 +61,13 @@ pub fn pad<R: Files + AllocGlobal + Clone + Drop>(
     rt: &R,
     alloc: Global,
     step: &Step,
-) -> Result<Told> {
+) -> Result<Output> {
     let name = step.word(0)?;
     let length = step.word(1)?.parse::<u32>()?;
     let mut bytes = fs::read(rt, name)?;
     bytes.resize(length as usize, b' ')?;
     fs::write(rt, name, bytes.as_slice())?;
-    Ok(Told::nothing(alloc))
+    Ok(Output::nothing(alloc))
 }
 
 /// Returns whether there is a file or a folder of that name.
@@ -75,8 +75,8 @@ pub fn has<R: Files + AllocGlobal + Clone + Drop>(
     rt: &R,
     alloc: Global,
     step: &Step,
-) -> Result<Told> {
-    Ok(Told::answer(alloc, fs::exists(rt, step.word(0)?)?))
+) -> Result<Output> {
+    Ok(Output::answer(alloc, fs::exists(rt, step.word(0)?)?))
 }
 
 /// Returns whether two files have the same bytes.
@@ -84,8 +84,8 @@ pub fn same<R: Files + AllocGlobal + Clone + Drop>(
     rt: &R,
     alloc: Global,
     step: &Step,
-) -> Result<Told> {
+) -> Result<Output> {
     let one = fs::read(rt, step.word(0)?)?;
     let other = fs::read(rt, step.word(1)?)?;
-    Ok(Told::answer(alloc, one == other))
+    Ok(Output::answer(alloc, one == other))
 }

@@ -2,13 +2,13 @@
 
 use crate::case::Step;
 use crate::files::{copy, folder, has, pad, put, remove, same};
-use crate::told::Told;
+use crate::output::Output;
 use anyhow::{Error, Result};
 use std::alloc::Global;
 use std::rt::Files;
 
 /// Returns the lines of a step's output. If the step can't be run, a line says why.
-pub fn given_by<R: Files + AllocGlobal + Clone + Drop, F: Fn(&Step) -> Result<Told>>(
+pub fn given_by<R: Files + AllocGlobal + Clone + Drop, F: Fn(&Step) -> Result<Output>>(
     rt: &R,
     alloc: Global,
     perform: &F,
@@ -17,7 +17,7 @@ pub fn given_by<R: Files + AllocGlobal + Clone + Drop, F: Fn(&Step) -> Result<To
     requires { F.IsAlwaysCallable perform.now }
 {
     match done(rt, alloc, perform, step) {
-        Ok(told) => told.lines(alloc),
+        Ok(output) => output.lines(alloc),
         Err(error) => undone(alloc, error),
     }
 }
@@ -28,12 +28,12 @@ fn undone(alloc: Global, error: Error) -> Result<Vec<String>> {
     Ok(lines)
 }
 
-fn done<R: Files + AllocGlobal + Clone + Drop, F: Fn(&Step) -> Result<Told>>(
+fn done<R: Files + AllocGlobal + Clone + Drop, F: Fn(&Step) -> Result<Output>>(
     rt: &R,
     alloc: Global,
     perform: &F,
     step: &Step,
-) -> Result<Told>
+) -> Result<Output>
     requires { F.IsAlwaysCallable perform.now }
 {
     match step.name()? {

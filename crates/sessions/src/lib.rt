@@ -3,7 +3,7 @@
 //! - [`run_all`] runs the sessions of a folder and prints a line for each, with the steps whose
 //!   output differs. Its caller passes the commands of a program; those of this crate write and
 //!   compare files.
-//! - [`Step`] is a command with its input, and [`Told`] the output of a command.
+//! - [`Step`] is a command with its input, and [`Output`] the output of a command.
 #![tactic(auto)]
 
 mod case;
@@ -12,12 +12,12 @@ mod compare;
 mod files;
 mod given;
 mod line;
+mod output;
 mod room;
 mod script;
-mod told;
 
 pub use case::Step;
 pub use cases::run_all;
 pub use line::{joined, words_of};
+pub use output::Output;
 pub use script::script_of;
-pub use told::Told;

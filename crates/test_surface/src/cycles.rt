@@ -33,7 +33,7 @@ fn is_from(verdict: &Verdict, by: &str, bytes: u64) -> bool {
     }
 }
 
-/// Returns whether a verdict for a missing file, a refused role, and others are told apart.
+/// Returns whether a verdict for a missing file, a refused role, and others are distinguished.
 fn name_of(verdict: &Verdict) -> &'static str {
     match verdict {
         Verdict::Good { role: _, length: _ } => "good",

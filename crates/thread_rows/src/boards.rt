@@ -88,7 +88,7 @@ fn two_threads<R: Threads>(rt: &R, alloc: Global, step: &Step) -> Result<String>
     let (board, seat) = Board::new(alloc, &checks)?;
     let (first, second) = board.split(seat);
     let seat = both_claim(rt, &board, &checks, first, second);
-    told(alloc, &board, &checks, seat)
+    output(alloc, &board, &checks, seat)
 }
 
 fn both_claim<R: Threads>(rt: &R, board: &Board, checks: &Given, first: Seat, second: Seat) -> Seat
@@ -146,7 +146,7 @@ fn one_worker(alloc: Global, step: &Step) -> Result<String> {
     let (board, seat) = Board::new(alloc, &checks)?;
     let hands = hands_for(alloc, checks.count(), 1)?;
     let seat = work_all(&board, seat, &checks, hands, &Open);
-    told(alloc, &board, &checks, seat)
+    output(alloc, &board, &checks, seat)
 }
 
 /// Runs one worker with all checks, the last of which another seat has claimed before. That seat
@@ -164,7 +164,7 @@ fn worker_beside(alloc: Global, step: &Step) -> Result<String> {
     let seat = work_all(&board, seat, &checks, hands, &Open);
     board.give_back(&mut holder);
     let seat = board.join(seat, holder);
-    told(alloc, &board, &checks, seat)
+    output(alloc, &board, &checks, seat)
 }
 
 /// Returns a hand for each worker.
@@ -278,7 +278,7 @@ fn both_work<R: Threads>(
 
 /// Returns the number of verdicts of the seat, the result of a look at each check, and how many
 /// checks can still be claimed.
-fn told(alloc: Global, board: &Board, checks: &Given, mut seat: Seat) -> Result<String>
+fn output(alloc: Global, board: &Board, checks: &Given, mut seat: Seat) -> Result<String>
     requires free { IsFree board.now seat }
     requires truths { board.now.truths ≡ checks.now.truths.items }
 {

@@ -9,7 +9,7 @@ use crate::runs::{MOMENT, ROLES};
 use anyhow::{Context, Result};
 use cycle::{Keeper, Limits, Moment, Outcome, Round, Stats};
 use report::tell_cycles;
-use sessions::{Step, Told};
+use sessions::{Output, Step};
 use std::alloc::Global;
 use std::io::Write;
 use std::rt::Files;
@@ -25,10 +25,10 @@ pub fn cycles<F: Files + AllocGlobal + Clone + Drop, T: Threads + Wait + Sync>(
     rt: &T,
     alloc: Global,
     step: &Step,
-) -> Result<Told> {
+) -> Result<Output> {
     let gate = Schedule::new(Asked::of_step(step)?.rule);
     let all = outcomes(files, rt, alloc, step, &gate)?;
-    told(alloc, all.as_slice(), step.words_behind(5))
+    output(alloc, all.as_slice(), step.words_behind(5))
 }
 
 /// Returns the counts of each of a keeper's cycles over repositories, and how many waits of the
@@ -38,7 +38,7 @@ pub fn kept<F: Files + AllocGlobal + Clone + Drop, T: Threads + Wait + Sync>(
     rt: &T,
     alloc: Global,
     step: &Step,
-) -> Result<Told> {
+) -> Result<Output> {
     let gate = Schedule::new(Asked::of_step(step)?.rule);
     let all = outcomes(files, rt, alloc, step, &gate)?;
     counted(alloc, all.as_slice(), &gate)
@@ -114,19 +114,19 @@ fn rounds_of<'a>(alloc: Global, made: &'a [Made], wanted: &'a [String]) -> Resul
     Ok(rounds)
 }
 
-fn told(alloc: Global, all: &[Outcome], wanted: &[String]) -> Result<Told> {
-    let mut told = Told::nothing(alloc);
-    told.status = tell_cycles(alloc, all, wanted, &mut told.out)?;
-    Ok(told)
+fn output(alloc: Global, all: &[Outcome], wanted: &[String]) -> Result<Output> {
+    let mut output = Output::nothing(alloc);
+    output.status = tell_cycles(alloc, all, wanted, &mut output.out)?;
+    Ok(output)
 }
 
-fn counted(alloc: Global, all: &[Outcome], gate: &Schedule) -> Result<Told> {
+fn counted(alloc: Global, all: &[Outcome], gate: &Schedule) -> Result<Output> {
     let mut text = String::new(alloc);
     for outcome in all {
         push_counts(&mut text, outcome.stats())?;
     }
     writeln!(text, "late {}", gate.late())?;
-    Ok(Told::printed(alloc, text))
+    Ok(Output::printed(alloc, text))
 }
 
 fn push_counts(text: &mut String, stats: Stats) -> Result<()> {

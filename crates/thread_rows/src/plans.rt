@@ -6,7 +6,7 @@ use crate::repositories::{Made, read};
 use anyhow::{Result, ensure};
 use board::MOST_CHECKS;
 use plan::Plan;
-use sessions::{Step, Told};
+use sessions::{Output, Step};
 use std::alloc::Global;
 use std::rt::Files;
 
@@ -15,12 +15,12 @@ pub fn plan<R: Files + AllocGlobal + Clone + Drop>(
     rt: &R,
     alloc: Global,
     step: &Step,
-) -> Result<Told> {
+) -> Result<Output> {
     let most = step.word(1)?.parse::<usize>()?;
     ensure!(most <= MOST_CHECKS, "too many questions");
     let made = read(rt, alloc, step.word(0)?)?;
     let text = counted(alloc, &made, step.words_behind(2), most)?;
-    Ok(Told::printed(alloc, text))
+    Ok(Output::printed(alloc, text))
 }
 
 fn counted(alloc: Global, made: &Made, wanted: &[String], most: usize) -> Result<String>

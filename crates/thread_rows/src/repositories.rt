@@ -3,7 +3,7 @@
 use anyhow::{Context, Result};
 use cycle::{Repo, Trusted};
 use folder::{Depth, Disk, load};
-use sessions::{Step, Told, script_of};
+use sessions::{Output, Step, script_of};
 use std::alloc::Global;
 use std::collections::BTreeMap;
 use std::fs;
@@ -25,13 +25,13 @@ impl Drop for Made {
 
 /// Makes the repository of the step's lines in the folder of that name, or without lines the one of
 /// the script `cases/NAME.script`.
-pub fn make<R: Files + AllocGlobal>(rt: &R, alloc: Global, step: &Step) -> Result<Told> {
+pub fn make<R: Files + AllocGlobal>(rt: &R, alloc: Global, step: &Step) -> Result<Output> {
     let name = step.word(0)?;
     let script = script_for(rt, alloc, step, name)?;
     for (file, bytes) in maker::make(alloc, script.as_str())? {
         write_below(rt, alloc, name, file.as_str(), bytes.as_slice())?;
     }
-    Ok(Told::nothing(alloc))
+    Ok(Output::nothing(alloc))
 }
 
 fn script_for<R: Files + AllocGlobal>(

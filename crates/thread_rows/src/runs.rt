@@ -6,7 +6,7 @@ use crate::repositories::{Made, read};
 use anyhow::{Context, Result};
 use cycle::{InMemory, Limits, Moment, Outcome, Stats, follow_alone, run, run_alone};
 use report::tell;
-use sessions::{Step, Told};
+use sessions::{Output, Step};
 use std::alloc::Global;
 use std::rt::Files;
 use std::sync::Wait;
@@ -24,7 +24,7 @@ pub fn lines<F: Files + AllocGlobal + Clone + Drop, T: Threads + Wait + Sync>(
     rt: &T,
     alloc: Global,
     step: &Step,
-) -> Result<Told> {
+) -> Result<Output> {
     let asked = Asked::of_step(step)?;
     let made = read(files, alloc, step.word(0)?)?;
     let gate = Schedule::new(asked.rule);
@@ -36,7 +36,7 @@ pub fn alone<R: Files + AllocGlobal + Clone + Drop>(
     rt: &R,
     alloc: Global,
     step: &Step,
-) -> Result<Told> {
+) -> Result<Output> {
     let made = read(rt, alloc, step.word(0)?)?;
     told_alone(alloc, &made, step.words_behind(1))
 }
@@ -47,11 +47,11 @@ pub fn course<R: Files + AllocGlobal + Clone + Drop>(
     rt: &R,
     alloc: Global,
     step: &Step,
-) -> Result<Told> {
+) -> Result<Output> {
     let made = read(rt, alloc, step.word(0)?)?;
     let wanted = step.words_behind(1);
     let outcome = followed(alloc, &made, wanted)?;
-    told(alloc, &outcome, wanted)
+    output(alloc, &outcome, wanted)
 }
 
 /// Returns the counts of a run, and how many waits of its gate met their limit.
@@ -60,7 +60,7 @@ pub fn counts<F: Files + AllocGlobal + Clone + Drop, T: Threads + Wait + Sync>(
     rt: &T,
     alloc: Global,
     step: &Step,
-) -> Result<Told> {
+) -> Result<Output> {
     let asked = Asked::of_step(step)?;
     let gate = Schedule::new(asked.rule);
     let stats = stats_of(files, rt, alloc, step, asked, &gate)?;
@@ -71,7 +71,7 @@ pub fn counts<F: Files + AllocGlobal + Clone + Drop, T: Threads + Wait + Sync>(
         stats.alone,
         gate.late()
     )?;
-    Ok(Told::printed(alloc, text))
+    Ok(Output::printed(alloc, text))
 }
 
 /// Returns how many checks entered, and how many waits of the gate met their limit.
@@ -80,12 +80,12 @@ pub fn entered<F: Files + AllocGlobal + Clone + Drop, T: Threads + Wait + Sync>(
     rt: &T,
     alloc: Global,
     step: &Step,
-) -> Result<Told> {
+) -> Result<Output> {
     let asked = Asked::of_step(step)?;
     let gate = Schedule::new(asked.rule);
     let _ = stats_of(files, rt, alloc, step, asked, &gate)?;
     let text = format!(in alloc; "entered {}\nlate {}\n", gate.entered(), gate.late())?;
-    Ok(Told::printed(alloc, text))
+    Ok(Output::printed(alloc, text))
 }
 
 fn stats_of<F: Files + AllocGlobal + Clone + Drop, T: Threads + Wait + Sync>(
@@ -108,7 +108,7 @@ pub fn agrees<F: Files + AllocGlobal + Clone + Drop, T: Threads + Wait + Sync>(
     rt: &T,
     alloc: Global,
     step: &Step,
-) -> Result<Told> {
+) -> Result<Output> {
     let asked = Asked::of_step(step)?;
     let made = read(files, alloc, step.word(0)?)?;
     let wanted = step.words_behind(4);
@@ -117,7 +117,7 @@ pub fn agrees<F: Files + AllocGlobal + Clone + Drop, T: Threads + Wait + Sync>(
     let is_same = tells(rt, alloc, &made, asked, wanted, &gate, &alone)?;
     let word = if is_same { "yes" } else { "no" };
     let text = format!(in alloc; "{word}\nlate {}\n", gate.late())?;
-    Ok(Told::printed(alloc, text))
+    Ok(Output::printed(alloc, text))
 }
 
 /// Returns whether a run with workers prints this.
@@ -128,10 +128,10 @@ pub fn tells<R: Threads + Wait + Sync>(
     asked: Asked,
     wanted: &[String],
     gate: &Schedule,
-    alone: &Told,
+    alone: &Output,
 ) -> Result<bool> {
-    let told = told_by_run(rt, alloc, made, asked, wanted, gate)?;
-    Ok(told.status == alone.status && told.out == alone.out)
+    let output = told_by_run(rt, alloc, made, asked, wanted, gate)?;
+    Ok(output.status == alone.status && output.out == alone.out)
 }
 
 fn told_by_run<R: Threads + Wait + Sync>(
@@ -141,21 +141,21 @@ fn told_by_run<R: Threads + Wait + Sync>(
     asked: Asked,
     wanted: &[String],
     gate: &Schedule,
-) -> Result<Told> {
+) -> Result<Output> {
     let outcome = ran(rt, alloc, made, asked, wanted, gate)?;
-    told(alloc, &outcome, wanted)
+    output(alloc, &outcome, wanted)
 }
 
 /// Returns what a cycle on one thread prints.
-pub fn told_alone(alloc: Global, made: &Made, wanted: &[String]) -> Result<Told> {
+pub fn told_alone(alloc: Global, made: &Made, wanted: &[String]) -> Result<Output> {
     let outcome = ran_alone(alloc, made, wanted)?;
-    told(alloc, &outcome, wanted)
+    output(alloc, &outcome, wanted)
 }
 
-fn told(alloc: Global, outcome: &Outcome, wanted: &[String]) -> Result<Told> {
-    let mut told = Told::nothing(alloc);
-    told.status = tell(alloc, outcome, wanted, &mut told.out)?;
-    Ok(told)
+fn output(alloc: Global, outcome: &Outcome, wanted: &[String]) -> Result<Output> {
+    let mut output = Output::nothing(alloc);
+    output.status = tell(alloc, outcome, wanted, &mut output.out)?;
+    Ok(output)
 }
 
 fn ran<R: Threads + Wait + Sync>(

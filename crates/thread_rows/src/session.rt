@@ -8,7 +8,7 @@ use crate::runs::{agrees, alone, counts, course, entered, lines};
 use crate::stress::stress;
 use crate::walks::walk;
 use anyhow::Result;
-use sessions::{Step, Told};
+use sessions::{Output, Step};
 use std::alloc::Global;
 use std::rt::Files;
 use std::sync::Wait;
@@ -21,7 +21,7 @@ pub fn perform<F: Files + AllocGlobal + Clone + Drop, T: Threads + Wait + Sync>(
     threads: &T,
     alloc: Global,
     step: &Step,
-) -> Result<Told> {
+) -> Result<Output> {
     match step.name()? {
         "make" => make(files, alloc, step),
         "plan" => plan(files, alloc, step),
@@ -40,6 +40,6 @@ pub fn perform<F: Files + AllocGlobal + Clone + Drop, T: Threads + Wait + Sync>(
 }
 
 /// Runs a step of a board, which reads no file.
-fn share<R: Threads + Wait + Sync>(rt: &R, alloc: Global, step: &Step) -> Result<Told> {
-    Ok(Told::printed(alloc, printed(rt, alloc, step)?))
+fn share<R: Threads + Wait + Sync>(rt: &R, alloc: Global, step: &Step) -> Result<Output> {
+    Ok(Output::printed(alloc, printed(rt, alloc, step)?))
 }

@@ -5,7 +5,7 @@ use crate::gates::{Rule, Schedule, mixed};
 use crate::repositories::{Made, read};
 use crate::runs::{tells, told_alone};
 use anyhow::Result;
-use sessions::{Step, Told};
+use sessions::{Output, Step};
 use std::alloc::Global;
 use std::rt::Files;
 use std::sync::Wait;
@@ -17,13 +17,13 @@ pub fn stress<F: Files + AllocGlobal + Clone + Drop, T: Threads + Wait + Sync>(
     rt: &T,
     alloc: Global,
     step: &Step,
-) -> Result<Told> {
+) -> Result<Output> {
     let runs = step.word(1)?.parse::<u64>()?;
     let seed = mixed(step.word(2)?.parse::<u64>()?);
     let made = read(files, alloc, step.word(0)?)?;
     let differing = differing(rt, alloc, &made, step.words_behind(3), runs, seed)?;
     let text = format!(in alloc; "{runs} runs, {differing} differ\n")?;
-    Ok(Told::printed(alloc, text))
+    Ok(Output::printed(alloc, text))
 }
 
 fn differing<R: Threads + Wait + Sync>(

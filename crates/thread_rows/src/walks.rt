@@ -9,7 +9,7 @@ use crate::stress::drawn;
 use anyhow::{Context, Result};
 use cycle::{Keeper, Limits, Moment, Outcome, Repo, run_alone};
 use report::tell;
-use sessions::{Step, Told};
+use sessions::{Output, Step};
 use std::alloc::Global;
 use std::rt::Files;
 use std::sync::Wait;
@@ -31,7 +31,7 @@ pub fn walk<F: Files + AllocGlobal + Clone + Drop, T: Threads + Wait + Sync>(
     rt: &T,
     alloc: Global,
     step: &Step,
-) -> Result<Told> {
+) -> Result<Output> {
     let cycles = step.word(1)?.parse::<u64>()?;
     let seed = mixed(step.word(2)?.parse::<u64>()?);
     let made = all_read(files, alloc, step.word(0)?)?;
@@ -43,7 +43,7 @@ pub fn walk<F: Files + AllocGlobal + Clone + Drop, T: Threads + Wait + Sync>(
     };
     let differing = walked(rt, alloc, course, step.word(3)?)?;
     let text = format!(in alloc; "{cycles} cycles, {differing} differ\n")?;
-    Ok(Told::printed(alloc, text))
+    Ok(Output::printed(alloc, text))
 }
 
 fn walked<R: Threads + Wait + Sync>(

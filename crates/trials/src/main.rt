@@ -10,8 +10,8 @@
 
 mod rows;
 
-use rows::run_rows;
 use command_cases::run_sessions;
+use rows::run_rows;
 use std::process::ExitCode;
 
 fn main(rt: HostRuntime) -> ExitCode {

@@ -1,7 +1,7 @@
 //! All rows of a folder.
 
 use anyhow::Result;
-use sessions::{Step, Told, run_all};
+use sessions::{Output, Step, run_all};
 use std::alloc::Global;
 use std::io::Write;
 use std::rt::Files;
@@ -44,12 +44,12 @@ fn perform<F: Files + AllocGlobal + Clone + Drop, T: Threads + Wait + Sync>(
     threads: &T,
     alloc: Global,
     step: &Step,
-) -> Result<Told> {
+) -> Result<Output> {
     if let Some(printed) = file_rows::Layers::new(files, alloc).printed(step)? {
-        return Ok(Told::printed(alloc, printed));
+        return Ok(Output::printed(alloc, printed));
     }
     if let Some(printed) = cycle_rows::Layers::new(files, alloc).printed(step)? {
-        return Ok(Told::printed(alloc, printed));
+        return Ok(Output::printed(alloc, printed));
     }
     thread_rows::perform(files, threads, alloc, step)
 }

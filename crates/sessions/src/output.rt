@@ -4,7 +4,7 @@ use anyhow::Result;
 use std::alloc::Global;
 
 /// The output of a command.
-pub struct Told {
+pub struct Output {
     /// The exit status.
     pub status: u8,
     /// The bytes on standard output.
@@ -13,16 +13,16 @@ pub struct Told {
     pub err: Vec<u8>,
 }
 
-impl Drop for Told {
+impl Drop for Output {
     fn drop(self) {
-        let Told { status, out, err } = self;
+        let Output { status, out, err } = self;
     }
 }
 
-impl Told {
+impl Output {
     /// Returns the output of a command that prints nothing.
-    pub fn nothing(alloc: Global) -> Told {
-        Told {
+    pub fn nothing(alloc: Global) -> Output {
+        Output {
             status: 0,
             out: Vec::new(alloc),
             err: Vec::new(alloc),
@@ -30,8 +30,8 @@ impl Told {
     }
 
     /// Returns the output of a command that prints a text.
-    pub fn printed(alloc: Global, text: String) -> Told {
-        Told {
+    pub fn printed(alloc: Global, text: String) -> Output {
+        Output {
             status: 0,
             out: text.into_bytes(),
             err: Vec::new(alloc),
@@ -39,8 +39,8 @@ impl Told {
     }
 
     /// Returns the output of a check: the status 0 for yes and 1 for no.
-    pub fn answer(alloc: Global, is_so: bool) -> Told {
-        Told {
+    pub fn answer(alloc: Global, is_so: bool) -> Output {
+        Output {
             status: if is_so { 0 } else { 1 },
             out: Vec::new(alloc),
             err: Vec::new(alloc),
@@ -48,7 +48,7 @@ impl Told {
     }
 
     /// Returns whether the two are equal in all parts.
-    pub fn is(&self, other: &Told) -> bool {
+    pub fn is(&self, other: &Output) -> bool {
         self.status == other.status && self.out == other.out && self.err == other.err
     }
 
