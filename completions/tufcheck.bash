@@ -12,7 +12,7 @@ _tufcheck() {
     fi
     case ${COMP_WORDS[1]} in
     init) mapfile -t COMPREPLY < <(compgen -W "--out --help -h" -f -- "$word") ;;
-    verify) mapfile -t COMPREPLY < <(compgen -W "--state --metadata --targets --now --limit --workers --paths-from --null --out --help -h" -- "$word") ;;
+    verify) mapfile -t COMPREPLY < <(compgen -W "--state --metadata --targets --now --limit --workers --paths-from --null --every --out --help -h" -- "$word") ;;
     replay) mapfile -t COMPREPLY < <(compgen -W "--state --now --limit --workers --keep --paths-from --null --out --help -h" -d -- "$word") ;;
     show) mapfile -t COMPREPLY < <(compgen -W "--before --help -h" -f -- "$word") ;;
     make) mapfile -t COMPREPLY < <(compgen -W "--help -h" -f -- "$word") ;;

@@ -21,4 +21,5 @@ complete -c tufcheck -n '__fish_seen_subcommand_from verify replay' -l workers -
 complete -c tufcheck -n '__fish_seen_subcommand_from replay' -l keep -x -d 'Maximum number of files whose verdicts are cached'
 complete -c tufcheck -n '__fish_seen_subcommand_from verify replay' -l paths-from -r -F -d 'A file with further wanted paths'
 complete -c tufcheck -n '__fish_seen_subcommand_from verify replay' -l null -d 'Each path of that file ends with NUL'
+complete -c tufcheck -n '__fish_seen_subcommand_from verify' -l every -d 'Each file of the targets folder is wanted'
 complete -c tufcheck -n '__fish_seen_subcommand_from show' -l before -x -d 'The moment before which no file should expire'

@@ -4,11 +4,12 @@ use Rattle.failure.specs.declared.failure.Failure.{Failure}
 use Rattle.failure.specs.declared.failure.Failure.TheVariants.{Memory, Output}
 use Rattle.update.specs.Causes.{IsCauseToReplay, IsCauseToVerify}
 use Rattle.update.specs.Cycles.{IsReplayed}
+use Rattle.update.specs.Every.{IsEveryVerified}
 use Rattle.update.specs.First.{IsRefused, IsTrusted}
 use Rattle.update.specs.Runs.{IsVerified}
 use Rattle.update.specs.World.{IsUntouched, Mirror, World}
 use Rattle.update.specs.declared.start.Terms.{Terms}
-use Rattle.command.specs.Done.{IsCauseOfReplay, IsCauseOfVerify, IsFirst, IsReplayedOf, IsVerifiedOf, system_with}
+use Rattle.command.specs.Done.{IsCauseOfReplay, IsCauseOfVerify, IsEveryVerifiedOf, IsFirst, IsReplayedOf, IsVerifiedOf, system_with}
 
 -- ---- a status
 
@@ -23,6 +24,11 @@ pub verified_of : (r : Result ℕ Failure) (terms : Terms) (m : Mirror) (ns : Li
     → IfOk r (IsVerified terms (system_with (m ∷ []) old) (system_with ns new)) → IfOk r (IsVerifiedOf terms old new)
 verified_of (Ok status) terms m ns old new is = record { mirror = m; then = is }
 verified_of (Err f) terms m ns old new is = tt
+
+pub every_verified_of : (r : Result ℕ Failure) (terms : Terms) (m : Mirror) (ns : List Mirror) (old new : Option (List ℕ))
+    → IfOk r (IsEveryVerified terms (system_with (m ∷ []) old) (system_with ns new)) → IfOk r (IsEveryVerifiedOf terms old new)
+every_verified_of (Ok status) terms m ns old new is = record { mirror = m; then = is }
+every_verified_of (Err f) terms m ns old new is = tt
 
 pub replayed_of : (r : Result ℕ Failure) (terms : Terms) (count : ℕ) (ms ns : List Mirror) (old new : Option (List ℕ)) → length ms ≡ count
     → IfOk r (IsReplayed terms (system_with ms old) (system_with ns new)) → IfOk r (IsReplayedOf terms count old new)
@@ -56,5 +62,7 @@ replay_out_of_memory f terms keep old is = subst (IsCauseOfReplay terms keep old
 pub ruleset beginning = (first_of, quiet_of)
 
 pub ruleset verifying = (verified_of, quiet_of, cause_of_verify)
+
+pub ruleset verifying_every = (every_verified_of, quiet_of, cause_of_verify)
 
 pub ruleset replaying = (replayed_of, quiet_of, cause_of_replay)

@@ -4,13 +4,14 @@ use Rattle.std.specs.Prelude.{◌≡◌, ◌⊎◌, ℕ, List, true, Option, len
 use Rattle.failure.specs.declared.failure.Failure.{Failure}
 use Rattle.update.specs.Causes.{IsCauseOfFirst, IsCauseToReplay, IsCauseToVerify}
 use Rattle.update.specs.Cycles.{IsReplayed}
+use Rattle.update.specs.Every.{IsEveryVerified}
 use Rattle.update.specs.First.{IsRefused, IsTrusted}
 use Rattle.update.specs.Runs.{IsVerified}
 use Rattle.update.specs.Shown.{IsCauseToShow, IsShown}
 use Rattle.update.specs.World.{Mirror, World}
 use Rattle.update.specs.declared.start.Terms.{Terms}
 use Rattle.command.specs.declared.subcommand.Subcommand.{Subcommand}
-use Rattle.command.specs.declared.subcommand.Subcommand.TheVariants.{Init, Verify, Replay, Show, Make}
+use Rattle.command.specs.declared.subcommand.Subcommand.TheVariants.{Init, Verify, VerifyEvery, Replay, Show, Make}
 
 -- # What a run works on.
 
@@ -51,6 +52,11 @@ abbrev pub IsVerifiedOf : Terms → Option (List ℕ) → Option (List ℕ) → 
 IsVerifiedOf terms old new status =
     OfOne (λ ms. IsVerified terms (system_with ms old) (system_with ms new) status)
 
+-- every file of its targets folder is verified
+abbrev pub IsEveryVerifiedOf : Terms → Option (List ℕ) → Option (List ℕ) → ℕ → Type 0
+IsEveryVerifiedOf terms old new status =
+    OfOne (λ ms. IsEveryVerified terms (system_with ms old) (system_with ms new) status)
+
 -- so many repositories are verified, one after another
 abbrev pub IsReplayedOf : Terms → ℕ → Option (List ℕ) → Option (List ℕ) → ℕ → Type 0
 IsReplayedOf terms count old new status =
@@ -61,6 +67,7 @@ abbrev pub IsDone : Subcommand → Option (List ℕ) → Option (List ℕ) → �
 IsDone (Init root state) old new status =
     IsFirst root.now state.now (system_with [] old) (system_with [] new) status
 IsDone (Verify terms metadata targets) old new status = IsVerifiedOf terms old new status
+IsDone (VerifyEvery terms metadata targets) old new status = IsEveryVerifiedOf terms old new status
 IsDone (Replay terms keep repositories) old new status =
     IsReplayedOf terms (length repositories.items) old new status
 IsDone (Show state before) old new status = IsShown state.now (option_map (λ t. t.now) before)
@@ -87,6 +94,7 @@ IsCauseOfReplay terms keep old f =
 abbrev pub IsCause : Subcommand → Option (List ℕ) → Failure → Type 0
 IsCause (Init root state) old f = IsCauseOfFirst root.now (system_with [] old) f
 IsCause (Verify terms metadata targets) old f = IsCauseOfVerify terms old f
+IsCause (VerifyEvery terms metadata targets) old f = IsCauseOfVerify terms old f
 IsCause (Replay terms keep repositories) old f = IsCauseOfReplay terms keep old f
 IsCause (Show state before) old f =
     IsCauseToShow state.now (option_map (λ t. t.now) before) (system_with [] old) f

@@ -5,7 +5,7 @@ ghost use Rattle.command.specs.Done.{IsCause, IsDone, IsFirst, system_with};
 ghost use Rattle.update.specs.Causes.{IsCauseOfFirst};
 ghost use Rattle.update.specs.Shown.{IsCauseToShow, IsShown};
 
-use crate::folders::{replay_in, verify_in};
+use crate::folders::{replay_in, verify_every_in, verify_in};
 use crate::making::make;
 use crate::subcommand::Subcommand;
 use failure::Failure;
@@ -41,6 +41,11 @@ pub fn carry_out<T: Threads + Wait + Sync, W: Write>(
             metadata,
             targets,
         } => verify_in(rt, threads, alloc, terms, metadata, targets, out),
+        Subcommand::VerifyEvery {
+            terms,
+            metadata,
+            targets,
+        } => verify_every_in(rt, threads, alloc, terms, metadata, targets, out),
         Subcommand::Replay {
             terms,
             keep,

@@ -1,8 +1,8 @@
 //! Repositories in folders of the file system.
 
 ghost use Rattle.std.specs.Prelude.{◌≡◌, ◌≢◌, ◌≤◌, IfErr, IfOk, length};
-ghost use Rattle.command.specs.Done.{IsReplayedOf, IsVerifiedOf, IsCauseOfVerify};
-ghost use Rattle.command.specs.Done.{IsCauseOfReplay};
+ghost use Rattle.command.specs.Done.{IsEveryVerifiedOf, IsReplayedOf, IsVerifiedOf};
+ghost use Rattle.command.specs.Done.{IsCauseOfReplay, IsCauseOfVerify};
 
 use failure::Failure;
 use folder::{Depth, Disk, path_below};
@@ -42,6 +42,37 @@ pub fn verify_in<T: Threads + Wait + Sync, W: Write>(
         out,
     };
     let done = host.verify(threads, alloc, terms);
+    (done, host.out)
+}
+
+/// Verifies every file of the folder `targets`, by the paths of their names.
+#[tactic(auto, using(crate::proofs::Doing::verifying_every))]
+pub fn verify_every_in<T: Threads + Wait + Sync, W: Write>(
+    rt: &HostRuntime,
+    threads: &T,
+    alloc: Global,
+    terms: &Terms<'_>,
+    metadata: &str,
+    targets: &str,
+    out: W,
+) -> (Result<u8, Failure>, W)
+    ensures known { IfOk result.0 (λ status. status ≤ 2) }
+    ensures verified { IfOk result.0 (IsEveryVerifiedOf terms.now
+        (W.contents out) (W.contents result.1)) }
+    ensures quiet { IfErr result.0 (λ f. f ≢ Failure.Memory → f ≢ Failure.Output
+        → W.contents result.1 ≡ W.contents out) }
+    ensures cause { IfErr result.0 (IsCauseOfVerify terms.now (W.contents out)) }
+{
+    let folders = match two_folders(rt, alloc, metadata, targets) {
+        Ok(folders) => folders,
+        Err(error) => return (Err(Failure::from(error)), out),
+    };
+    let mut host = Host {
+        system: Machine::new(rt),
+        folders,
+        out,
+    };
+    let done = host.verify_every(threads, alloc, terms);
     (done, host.out)
 }
 

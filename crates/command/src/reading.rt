@@ -63,10 +63,20 @@ fn verify_of<'a>(
     alloc: Global,
     words: &ArgMatches<'a>,
 ) -> Result<Subcommand<'a>, Failure> {
+    let terms = all_terms(rt, alloc, words)?;
+    let metadata = word(words, "metadata")?;
+    let targets = word(words, "targets")?;
+    if words.get_flag("every") {
+        return Ok(Subcommand::VerifyEvery {
+            terms,
+            metadata,
+            targets,
+        });
+    }
     Ok(Subcommand::Verify {
-        terms: all_terms(rt, alloc, words)?,
-        metadata: word(words, "metadata")?,
-        targets: word(words, "targets")?,
+        terms,
+        metadata,
+        targets,
     })
 }
 

@@ -21,6 +21,15 @@ pub enum Subcommand<'a> {
         /// The path of the folder of target files.
         targets: &'a str,
     },
+    /// Verifies every file of the folder of target files, by the paths of their names.
+    VerifyEvery {
+        /// What the arguments name, without wanted paths.
+        terms: Terms<'a>,
+        /// The path of the folder of metadata files.
+        metadata: &'a str,
+        /// The path of the folder of target files.
+        targets: &'a str,
+    },
     /// Verifies repositories, one after another.
     Replay {
         /// What the arguments name, with the paths that a file lists.

@@ -1,2 +1,4 @@
+pub mod Inverse
+pub mod Naming
 pub mod Parting
 mod WorkedValues

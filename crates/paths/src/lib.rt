@@ -1,8 +1,12 @@
-//! Lists of paths, as a file names them: each path ends with a line feed or another byte.
+//! Lists of paths.
 //!
-//! - [`read_list`] gives the paths of a list.
+//! - [`read_list`] gives the paths of a list in a file: each path ends with a line feed or another
+//!   byte.
+//! - [`paths_of_names`] gives the paths that names of target files stand for.
 #![tactic(auto)]
 
 mod list;
+mod names;
 
 pub use list::read_list;
+pub use names::paths_of_names;

@@ -3,6 +3,7 @@
 ghost use Rattle.std.specs.Prelude.{◌≡◌, ◌≢◌, ◌≤◌, true, IfErr, IfOk, OnErr, OnOk};
 ghost use Rattle.std.specs.Prelude.{map, string_bytes};
 ghost use Rattle.examine.specs.Checks.{file_in};
+ghost use Rattle.rolechain.specs.Advance.{advanced};
 ghost use Rattle.update.specs.Causes.{AreWrong, IsCauseToVerify, IsCauseToVerifyFrom};
 ghost use Rattle.update.specs.Same.{IsCauseToEnd};
 ghost use Rattle.update.specs.Runs.{IsOutcomeOn, IsUntouchedOrStored, IsUntouchedOrStoredFrom};
@@ -97,7 +98,7 @@ impl<S: System, M: Folder, T: Folder + Sync, W: Write> Host<S, Folders<M, T>, W>
 
 /// Returns the outcome of the workflow on metadata that was loaded and on the target files of a
 /// folder that has these names.
-fn outcome<R: Threads + Wait + Sync, T: Folder + Sync>(
+pub(crate) fn outcome<R: Threads + Wait + Sync, T: Folder + Sync>(
     rt: &R,
     alloc: Global,
     start: &Start<'_>,
@@ -108,6 +109,8 @@ fn outcome<R: Threads + Wait + Sync, T: Folder + Sync>(
     requires listed { T.lists targets.old (map string_bytes names.items) ≡ true }
     ensures workflow { IfOk result (IsOutcomeOn (T.lists targets.old) (T.holds targets.old)
         (start_of start.now) (file_in repo.now.metadata)) }
+    ensures state { IfOk result (λ o. o.trusted
+        ≡ (advanced (file_in repo.now.metadata) start.now.moment start.now.trusted).state) }
     ensures cause { IfErr result (IsCauseToEnd (AreWrong start.now.limit start.now.workers)
         (T.failures targets.old) (T.failures targets.new)) }
 {

@@ -46,6 +46,17 @@ pub fn null_option<'a>(alloc: Global) -> Result<Arg<'a>, AllocError> {
         .requires_arg("paths-from")
 }
 
+/// Returns the option `--every`, which takes the place of the wanted paths.
+pub fn every_option<'a>(alloc: Global) -> Result<Arg<'a>, AllocError> {
+    Arg::new(alloc, "every")
+        .long("every")
+        .action(ArgAction::SetTrue)
+        .help("Each file of the targets folder is wanted, by its path")
+        .conflicts_with("paths-from")?
+        .conflicts_with("null")?
+        .conflicts_with("PATH")
+}
+
 /// Returns the option `--limit`.
 pub fn limit_option<'a>(alloc: Global) -> Arg<'a> {
     Arg::new(alloc, "limit")

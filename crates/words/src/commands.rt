@@ -1,7 +1,7 @@
 //! The commands.
 
 use crate::arguments::{
-    before_option, file, keep_option, limit_option, now_option, null_option, option,
+    before_option, every_option, file, keep_option, limit_option, now_option, null_option, option,
     paths_from_option, several, workers_option,
 };
 use crate::texts::{
@@ -52,6 +52,7 @@ fn verify_command<'a>(alloc: Global) -> Result<Command<'a>, AllocError> {
         workers_option(alloc),
         paths_from_option(alloc),
         null_option(alloc)?,
+        every_option(alloc)?,
         option(alloc, "out", "STATE", "Where the new state is written"),
         several(alloc, "PATH", "The wanted targets").num_args(0..),
     ]?;

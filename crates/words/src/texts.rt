@@ -46,6 +46,8 @@ Put `--` before the first PATH if one begins with `-`. Links in the folders are 
 The paths of --paths-from come after these, in its order. Each ends with a line feed, or with NUL if
 there is --null; after the last one it may be missing. A path that is empty or isn't UTF-8 is an
 error.
+With --every each file of the targets folder is wanted, and PATH and --paths-from may not be given:
+each path once, in byte order. Where names are consistent, a path is the name without `HASH.`.
 Workers check signatures in advance, and then digest the target files. For them at most 4 MB of
 metadata are read twice. Lines, state and status are the same for any number of workers.
 
@@ -53,6 +55,7 @@ EXAMPLES:
   tufcheck verify --state state --metadata repo/metadata --targets repo/targets --out state abc.txt
   tufcheck verify --state old --metadata m --targets t --now 2026-01-01T00:00:00Z --out new -- -c
   tufcheck verify --state old --metadata m --targets t --paths-from list --out new
+  tufcheck verify --state old --metadata m --targets t --every --out new
 
 EXIT STATUS:
   0  all wanted targets were accepted
