@@ -160,6 +160,7 @@ A stale file under another digest has the path of the listed one. If that isn't 
   > 2
   $ put targets/4735e3a265e16eee03f59718b9b5d03019c07d8b6c51f90da3a666eec13ab35.short
   > 2
+  $ folder targets/d4735e3a265e16eee03f59718b9b5d03019c07d8b6c51f90da3a666eec13ab35.d
   $ put targets/d4735e3a265e16eee03f59718b9b5d03019c07d8b6c51f90da3a666eec13ab35.d/e
   $ put targets/d4735e3a265e16eee03f59718b9b5d03019c07d8b6c51f90da3a666eec13ab35
   > 2
