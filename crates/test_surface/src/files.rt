@@ -3,8 +3,8 @@
 use crate::repository::{first_state, metadata, moment, repository};
 use cjson::{Doc, NoMemory, signed_bytes};
 use cycle::Repo;
-use examine::{Examined, Expect, examine};
-use keys::{Direct, Judge, KeyRing, RoleKeys};
+use examine::{Examined, Expect, Expectation, File, Kind, Listed, examine};
+use keys::{Direct, KeyRing, RoleKeys};
 use meta::names::{digest_name, role_name, root_name, version_name};
 use meta::{
     Delegations, Fault, Header, Listing, Moment, Named, Part, ReadFault, Root, Snapshot, Target,
@@ -24,18 +24,6 @@ fn ready_state(alloc: Global, repo: &Repo) -> Result<Trusted, Fail> {
 /// Returns the document of a file of the repository.
 fn document(alloc: Global, repo: &Repo, name: &str) -> Result<Doc, Fail> {
     Ok(signed_bytes(alloc, metadata(repo, name)?)?)
-}
-
-/// Examines a file: its parameters and its result type.
-#[allow(dead_code)]
-fn examined<J: Judge>(
-    alloc: Global,
-    expect: &Expect,
-    repo: &Repo,
-    now: Moment,
-    judge: &mut J,
-) -> Result<Examined, NoMemory> {
-    examine(alloc, expect, repo, now, judge)
 }
 
 #[test]
@@ -58,6 +46,32 @@ fn readings(rt: HostRuntime) -> Result<(), Fail> {
     let doc = document(alloc, &repo, "targets.json")?;
     let targets: Result<Targets, ReadFault> = read_targets(alloc, &doc);
     assert_eq!(rt; targets?.targets().len(), 1);
+    Ok(())
+}
+
+#[test]
+fn examinations(rt: HostRuntime) -> Result<(), Fail> {
+    let repo = repository(rt.alloc())?;
+    let state = first_state(rt.alloc(), &repo)?;
+    let root = state.root().reading();
+    let expect = Expect {
+        kind: Kind::Timestamp { trusted: None },
+        file: Expectation {
+            name: "timestamp.json",
+            listed: Listed::NotDue,
+            ring: root.ring(),
+            role: root.timestamp(),
+        },
+    };
+    let now = moment()?;
+    let examined: Result<Examined, NoMemory> = examine(
+        rt.alloc(),
+        &expect,
+        &repo,
+        now,
+        &mut Direct,
+    );
+    assert!(rt; matches!(examined?, Examined::Good(File::Timestamp(_))));
     Ok(())
 }
 

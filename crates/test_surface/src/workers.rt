@@ -3,7 +3,8 @@
 use crate::repository::{first_state, repository, wanted};
 use board::{Board, Checks, done, retire};
 use cjson::NoMemory;
-use crew::{Gate, Hand, Open, Plan, deal, work};
+use crew::{Gate, Hand, Open, deal, work};
+use plan::Plan;
 use std::alloc::Global;
 use std::test::Fail;
 
