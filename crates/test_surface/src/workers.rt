@@ -1,7 +1,7 @@
 //! Plans, hands and workers.
 
 use crate::repository::{first_state, repository, wanted};
-use board::{Board, Checks, done, retire};
+use board::{Board, Checks, Seat, done, retire};
 use cjson::NoMemory;
 use crew::{Gate, Hand, Open, deal, work};
 use plan::Plan;
@@ -10,11 +10,12 @@ use std::test::Fail;
 
 /// Returns how many verdicts one worker publishes for a plan.
 fn published<G: Gate>(alloc: Global, plan: &Plan, gate: &G) -> Result<usize, Fail> {
-    let (board, mut seat) = Board::new(alloc, plan)?;
+    let (board, seat) = Board::new(alloc, plan)?;
     let hands: Result<Vec<Hand>, NoMemory> = deal(alloc, plan.count(), 1);
-    for hand in hands? {
-        seat = work(&board, seat, plan, hand, gate);
-    }
+    let Some(hand) = hands?.into_iter().next() else {
+        return Err("a hand".into());
+    };
+    let seat: Seat = work(&board, seat, plan, hand, gate);
     let count = done(&seat);
     retire(seat);
     Ok(count)
