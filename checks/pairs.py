@@ -10,7 +10,7 @@ either run as the one that is held. The remaining pairs, up to PAIRS, are stoppe
 random moments. After each pair the state must be that of the newer repository, the run over it must
 have status 0, and nothing may lie beside the state. A small library, made with `cc`, is loaded
 before the C library's calls. `rt run` in crates/tufcheck proves and builds the program, once.
-About two minutes.
+Half a minute.
 """
 
 import os
