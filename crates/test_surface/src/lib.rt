@@ -3,8 +3,8 @@
 //! with ample memory. If one of them changes, this crate doesn't compile or a test fails.
 //!
 //! A module for each crate: documents (`cjson`), signatures (`lms`), rings (`keys`), files
-//! (`meta`), states (`rolechain`), searches (`deleg`), boards (`board`), workers (`crew`, `plan`), cycles
-//! (`cycle`), made (`maker`) and commands (`command`).
+//! (`meta`), states (`rolechain`), searches (`deleg`), boards (`board`), workers (`crew`, `plan`),
+//! cycles (`cycle`), made (`maker`) and commands (`command`).
 #![tactic(auto)]
 
 #[cfg(test)]
