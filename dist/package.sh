@@ -1,10 +1,10 @@
 #!/bin/bash
 # Makes a release of the built program: a tarball and a Debian package, and SHA256SUMS of both.
 #
-#   dist/package.sh [PROGRAM [FOLDER]]      crates/tufcheck/out/tufcheck and dist/out unless given
+#   dist/package.sh [PROGRAM [FOLDER]]      what dist/build.sh built and dist/out unless given
 #
 # Both have the program, the man page, completions for bash, zsh and fish, the user's page with the pages and the examples
-# that it leads to, and the licenses. The built program is packaged unchanged; only one of 2,000,000 bytes or more is
+# that it leads to, and the licenses. The built program is packaged unchanged; only one of 3,000,000 bytes or more is
 # stripped, which is printed. The package depends on what the program links, by the packages of this machine that own it.
 #
 # The same files make the same bytes: times are SOURCE_DATE_EPOCH or else the last commit's, the owner is 0, and names are
@@ -15,7 +15,7 @@ version=1.0.0
 umask 022
 export LC_ALL=C
 top=$(cd "$(dirname "$0")/.." && pwd) || exit 1
-program=${1:-$top/crates/tufcheck/out/tufcheck} out=${2:-$top/dist/out}
+program=${1:-$top/dist/out/build/tufcheck} out=${2:-$top/dist/out}
 name=tufcheck-$version-x86_64-linux deb=tufcheck_${version}_amd64.deb
 work=$(mktemp -d) || exit 1
 trap 'rm -rf "$work"' EXIT
@@ -35,17 +35,17 @@ size() {
 for tool in gzip tar sha256sum od; do
     command -v $tool > "$work/found" || refused "$tool is missing"
 done
-[ -f "$program" ] || refused "no program at $program: \`rt run\` in crates/tufcheck builds it"
+[ -f "$program" ] || refused "no program at $program: dist/build.sh builds it"
 cp "$program" "$work/tufcheck" || exit 1
 case $(od -A n -t x1 -N 20 "$work/tufcheck" | tr -d ' \n') in
 7f454c4602*3e00) ;;
 *) refused "$program isn't an ELF file for x86-64" ;;
 esac
-if [ "$(size "$work/tufcheck")" -ge 2000000 ]; then
+if [ "$(size "$work/tufcheck")" -ge 3000000 ]; then
     command -v strip > "$work/found" || refused "the program has $(size "$work/tufcheck") bytes, and strip (binutils) is missing"
     strip "$work/tufcheck" || refused "the program can't be stripped"
     echo "stripped: the program has $(size "$program") bytes as it was built, and $(size "$work/tufcheck") in the release"
-    [ "$(size "$work/tufcheck")" -lt 2000000 ] || refused "the program has 2,000,000 bytes or more, stripped too"
+    [ "$(size "$work/tufcheck")" -lt 3000000 ] || refused "the program has 3,000,000 bytes or more, stripped too"
 fi
 when=${SOURCE_DATE_EPOCH:-$(git -C "$top" log -1 --format=%ct 2> "$work/found")}
 [[ $when =~ ^[0-9]+$ ]] || refused "no date: give SOURCE_DATE_EPOCH, or package in a clone with git"

@@ -216,8 +216,15 @@ pub record IsKept (me : Sat) (held : Option ℕ) (published : ℕ) : Type 0 wher
 
 -- a table that no board has
 abbrev pub no_table : TableId
-no_table =
-    record { words = 0; slots = 0; views_name = 0; atom = 0; block = 0; offset = 0; slot_names = [] }
+no_table = record {
+  words = 0;
+  slots = 0;
+  views_name = 0;
+  atom = 0;
+  block = 0;
+  offset = 0;
+  slot_names = [];
+}
 
 -- a seat of no board, for a caller that has to name a seat before it has one
 abbrev pub no_seat : SeatValue

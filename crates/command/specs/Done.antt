@@ -66,8 +66,8 @@ IsReplayedOf terms count old new status =
 abbrev pub IsDone : Subcommand → Option (List ℕ) → Option (List ℕ) → ℕ → Type 0
 IsDone (Init root state) old new status =
     IsFirst root.now state.now (system_with [] old) (system_with [] new) status
-IsDone (Verify terms metadata targets) old new status = IsVerifiedOf terms old new status
-IsDone (VerifyEvery terms metadata targets) old new status = IsEveryVerifiedOf terms old new status
+IsDone (Verify terms folders) old new status = IsVerifiedOf terms old new status
+IsDone (VerifyEvery terms folders) old new status = IsEveryVerifiedOf terms old new status
 IsDone (Replay terms keep repositories) old new status =
     IsReplayedOf terms (length repositories.items) old new status
 IsDone (Show state before) old new status = IsShown state.now (option_map (λ t. t.now) before)
@@ -93,8 +93,8 @@ IsCauseOfReplay terms keep old f =
 -- the cause by the run's own definition; of `make` none is known
 abbrev pub IsCause : Subcommand → Option (List ℕ) → Failure → Type 0
 IsCause (Init root state) old f = IsCauseOfFirst root.now (system_with [] old) f
-IsCause (Verify terms metadata targets) old f = IsCauseOfVerify terms old f
-IsCause (VerifyEvery terms metadata targets) old f = IsCauseOfVerify terms old f
+IsCause (Verify terms folders) old f = IsCauseOfVerify terms old f
+IsCause (VerifyEvery terms folders) old f = IsCauseOfVerify terms old f
 IsCause (Replay terms keep repositories) old f = IsCauseOfReplay terms keep old f
 IsCause (Show state before) old f =
     IsCauseToShow state.now (option_map (λ t. t.now) before) (system_with [] old) f

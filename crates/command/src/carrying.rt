@@ -7,6 +7,7 @@ ghost use Rattle.update.specs.Shown.{IsCauseToShow, IsShown};
 
 use crate::folders::{replay_in, verify_every_in, verify_in};
 use crate::making::make;
+use crate::runtime::Runtime;
 use crate::subcommand::Subcommand;
 use failure::Failure;
 use std::alloc::Global;
@@ -21,9 +22,7 @@ use update::Host;
 /// stopped or the root is refused. Prints the lines of the outcome to `out`, which is returned too.
 /// Fails as the run does that the subcommand names.
 pub fn carry_out<T: Threads + Wait + Sync, W: Write>(
-    rt: &HostRuntime,
-    threads: &T,
-    alloc: Global,
+    run: &Runtime<'_, T>,
     subcommand: &Subcommand<'_>,
     out: W,
 ) -> (Result<u8, Failure>, W)
@@ -34,31 +33,16 @@ pub fn carry_out<T: Threads + Wait + Sync, W: Write>(
         → W.contents result.1 ≡ W.contents out) }
     ensures cause { IfErr result.0 (IsCause subcommand.now (W.contents out)) }
 {
+    let (rt, alloc) = (run.host, run.alloc);
     match subcommand {
         Subcommand::Init { root, state } => init(rt, alloc, root, state, out),
-        Subcommand::Verify {
-            terms,
-            metadata,
-            targets,
-        } => verify_in(rt, threads, alloc, terms, metadata, targets, out),
-        Subcommand::VerifyEvery {
-            terms,
-            metadata,
-            targets,
-        } => verify_every_in(rt, threads, alloc, terms, metadata, targets, out),
+        Subcommand::Verify { terms, folders } => verify_in(run, terms, *folders, out),
+        Subcommand::VerifyEvery { terms, folders } => verify_every_in(run, terms, *folders, out),
         Subcommand::Replay {
             terms,
             keep,
             repositories,
-        } => replay_in(
-            rt,
-            threads,
-            alloc,
-            terms,
-            *keep,
-            repositories.as_slice(),
-            out,
-        ),
+        } => replay_in(run, terms, *keep, repositories.as_slice(), out),
         Subcommand::Show { state, before } => show(rt, alloc, state, *before, out),
         Subcommand::Make { script, folder } => (make(rt, alloc, script, folder), out),
     }

@@ -5,6 +5,8 @@ ghost use Rattle.failure.specs.Failures.{is_callers};
 
 use crate::carrying::carry_out;
 use crate::reading::read_subcommand;
+use crate::runtime::Runtime;
+use crate::sample::sample;
 use clap::error::ErrorKind;
 use failure::{Failure, tell_failure};
 use report::put;
@@ -30,30 +32,33 @@ pub fn command<T: Threads + Wait + Sync, W: Write, E: Write>(
     ensures known { result ≤ 4 }
 {
     let done = if words.is_empty() {
-        sample::run(alloc, out)
+        sample(alloc, out)
     } else {
-        parse_and_carry_out(rt, threads, alloc, words, out, err)
+        let run = Runtime {
+            host: rt,
+            threads,
+            alloc,
+        };
+        parse_and_carry_out(&run, words, out, err)
     };
     status_of(done, err)
 }
 
 /// Parses the arguments, and carries out their subcommand or prints what `clap` reports.
 fn parse_and_carry_out<T: Threads + Wait + Sync, W: Write, E: Write>(
-    rt: &HostRuntime,
-    threads: &T,
-    alloc: Global,
+    run: &Runtime<'_, T>,
     words: &[String],
     out: &mut W,
     err: &mut E,
 ) -> Result<u8, Failure>
     ensures known { IfOk result (λ status. status ≤ 3) }
 {
-    match words::parse(alloc, words) {
+    match words::parse(run.alloc, words) {
         Ok(matches) => {
-            let subcommand = read_subcommand(rt, alloc, &matches)?;
-            carry_out(rt, threads, alloc, &subcommand, out).0
+            let subcommand = read_subcommand(run.host, run.alloc, &matches)?;
+            carry_out(run, &subcommand, out).0
         }
-        Err(error) => report_error(alloc, &error, out, err),
+        Err(error) => report_error(run.alloc, &error, out, err),
     }
 }
 

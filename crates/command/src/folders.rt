@@ -4,6 +4,8 @@ ghost use Rattle.std.specs.Prelude.{◌≡◌, ◌≢◌, ◌≤◌, IfErr, IfOk
 ghost use Rattle.command.specs.Done.{IsEveryVerifiedOf, IsReplayedOf, IsVerifiedOf};
 ghost use Rattle.command.specs.Done.{IsCauseOfReplay, IsCauseOfVerify};
 
+use crate::runtime::Runtime;
+use crate::subcommand::Paths;
 use failure::Failure;
 use folder::{Depth, Disk, path_below};
 use std::alloc::{AllocError, Global};
@@ -14,15 +16,12 @@ use std::thread::Threads;
 use system::Machine;
 use update::{Folders, Host, Terms};
 
-/// Verifies the repository in the folders `metadata` and `targets`.
+/// Verifies the repository in the folders.
 #[tactic(auto, using(crate::proofs::Doing::verifying))]
 pub fn verify_in<T: Threads + Wait + Sync, W: Write>(
-    rt: &HostRuntime,
-    threads: &T,
-    alloc: Global,
+    run: &Runtime<'_, T>,
     terms: &Terms<'_>,
-    metadata: &str,
-    targets: &str,
+    folders: Paths<'_>,
     out: W,
 ) -> (Result<u8, Failure>, W)
     ensures known { IfOk result.0 (λ status. status ≤ 2) }
@@ -32,28 +31,25 @@ pub fn verify_in<T: Threads + Wait + Sync, W: Write>(
         → W.contents result.1 ≡ W.contents out) }
     ensures cause { IfErr result.0 (IsCauseOfVerify terms.now (W.contents out)) }
 {
-    let folders = match two_folders(rt, alloc, metadata, targets) {
+    let folders = match two_folders(run.host, run.alloc, folders) {
         Ok(folders) => folders,
         Err(error) => return (Err(Failure::from(error)), out),
     };
     let mut host = Host {
-        system: Machine::new(rt),
+        system: Machine::new(run.host),
         folders,
         out,
     };
-    let done = host.verify(threads, alloc, terms);
+    let done = host.verify(run.threads, run.alloc, terms);
     (done, host.out)
 }
 
-/// Verifies every file of the folder `targets`, by the paths of their names.
+/// Verifies every file of the folder of target files, by the paths of their names.
 #[tactic(auto, using(crate::proofs::Doing::verifying_every))]
 pub fn verify_every_in<T: Threads + Wait + Sync, W: Write>(
-    rt: &HostRuntime,
-    threads: &T,
-    alloc: Global,
+    run: &Runtime<'_, T>,
     terms: &Terms<'_>,
-    metadata: &str,
-    targets: &str,
+    folders: Paths<'_>,
     out: W,
 ) -> (Result<u8, Failure>, W)
     ensures known { IfOk result.0 (λ status. status ≤ 2) }
@@ -63,16 +59,16 @@ pub fn verify_every_in<T: Threads + Wait + Sync, W: Write>(
         → W.contents result.1 ≡ W.contents out) }
     ensures cause { IfErr result.0 (IsCauseOfVerify terms.now (W.contents out)) }
 {
-    let folders = match two_folders(rt, alloc, metadata, targets) {
+    let folders = match two_folders(run.host, run.alloc, folders) {
         Ok(folders) => folders,
         Err(error) => return (Err(Failure::from(error)), out),
     };
     let mut host = Host {
-        system: Machine::new(rt),
+        system: Machine::new(run.host),
         folders,
         out,
     };
-    let done = host.verify_every(threads, alloc, terms);
+    let done = host.verify_every(run.threads, run.alloc, terms);
     (done, host.out)
 }
 
@@ -80,20 +76,17 @@ pub fn verify_every_in<T: Threads + Wait + Sync, W: Write>(
 fn two_folders<'a, R: Files>(
     rt: &'a R,
     alloc: Global,
-    metadata: &str,
-    targets: &str,
+    folders: Paths<'_>,
 ) -> Result<Folders<Disk<'a, R>, Disk<'a, R>>, AllocError> {
-    let metadata = String::from_str(alloc, metadata)?;
-    let targets = String::from_str(alloc, targets)?;
+    let metadata = String::from_str(alloc, folders.metadata)?;
+    let targets = String::from_str(alloc, folders.targets)?;
     Ok(folders_of(rt, metadata, targets))
 }
 
 /// Verifies the repositories, one after another.
 #[tactic(auto, using(crate::proofs::Doing::replaying))]
 pub fn replay_in<T: Threads + Wait + Sync, W: Write>(
-    rt: &HostRuntime,
-    threads: &T,
-    alloc: Global,
+    run: &Runtime<'_, T>,
     terms: &Terms<'_>,
     keep: usize,
     repositories: &[String],
@@ -106,16 +99,16 @@ pub fn replay_in<T: Threads + Wait + Sync, W: Write>(
         → W.contents result.1 ≡ W.contents out) }
     ensures cause { IfErr result.0 (IsCauseOfReplay terms.now keep (W.contents out)) }
 {
-    let folders = match all_folders(rt, alloc, repositories) {
+    let folders = match all_folders(run.host, run.alloc, repositories) {
         Ok(folders) => folders,
         Err(error) => return (Err(Failure::from(error)), out),
     };
     let mut host = Host {
-        system: Machine::new(rt),
+        system: Machine::new(run.host),
         folders,
         out,
     };
-    let done = host.replay(threads, alloc, terms, keep);
+    let done = host.replay(run.threads, run.alloc, terms, keep);
     (done, host.out)
 }
 

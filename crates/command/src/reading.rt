@@ -1,7 +1,7 @@
 //! Subcommands, read from the command line.
 
 use crate::listed::push_listed;
-use crate::subcommand::Subcommand;
+use crate::subcommand::{Paths, Subcommand};
 use crate::terms::{all_of, number, terms, word};
 use clap::ArgMatches;
 use failure::Failure;
@@ -64,20 +64,14 @@ fn verify_of<'a>(
     words: &ArgMatches<'a>,
 ) -> Result<Subcommand<'a>, Failure> {
     let terms = all_terms(rt, alloc, words)?;
-    let metadata = word(words, "metadata")?;
-    let targets = word(words, "targets")?;
+    let folders = Paths {
+        metadata: word(words, "metadata")?,
+        targets: word(words, "targets")?,
+    };
     if words.get_flag("every") {
-        return Ok(Subcommand::VerifyEvery {
-            terms,
-            metadata,
-            targets,
-        });
+        return Ok(Subcommand::VerifyEvery { terms, folders });
     }
-    Ok(Subcommand::Verify {
-        terms,
-        metadata,
-        targets,
-    })
+    Ok(Subcommand::Verify { terms, folders })
 }
 
 /// Returns what both `verify` and `replay` name, with the paths of the file of `--paths-from`.

@@ -2,6 +2,15 @@
 
 use update::Terms;
 
+/// The paths of a repository's two folders.
+#[derive(Clone, Copy)]
+pub struct Paths<'a> {
+    /// The folder of metadata files.
+    pub metadata: &'a str,
+    /// The folder of target files.
+    pub targets: &'a str,
+}
+
 /// A subcommand of the command line, with its arguments.
 #[derive(Drop)]
 pub enum Subcommand<'a> {
@@ -16,19 +25,15 @@ pub enum Subcommand<'a> {
     Verify {
         /// What the arguments name, with the paths that a file lists.
         terms: Terms<'a>,
-        /// The path of the folder of metadata files.
-        metadata: &'a str,
-        /// The path of the folder of target files.
-        targets: &'a str,
+        /// The folders.
+        folders: Paths<'a>,
     },
     /// Verifies every file of the folder of target files, by the paths of their names.
     VerifyEvery {
         /// What the arguments name, without wanted paths.
         terms: Terms<'a>,
-        /// The path of the folder of metadata files.
-        metadata: &'a str,
-        /// The path of the folder of target files.
-        targets: &'a str,
+        /// The folders.
+        folders: Paths<'a>,
     },
     /// Verifies repositories, one after another.
     Replay {

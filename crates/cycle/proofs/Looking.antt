@@ -1,5 +1,5 @@
 -- Two repositories have the same outcome if the same part of their metadata files is looked at.
-use Rattle.std.proofs.Common.{◌≡◌, ℕ, zero, suc, ◌+◌, ◌≤◌, ◌<◌, min, Bool, true, false, cond, nat_le, nat_lt, List, [], ◌∷◌, ◌++◌, length, take, map, decimal, codes, Option, Some, None, option_map, option_and_then, Result, Ok, Err, refl, sym, ap, ◌∙◌, ⊎_elim, true≢false, arith, append_assoc, length-take, take_all, if◌then◌else◌}
+use Rattle.std.proofs.Common.{◌≡◌, ℕ, zero, suc, ◌+◌, ◌≤◌, ◌<◌, min, Bool, true, false, cond, nat_le, nat_lt, List, [], ◌∷◌, ◌++◌, length, take, map, decimal, codes, Option, Some, None, not, option_map, option_and_then, Result, Ok, Err, refl, sym, ap, ◌∙◌, ⊎_elim, true≢false, arith, append_assoc, length-take, take_all, if◌then◌else◌}
 use Rattle.std.specs.Bool.{⊤}
 use Rattle.std.specs.Option.{option_map_or}
 use Rattle.std.proofs.lemmas.Bool.{cases_Bool, lt-ltb, ltb-true, ltb-false}
@@ -12,9 +12,9 @@ use Rattle.meta.specs.Content.{content, versioned, root_name, role_name, root_li
 use Rattle.meta.specs.Metadata.{Key, RoleKeys, Form, Root, Timestamp, Snapshot, Targets}
 use Rattle.meta.specs.Metadata as form
 use Rattle.meta.specs.declared.fault.Fault.{Fault}
-use Rattle.meta.specs.declared.fault.Fault.TheVariants.{NotListed, Missing, TooLong}
+use Rattle.meta.specs.declared.fault.Fault.TheVariants.{NotListed, Missing, TooLong, Unsigned}
 use Rattle.meta.specs.declared.hashes.Hashes.{Hashes}
-use Rattle.examine.specs.Checks.{Files, Expectation, Candidate, is_absent, listed_length, listed_hashes, listed_version, read_candidate, candidate, signed_candidate, root_part, first_timestamp, next_timestamp, snapshot_part, targets_part}
+use Rattle.examine.specs.Checks.{Files, Expectation, Candidate, is_absent, listed_length, listed_hashes, listed_version, is_signed, read_candidate, signed_candidate, root_part, first_timestamp, next_timestamp, snapshot_part, targets_part}
 use Rattle.rolechain.specs.declared.end.Step.TheVariants as step
 use Rattle.rolechain.specs.declared.end.Step.{Step}
 use Rattle.rolechain.specs.declared.end.End.{End}
@@ -112,10 +112,10 @@ chosen : {A : Type 0} (b : Bool) (x y z : A) → b ≡ true → (if b then x els
 chosen true x y z is h = h
 chosen false x y z is h = absurd (true≢false (sym is))
 
-module _ (A : Type 0) (form : Form A) (limit : ℕ) (size : Option ℕ) (hashes : Option Hashes) where
-  -- the bytes, checked and read
+module _ (A : Type 0) (form : Form A) (limit : ℕ) (size : Option ℕ) (hashes : Option Hashes) (checks : Candidate A → Result (Candidate A) Fault) where
+  -- the bytes, checked and read, and what follows
   abbrev intact : List ℕ → Result (Candidate A) Fault
-  intact bytes = content (Some limit) size hashes bytes >>= λ _. read_candidate form bytes
+  intact bytes = content (Some limit) size hashes bytes >>= λ _. read_candidate form bytes >>= checks
 
   too_long : (bytes : List ℕ) → nat_lt limit (length bytes) ≡ true → intact bytes ≡ Err TooLong
   too_long bytes h = rw h refl
@@ -135,7 +135,7 @@ module _ (A : Type 0) (form : Form A) (limit : ℕ) (size : Option ℕ) (hashes 
 
   -- what is examined of a file that may be there
   abbrev file_read : Result ⊤ Fault → Option (List ℕ) → Result (Candidate A) Fault
-  file_read listed file = (listed >>= λ _. or_refuse file Missing) >>= intact
+  file_read listed file = listed >>= λ _. or_refuse file Missing >>= intact
 
   file_read-same : (up_to : ℕ) (listed : Result ⊤ Fault) (a b : Option (List ℕ)) → limit < up_to → option_map (take up_to) a ≡ option_map (take up_to) b → file_read listed a ≡ file_read listed b
   file_read-same up_to (Err fault) a b within same = refl
@@ -174,12 +174,10 @@ module _ (f g : Files) (same : (name : List ℕ) → looked_at f name ≡ looked
   starts : (name : List ℕ) → is_metadata_name name ≡ true → option_map (take most_looked_at) (f name) ≡ option_map (take most_looked_at) (g name)
   starts name is = chosen (is_metadata_name name) _ _ None is (same name)
 
-  pub same_candidate : (A : Type 0) (form : Form A) (limit : ℕ) (e : Expectation) → limit < most_looked_at → is_metadata_name e.name ≡ true → candidate form limit e f ≡ candidate form limit e g
-  same_candidate A form limit e within is =
-      file_read-same A form limit (listed_length e.listed) (listed_hashes e.listed) most_looked_at (refuse_if (is_absent e.listed) NotListed) (f e.name) (g e.name) within (starts e.name is)
-
   pub same_signed_candidate : (A : Type 0) (form : Form A) (limit : ℕ) (e : Expectation) → limit < most_looked_at → is_metadata_name e.name ≡ true → signed_candidate form limit e f ≡ signed_candidate form limit e g
-  same_signed_candidate A form limit e within is = before (candidate form limit e f) (candidate form limit e g) _ (same_candidate A form limit e within is)
+  same_signed_candidate A form limit e within is =
+      file_read-same A form limit (listed_length e.listed) (listed_hashes e.listed) (λ (c : Candidate A). refuse_if (not (is_signed e.ring e.role c.doc)) Unsigned >>= λ _. Ok c) most_looked_at
+      (refuse_if (is_absent e.listed) NotListed) (f e.name) (g e.name) within (starts e.name is)
 
   -- ---- the files of each kind
 

@@ -24,8 +24,8 @@ pub(crate) fn examine_once<J: Judge>(
 ) -> Result<Entered, Stop>
     requires first { Some (spec.edge_of edge.now) ≡ slice_get frame.now 0 }
     requires cache { IsCacheOf (examination_in query.now) cache.old }
-    ensures answer { Answers (spec.examined (file_in query.now.files.now) query.now.moment
-        query.now.root.now query.now.snapshot.now (spec.edge_of edge.now)) result (λ e. e.file) }
+    ensures answer { Answers (spec.examined (file_in query.now.context.files.now)
+        query.now.context.moment query.now.root.now query.now.snapshot.now (spec.edge_of edge.now)) result (λ e. e.file) }
     ensures cache { IsCacheOf (examination_in query.now) cache.new }
 {
     if let Some(outcome) = cache.find(edge) {
@@ -54,8 +54,8 @@ fn remember(
     cache: &mut RoleCache,
 ) -> bool
     requires first { Some (spec.edge_of edge.now) ≡ slice_get frame.now 0 }
-    requires answer { Answers (spec.examined (file_in query.now.files.now) query.now.moment
-        query.now.root.now query.now.snapshot.now (spec.edge_of edge.now)) examined.now (λ p. p) }
+    requires answer { Answers (spec.examined (file_in query.now.context.files.now)
+        query.now.context.moment query.now.root.now query.now.snapshot.now (spec.edge_of edge.now)) examined.now (λ p. p) }
     requires cache { IsCacheOf (examination_in query.now) cache.old }
     ensures cache { IsCacheOf (examination_in query.now) cache.new }
 {
@@ -63,7 +63,7 @@ fn remember(
         return false;
     };
     cache
-        .insert(query.alloc, edge.name, frame, outcome)
+        .insert(query.context.alloc, edge.name, frame, outcome)
         .unwrap_or(false)
 }
 

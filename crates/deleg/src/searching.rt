@@ -17,6 +17,7 @@ use crate::walk::walk;
 use cjson::NoMemory;
 use cjson::list::Items;
 use cjson::text::Text;
+use examine::Context;
 use keys::Judge;
 use meta::{Moment, Part, Repo, Targets};
 use rolechain::Trusted;
@@ -72,10 +73,9 @@ impl<'a> Searcher<'a> {
         requires ready { IsTrue (is_ready self.old.trusted.now) }
         requires limit { 1 ≤ limit }
         requires most { limit ≤ 256 }
-        ensures preorder { let s = self.old in (visits : spec.Visits)
-            → spec.IsPreorderOf (file_in s.repo.now.metadata) s.moment s.trusted.now path.now limit
-            visits
-            → IfOk result (λ found. spec.search_by visits s.trusted.now path.now ≡ Some found) }
+        ensures preorder { let s = self.old in (v : spec.Visits) → spec.IsPreorderOf
+            (file_in s.repo.now.metadata) s.moment s.trusted.now path.now limit v
+            → IfOk result (λ found. spec.search_by v s.trusted.now path.now ≡ Some found) }
         ensures solved { let s = self.old in (snapshot : Snapshot)
             → spec.IsSolved (file_in s.repo.now.metadata) s.moment s.trusted.now.root.reading
             snapshot path.now limit }
@@ -90,9 +90,11 @@ impl<'a> Searcher<'a> {
         let snapshot = trusted.snapshot().unwrap();
         let targets = trusted.targets().unwrap();
         let query = Query {
-            alloc: self.alloc,
-            files: &repo.metadata,
-            moment: self.moment,
+            context: Context {
+                alloc: self.alloc,
+                files: &repo.metadata,
+                moment: self.moment,
+            },
             root: trusted.root().reading(),
             snapshot: snapshot.reading(),
             path: &HashedPath::of(path),
@@ -143,13 +145,13 @@ fn search_or_again<J: Judge>(
 ) -> Result<Search, NoMemory>
     requires cache { IsCacheOf (examination_in query.now) cache.old }
     ensures searched { let q = query.now in IfOk result (λ s. s ≡ spec.search_from
-        (file_in q.files.now) q.moment q.root.now q.snapshot.now q.path.now q.limit
-        targets.now.reading) }
+        (file_in q.context.files.now) q.context.moment q.root.now q.snapshot.now q.path.now
+        q.limit targets.now.reading) }
     ensures cache { IsCacheOf (examination_in query.now) cache.new }
 {
     match search_from(query, targets, cache, judge) {
         Err(NoMemory) if !cache.is_empty() => {
-            *cache = RoleCache::new(query.alloc);
+            *cache = RoleCache::new(query.context.alloc);
             search_from(query, targets, cache, judge)
         }
         found => found,
@@ -165,25 +167,25 @@ fn search_from<J: Judge>(
 ) -> Result<Search, NoMemory>
     requires cache { IsCacheOf (examination_in query.now) cache.old }
     ensures searched { let q = query.now in IfOk result (λ s. s ≡ spec.search_from
-        (file_in q.files.now) q.moment q.root.now q.snapshot.now q.path.now q.limit
-        targets.now.reading) }
+        (file_in q.context.files.now) q.context.moment q.root.now q.snapshot.now q.path.now
+        q.limit targets.now.reading) }
     ensures cache { IsCacheOf (examination_in query.now) cache.new }
 {
     if let Some(target) = target_of(targets.reading(), query.path.as_str()) {
-        let role = Text::new(String::from_str(query.alloc, "targets")?);
+        let role = Text::new(String::from_str(query.context.alloc, "targets")?);
         let found = Found::Listed {
             role,
-            target: target.copy(query.alloc)?,
+            target: target.copy(query.context.alloc)?,
             visited: 1,
         };
-        let accepted = Items::new(Vec::new(query.alloc));
+        let accepted = Items::new(Vec::new(query.context.alloc));
         return Ok(Search { found, accepted });
     }
-    let mut stack = Vec::new(query.alloc);
+    let mut stack = Vec::new(query.context.alloc);
     let top = Entered {
         file: targets.copy()?,
         held: true,
     };
-    stack.push(Frame::of(query.alloc, top, query.path)?)?;
+    stack.push(Frame::of(query.context.alloc, top, query.path)?)?;
     walk(query, stack, cache, judge)
 }

@@ -46,7 +46,7 @@ pub(crate) fn walk<J: Judge>(
         s ≡ glue.outlook query.now (glue.pending query.now.path.now stack.items) []) }
     ensures cache { IsCacheOf (examination_in query.now) cache.new }
 {
-    let mut seen = Vec::new(query.alloc);
+    let mut seen = Vec::new(query.context.alloc);
     while let Some(frame) = stack.pop() {
         match follow(query, &frame, &mut seen, cache, judge)? {
             Step::Leaves => {}
@@ -95,7 +95,7 @@ fn follow<J: Judge>(
     if seen.len() + 1 >= query.limit {
         return Ok(Step::Ends(Found::LimitReached));
     }
-    let role = Text::new(String::from_str(query.alloc, edge.name)?);
+    let role = Text::new(String::from_str(query.context.alloc, edge.name)?);
     let entered = match examine_once(query, frame, &edge, cache, judge) {
         Ok(entered) => entered,
         Err(Stop::Refused(fault)) => return Ok(Step::Ends(Found::RoleRefused { role, fault })),
@@ -104,7 +104,7 @@ fn follow<J: Judge>(
     if let Some(found) = accept(query, role, &entered.file, seen)? {
         return Ok(Step::Ends(found));
     }
-    let below = Frame::of(query.alloc, entered, query.path)?;
+    let below = Frame::of(query.context.alloc, entered, query.path)?;
     Ok(Step::Enters { terminating, below })
 }
 
@@ -122,7 +122,7 @@ fn accept(
         o ≡ option_map (λ t. found.Listed role t (length seen.new.items + 1))
         (spec.target_of part.now.reading query.now.path.now)) }
 {
-    let name = Text::new(String::from_str(query.alloc, role.as_str())?);
+    let name = Text::new(String::from_str(query.context.alloc, role.as_str())?);
     let version = part.reading().header().version.get();
     seen.push(Accepted {
         role: name,
@@ -131,7 +131,7 @@ fn accept(
     let Some(target) = target_of(part.reading(), query.path.as_str()) else {
         return Ok(None);
     };
-    let target = target.copy(query.alloc)?;
+    let target = target.copy(query.context.alloc)?;
     Ok(Some(Found::Listed {
         role,
         target,

@@ -61,37 +61,14 @@ pub record Candidate (A : Type 0) : Type 0 where
   pub part : Part A
   pub doc : Document
 
--- the bytes of the expected file, which must be listed if that is required, and be there
-abbrev pub listed_bytes : Expectation → Files → Result (List ℕ) Fault
-listed_bytes e files = do
-  listed ← refuse_if (is_absent e.listed) NotListed
-  or_refuse (files e.name) Missing
-
 abbrev pub read_candidate : {A : Type 0} → Form A → List ℕ → Result (Candidate A) Fault
 read_candidate form bytes = do
   doc ← document_of bytes
   reading ← formed form doc
   Ok (record { part = record { bytes = bytes; reading = reading }; doc = doc })
 
--- the expected file from the repository, whoever signed it, with its listed length (5.5.1, 5.6.1)
--- and digests (5.5.2, 5.6.2)
-abbrev pub candidate : {A : Type 0} → Form A → ℕ → Expectation → Files
-    → Result (Candidate A) Fault
-candidate form limit e files = do
-  bytes ← listed_bytes e files
-  intact ← content (Some limit) (listed_length e.listed) (listed_hashes e.listed) bytes
-  read_candidate form bytes
-
 abbrev pub is_signed : List Key → RoleKeys → Document → Bool
 is_signed ring role doc = is_met doc.text doc.entries ring role
-
--- the expected file, signed as expected (5.3.4, 5.4.2, 5.5.3, 5.6.3)
-abbrev pub signed_candidate : {A : Type 0} → Form A → ℕ → Expectation → Files
-    → Result (Candidate A) Fault
-signed_candidate form limit e files = do
-  c ← candidate form limit e files
-  signed ← refuse_if (not (is_signed e.ring e.role c.doc)) Unsigned
-  Ok c
 
 -- ---- version, rollback and expiry
 
@@ -102,6 +79,10 @@ is_version_wrong (Some due) h = not (due == h.version)
 -- it doesn't expire later than the moment
 abbrev pub is_expired : Header → Moment → Bool
 is_expired h now = not (is_before now h.expires)
+
+-- a trusted file isn't expired (5.3.10)
+abbrev pub expiry_check : Header → Moment → Result ⊤ Fault
+expiry_check h now = refuse_if (is_expired h now) Expired
 
 -- the trusted timestamp's version again
 abbrev pub is_again : Timestamp → Timestamp → Bool
@@ -123,80 +104,79 @@ is_listed_below files old = list_all (λ new. not (is_kept_by old new)) files
 abbrev pub lists_less : Snapshot → Snapshot → Bool
 lists_less old new = list_any (is_listed_below new.files) old.files
 
--- ---- the checks of each kind that is signed as expected
+-- # The ten checks of a file, in order. One that doesn't apply to the file is passed.
 
--- also signed by its own keys (5.3.4), and of the expected version (5.3.5)
-abbrev pub root_checks : Bool → ℕ → Header → Result ⊤ Fault
-root_checks is_own due h = do
-  own ← refuse_if (not is_own) Unsigned
-  refuse_if (is_version_wrong (Some due) h) VersionWrong
+-- The expected file from the repository, signed as expected: whether it is listed, if that is
+-- required (1), and there (2); the limit of its kind (3), its listed length (4, section 5.5.1) and
+-- digests (5, sections 5.5.2 and 5.6.2); its form (6); and its signatures (7, sections 5.3.4,
+-- 5.4.2, 5.5.3 and 5.6.3).
+abbrev pub signed_candidate : {A : Type 0} → Form A → ℕ → Expectation → Files
+    → Result (Candidate A) Fault
+signed_candidate form limit e files = do
+  listed ← refuse_if (is_absent e.listed) NotListed
+  bytes ← or_refuse (files e.name) Missing
+  intact ← content (Some limit) (listed_length e.listed) (listed_hashes e.listed) bytes
+  c ← read_candidate form bytes
+  signed ← refuse_if (not (is_signed e.ring e.role c.doc)) Unsigned
+  Ok c
 
--- not expired (5.3.10, 5.4.4)
-abbrev pub expiry_check : Header → Moment → Result ⊤ Fault
-expiry_check h now = refuse_if (is_expired h now) Expired
-
--- of no lower version, nor with a snapshot of a lower one (5.4.3), and not expired (5.4.4)
-abbrev pub later_timestamp : Timestamp → Timestamp → Moment → Result Bool Fault
-later_timestamp old new now = do
-  onward ← refuse_if (is_earlier old new) Rollback
-  current ← refuse_if (is_expired new.header now) Expired
-  Ok true
-
--- a timestamp replaces the trusted one, unless it has the same version (5.4.3)
-abbrev pub is_newer : Timestamp → Timestamp → Moment → Result Bool Fault
-is_newer old new now = if is_again old new then Ok false else later_timestamp old new now
-
--- of the version that is listed (5.5.4), with each trusted name in no lower version (5.5.5), and
--- not expired (5.5.6)
-abbrev pub snapshot_checks : Option ℕ → Option Snapshot → Snapshot → Moment → Result ⊤ Fault
-snapshot_checks due old new now = do
-  versioned ← refuse_if (is_version_wrong due new.header) VersionWrong
-  onward ← refuse_if (option_map_or (λ s. lists_less s new) old false) Rollback
-  refuse_if (is_expired new.header now) Expired
-
--- of the version that is listed (5.6.4), and not expired (5.6.5)
-abbrev pub targets_checks : Option ℕ → Header → Moment → Result ⊤ Fault
-targets_checks due h now = do
+-- Of such a file: the version, if one is due (8, sections 5.5.4 and 5.6.4), a fall below what is
+-- trusted (9, sections 5.4.3 and 5.5.5), and expiry (10, sections 5.4.4, 5.5.6 and 5.6.5).
+abbrev pub in_order : Option ℕ → Bool → Header → Moment → Result ⊤ Fault
+in_order due is_below h now = do
   versioned ← refuse_if (is_version_wrong due h) VersionWrong
+  onward ← refuse_if is_below Rollback
   refuse_if (is_expired h now) Expired
 
 -- ---- the files of each kind
 
--- A root is signed by the keys of the root before and by its own. Only the last root's expiry is
--- checked, when the chain has ended (5.3.6).
+-- A root is signed by the keys of the root before and by its own (5.3.4), and has the version that
+-- is due (5.3.5). Only the last root's expiry is checked, when the chain has ended (5.3.6).
 abbrev pub root_part : Expectation → ℕ → Files → Result (Part Root) Fault
 root_part e due files = do
   c ← signed_candidate form.root root_limit e files
   let root = c.part.reading
-  checked ← root_checks (is_signed root.ring root.root c.doc) due root.header
+  own ← refuse_if (not (is_signed root.ring root.root c.doc)) Unsigned
+  versioned ← refuse_if (is_version_wrong (Some due) root.header) VersionWrong
   Ok c.part
 
 -- a timestamp if none is trusted
 abbrev pub first_timestamp : Expectation → Files → Moment → Result (Part Timestamp) Fault
 first_timestamp e files now = do
   c ← signed_candidate form.timestamp timestamp_limit e files
-  checked ← expiry_check c.part.reading.header now
+  ordered ← in_order None false c.part.reading.header now
   Ok c.part
 
--- a timestamp if one is trusted; none if it has the same version
+-- the timestamp if it is of no lower version than the trusted one, nor lists a snapshot of a lower
+-- one; none if it has the same version
+abbrev pub later_timestamp : Timestamp → Part Timestamp → Moment
+    → Result (Option (Part Timestamp)) Fault
+later_timestamp old p now = if is_again old p.reading then Ok None else do
+  ordered ← in_order None (is_earlier old p.reading) p.reading.header now
+  Ok (Some p)
+
+-- a timestamp if one is trusted
 abbrev pub next_timestamp : Expectation → Timestamp → Files → Moment
     → Result (Option (Part Timestamp)) Fault
 next_timestamp e old files now = do
   c ← signed_candidate form.timestamp timestamp_limit e files
-  newer ← is_newer old c.part.reading now
-  Ok (if newer then Some c.part else None)
+  later_timestamp old c.part now
 
+-- a snapshot, which lists each name of the trusted one in no lower version
 abbrev pub snapshot_part : Expectation → Option Snapshot → Files → Moment
     → Result (Part Snapshot) Fault
 snapshot_part e old files now = do
   c ← signed_candidate form.snapshot snapshot_limit e files
-  checked ← snapshot_checks (listed_version e.listed) old c.part.reading now
+  let new = c.part.reading
+  let is_below = option_map_or (λ s. lists_less s new) old false
+  ordered ← in_order (listed_version e.listed) is_below new.header now
   Ok c.part
 
+-- a targets file, top-level or delegated
 abbrev pub targets_part : Expectation → Files → Moment → Result (Part Targets) Fault
 targets_part e files now = do
   c ← signed_candidate form.targets targets_limit e files
-  checked ← targets_checks (listed_version e.listed) c.part.reading.header now
+  ordered ← in_order (listed_version e.listed) false c.part.reading.header now
   Ok c.part
 
 -- ---- the file of a target

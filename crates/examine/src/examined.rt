@@ -5,6 +5,7 @@ ghost use Rattle.meta.specs.Content.{Answers};
 ghost use Rattle.examine.specs.Checks.{expectation, file_in};
 ghost use Rattle.examine.specs.Examined as spec;
 
+use crate::context::Context;
 use crate::expectation::{Expect, Expectation, Kind};
 use crate::kinds::{
     examine_first_timestamp, examine_next_timestamp, examine_root, examine_snapshot,
@@ -15,7 +16,6 @@ use keys::Judge;
 use meta::{Fault, Part, Repo, Root, Snapshot, Stop, Targets, Timestamp};
 use moment::Moment;
 use std::alloc::Global;
-use std::collections::BTreeMap;
 
 /// A metadata file of one of the four kinds.
 #[derive(Drop)]
@@ -55,7 +55,12 @@ pub fn examine<J: Judge>(
     ensures examined { IfOk result (λ e. e
         ≡ spec.examined (spec.expect expect.now) (file_in repo.now.metadata) now) }
 {
-    match examine_file(alloc, expect, &repo.metadata, now, judge) {
+    let context = Context {
+        alloc,
+        files: &repo.metadata,
+        moment: now,
+    };
+    match examine_file(&context, expect, judge) {
         Ok(Some(file)) => Ok(Examined::Good(file)),
         Ok(None) => Ok(Examined::Same),
         Err(Stop::Refused(fault)) => Ok(Examined::Refused(fault)),
@@ -65,31 +70,29 @@ pub fn examine<J: Judge>(
 
 /// Returns the expected file, or None for a timestamp of the version of the trusted one.
 fn examine_file<J: Judge>(
-    alloc: Global,
+    context: &Context,
     expect: &Expect,
-    files: &BTreeMap<String, Vec<u8>>,
-    now: Moment,
     judge: &mut J,
 ) -> Result<Option<File>, Stop>
-    ensures { Answers (spec.file_part (spec.kind expect.now.kind)
-        (expectation expect.now.file) (file_in files.now) now) result (λ o. o) }
+    ensures { Answers (spec.file_part (spec.kind expect.now.kind) (expectation expect.now.file)
+        (file_in context.now.files.now) context.now.moment) result (λ o. o) }
 {
     let file = &expect.file;
     match expect.kind {
         Kind::Root { version } => {
-            let part = examine_root(alloc, file, version, files, judge)?;
+            let part = examine_root(context, file, version, judge)?;
             Ok(Some(File::Root(part)))
         }
         Kind::Timestamp { trusted } => {
-            let part = examine_timestamp(alloc, file, trusted, files, now, judge)?;
+            let part = examine_timestamp(context, file, trusted, judge)?;
             Ok(part.map(File::Timestamp))
         }
         Kind::Snapshot { trusted } => {
-            let part = examine_snapshot(alloc, file, trusted, files, now, judge)?;
+            let part = examine_snapshot(context, file, trusted, judge)?;
             Ok(Some(File::Snapshot(part)))
         }
         Kind::Targets => {
-            let part = examine_targets(alloc, file, files, now, judge)?;
+            let part = examine_targets(context, file, judge)?;
             Ok(Some(File::Targets(part)))
         }
     }
@@ -97,19 +100,18 @@ fn examine_file<J: Judge>(
 
 /// Returns the expected timestamp, or None if it has the version of the trusted one, `old`.
 fn examine_timestamp<J: Judge>(
-    alloc: Global,
+    context: &Context,
     file: &Expectation,
     old: Option<&Timestamp>,
-    files: &BTreeMap<String, Vec<u8>>,
-    now: Moment,
     judge: &mut J,
 ) -> Result<Option<Part<Timestamp>>, Stop>
     ensures { Answers (spec.timestamp_part (option_map (λ t. t.now) old.entry)
-        (expectation file.now) (file_in files.now) now) result (λ p. p) }
+        (expectation file.now) (file_in context.now.files.now) context.now.moment)
+        result (λ p. p) }
 {
     let Some(old) = old else {
-        let part = examine_first_timestamp(alloc, file, files, now, judge)?;
+        let part = examine_first_timestamp(context, file, judge)?;
         return Ok(Some(part));
     };
-    examine_next_timestamp(alloc, file, old, files, now, judge)
+    examine_next_timestamp(context, file, old, judge)
 }

@@ -1,17 +1,16 @@
-//! A file from the repository, with the checks before it is read.
+//! A file from the repository, with the checks that apply to every kind of file.
 
 ghost use Rattle.std.specs.Prelude.{◌≡◌, ◌≤◌, length, Some};
-ghost use Rattle.std.specs.Result.{result_map_both};
 ghost use Rattle.meta.specs.Content.{Answers};
 ghost use Rattle.examine.specs.Checks as spec;
 ghost use Rattle.examine.specs.Checks.{candidate_of, expectation, file_in};
 
+use crate::context::Context;
 use crate::expectation::{Expectation, Listed};
 use cjson::Doc;
 use keys::{Judge, enough};
 use meta::{Content, Fault, Part, Reading, Stop, read_document, refuse_if};
 use std::alloc::Global;
-use std::collections::BTreeMap;
 
 /// A file that was read, and its document.
 #[derive(Drop)]
@@ -22,20 +21,21 @@ pub(crate) struct Candidate<A: Reading> {
     pub doc: Doc,
 }
 
-/// Returns the expected file from the repository, signed as expected.
+/// Returns the expected file from the repository, signed as expected: checks 1 to 7.
 pub(crate) fn fetch_signed<A: Reading + Drop, J: Judge>(
-    alloc: Global,
+    context: &Context,
     expect: &Expectation,
-    files: &BTreeMap<String, Vec<u8>>,
     judge: &mut J,
 ) -> Result<Candidate<A>, Stop>
-    ensures { Answers
-        (spec.signed_candidate A.form A.limit (expectation expect.now) (file_in files.now))
-        result candidate_of }
+    ensures { Answers (spec.signed_candidate A.form A.limit (expectation expect.now)
+        (file_in context.now.files.now)) result candidate_of }
 {
-    let found = fetch(alloc, expect, files, judge)?;
+    refuse_if(matches!(expect.listed, Listed::Absent), Fault::NotListed)?;
+    let bytes = context.files.get(expect.name).ok_or(Fault::Missing)?;
+    content_of(&expect.listed, A::limit()).check(expect.name, bytes.as_slice(), judge)?;
+    let found = read_candidate(context.alloc, bytes.as_slice())?;
     let is_signed = enough(
-        alloc,
+        context.alloc,
         &found.doc,
         expect.name,
         expect.ring,
@@ -44,35 +44,6 @@ pub(crate) fn fetch_signed<A: Reading + Drop, J: Judge>(
     )?;
     refuse_if(!is_signed, Fault::Unsigned)?;
     Ok(found)
-}
-
-/// Returns the expected file from the repository, whoever signed it.
-fn fetch<A: Reading + Drop, J: Judge>(
-    alloc: Global,
-    expect: &Expectation,
-    files: &BTreeMap<String, Vec<u8>>,
-    judge: &mut J,
-) -> Result<Candidate<A>, Stop>
-    ensures { Answers
-        (spec.candidate A.form A.limit (expectation expect.now) (file_in files.now))
-        result candidate_of }
-{
-    let bytes = listed_bytes(expect, files)?;
-    content_of(&expect.listed, A::limit()).check(expect.name, bytes, judge)?;
-    read_candidate(alloc, bytes)
-}
-
-/// Returns the bytes of the file, which must be listed if that is required, and be there.
-fn listed_bytes<'a>(
-    expect: &Expectation,
-    files: &'a BTreeMap<String, Vec<u8>>,
-) -> Result<&'a [u8], Fault>
-    ensures { result_map_both (λ b. b.now) (λ e. e) result
-        ≡ spec.listed_bytes (expectation expect.now) (file_in files.now) }
-{
-    refuse_if(matches!(expect.listed, Listed::Absent), Fault::NotListed)?;
-    let bytes = files.get(expect.name).ok_or(Fault::Missing)?;
-    Ok(bytes.as_slice())
 }
 
 /// Reads the bytes of a file, which are within the limit of its kind.

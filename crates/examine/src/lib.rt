@@ -2,7 +2,8 @@
 //!
 //! - [`examine`] examines a file of any kind: an [`Expect`] is what is expected of it, an
 //!   [`Examined`] the result.
-//! - [`Expectation`] is what is expected of a file, whatever its kind.
+//! - [`Expectation`] is what is expected of a file, whatever its kind, and [`Context`] what files
+//!   are examined in.
 //! - Each kind has a function of its own, which returns the file or its first fault:
 //!   [`examine_root`], [`examine_first_timestamp`] and [`examine_next_timestamp`] (without and with
 //!   a trusted timestamp), [`examine_snapshot`], [`examine_targets`].
@@ -10,6 +11,7 @@
 //! - [`is_expired`] also applies to trusted files: to the last root, and to a timestamp that stays.
 #![tactic(auto)]
 
+mod context;
 mod examined;
 mod expectation;
 mod fetch;
@@ -18,6 +20,7 @@ mod order;
 mod target;
 mod timing;
 
+pub use context::Context;
 pub use examined::{Examined, File, examine};
 pub use expectation::{Expect, Expectation, Kind, Listed};
 pub use kinds::{

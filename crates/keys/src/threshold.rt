@@ -33,6 +33,7 @@ pub fn enough<J: Judge>(
     ensures met { IfOk result (λ b. b
         ≡ spec.is_met (doc_of doc.now).text (doc_of doc.now).entries ring.now role.now) }
 {
+    let signed = Signed { doc, file };
     let listed = role.id_set(alloc)?;
     let entries = Entries::of(alloc, doc)?;
     let mut signers = Signers::new(alloc);
@@ -40,48 +41,43 @@ pub fn enough<J: Judge>(
         if signers.len() as u64 >= role.threshold.get() {
             return Ok(true);
         }
-        if has_signed(doc, file, &listed, &entries, key, judge)? {
+        if has_signed(&signed, &listed, &entries, key, judge)? {
             signers.add(&key.public)?;
         }
     }
     Ok(signers.len() as u64 >= role.threshold.get())
 }
 
+/// A document, and the name of its file.
+#[derive(Clone, Copy)]
+struct Signed<'a> {
+    doc: &'a Doc,
+    file: &'a str,
+}
+
 /// Returns whether the key's id is listed, and an entry under it has a valid signature.
 fn has_signed<J: Judge>(
-    doc: &Doc,
-    file: &str,
+    signed: &Signed,
     listed: &BTreeSet<&str>,
     entries: &Entries,
     key: &Key,
     judge: &mut J,
 ) -> Result<bool, NoMemory>
-    requires { spec.IsById entries.now.by_id (doc_of doc.now).entries }
+    requires { spec.IsById entries.now.by_id (doc_of signed.now.doc.now).entries }
     ensures { IfOk result (λ b. b ≡ (spec.has_id listed.now key.now.id
-        && spec.has_entry (doc_of doc.now).text (doc_of doc.now).entries key.now)) }
+        && spec.has_entry (doc_of signed.now.doc.now).text (doc_of signed.now.doc.now).entries
+        key.now)) }
 {
-    Ok(listed.contains(key.id.as_str()) && has_entry(doc, file, entries, key, judge)?)
-}
-
-/// Returns whether an entry under the key's id has a valid signature.
-fn has_entry<J: Judge>(
-    doc: &Doc,
-    file: &str,
-    entries: &Entries,
-    key: &Key,
-    judge: &mut J,
-) -> Result<bool, NoMemory>
-    requires { spec.IsById entries.now.by_id (doc_of doc.now).entries }
-    ensures { IfOk result
-        (λ b. b ≡ spec.has_entry (doc_of doc.now).text (doc_of doc.now).entries key.now) }
-{
+    if !listed.contains(key.id.as_str()) {
+        return Ok(false);
+    }
     let Some(under) = entries.under(key.id.as_str()) else {
         return Ok(false);
     };
-    let message = doc.bytes();
+    let message = signed.doc.bytes();
     for placed in under {
         if judge.valid(&Ask::Signature(SignatureAsk {
-            file,
+            file: signed.file,
             place: placed.place,
             public: &key.public,
             message,

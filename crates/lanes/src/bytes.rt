@@ -8,7 +8,8 @@ ghost use Rattle.lanes.specs.Lanes.{IsDigest, IsPrefix, IsRow, lane};
 use crate::arrays::{eight, six};
 use std::simd::prelude::*;
 
-fn word(text: &[u8], at: usize) -> u32
+#[inline(always)]
+pub(crate) fn word(text: &[u8], at: usize) -> u32
     requires { at + 4 ≤ length text.now }
     ensures { result ≡ word_at text.now at }
 {
@@ -117,7 +118,7 @@ pub fn digest<const N: usize>(words: &[Simd<u32, N>; 8], i: usize) -> [u8; 32]
 
 /// Returns the vector with another word in lane `i`.
 #[inline(always)]
-fn with_lane<const N: usize>(x: Simd<u32, N>, i: usize, word: u32) -> Simd<u32, N>
+pub(crate) fn with_lane<const N: usize>(x: Simd<u32, N>, i: usize, word: u32) -> Simd<u32, N>
     requires { i < N }
     ensures size { length result ≡ N }
     ensures lane { slice_index result i ≡ word }

@@ -14,9 +14,15 @@ mod arrays;
 mod block;
 mod bytes;
 mod consts;
+mod pending;
 mod step;
 mod word;
 
+/// Number of messages that are hashed side by side, at most 64. A vector register of x86-64-v2 has
+/// four words, one of x86-64-v3 eight.
+pub const LANES: usize = 4;
+
 pub use block::compress;
 pub use bytes::{digest, digest_words, prefix_words, put_digest, put_prefix};
+pub use pending::{PIECE, Pending, begin, take_blocks};
 pub use step::chain_step;

@@ -10,13 +10,9 @@ ghost use Rattle.lanes.specs.Lanes.{IsPrefix, IsRow, lane};
 ghost use Rattle.lms.specs.Lms.{u16str, u32str, chain};
 ghost use Rattle.lms.specs.Carried.{AreCarried, HasRoom, IsLater, Leaf};
 
-use crate::ots::{Node, chain, put, u16str, u32str};
-use lanes::{chain_step, digest, digest_words, prefix_words, put_digest, put_prefix};
+use crate::ots::{Node, chain, chain_block, put, u16str, u32str};
+use lanes::{LANES, chain_step, digest, digest_words, prefix_words, put_digest, put_prefix};
 use std::simd::prelude::*;
-
-/// Number of chains that go on at a time, at most 64. A vector register of x86-64-v2 has four
-/// words, one of x86-64-v3 eight.
-const LANES: usize = 4;
 
 /// Greatest number of chains of a leaf, which is that of W4.
 pub(crate) const MOST_CHAINS: usize = 67;
@@ -311,7 +307,7 @@ fn carry_each(
 {
     'chains: for i in 0..67u16 {
         let k = usize::from(i);
-        values[k] = chain(id, q, i, digits[k], ends[k], &values[k]);
+        values[k] = chain(chain_block(id, q, i), digits[k], ends[k], &values[k]);
     }
 }
 

@@ -15,20 +15,27 @@ use folder::Folder;
 use std::alloc::{AllocError, Global};
 use std::thread::Threads;
 
+/// The threads that read target files.
+#[derive(Drop)]
+pub struct Readers<'a, R> {
+    /// The runtime that starts them.
+    pub rt: &'a R,
+    /// Maximum number of threads; if it is 0, files are read one at a time.
+    pub threads: usize,
+}
+
 /// Ends a course by the target files of a folder that has these names. Each file that a search
 /// found is read once, in pieces, no further than the greatest length that is listed of it and one
-/// byte. No other file is opened. At most `threads` files are digested at once, or one at a time if
-/// it is 0.
+/// byte. No other file is opened.
 ///
 /// Returns the outcome for all target files with these names that begin with the bytes that were
 /// read, whatever follows them. Fails if the folder fails, or if out of memory.
 pub fn close<R: Threads + Sync, F: Folder + Sync>(
-    rt: &R,
+    readers: &Readers<'_, R>,
     alloc: Global,
     course: Course,
     folder: &mut F,
     names: Vec<String>,
-    threads: usize,
 ) -> Result<Outcome, Failure>
     requires listed { F.lists folder.old (map string_bytes names.items) ≡ true }
     ensures outcome { IfOk result (IsClosed (F.lists folder.old) (F.holds folder.old) course) }
@@ -40,7 +47,7 @@ pub fn close<R: Threads + Sync, F: Folder + Sync>(
     ensures same_lists { F.lists folder.new ≡ F.lists folder.old }
     ensures same_bytes { F.holds folder.new ≡ F.holds folder.old }
 {
-    let known = measured(rt, alloc, &course, folder, names, threads)?;
+    let known = measured(readers, alloc, &course, folder, names)?;
     let store = Measured {
         alloc,
         known: &known,
@@ -50,12 +57,11 @@ pub fn close<R: Threads + Sync, F: Folder + Sync>(
 
 /// Measures the files that the searches of the course found.
 fn measured<R: Threads + Sync, F: Folder + Sync>(
-    rt: &R,
+    readers: &Readers<'_, R>,
     alloc: Global,
     course: &Course,
     folder: &mut F,
     names: Vec<String>,
-    threads: usize,
 ) -> Result<Known, Failure>
     ensures known { IfOk result (IsKnown (map string_bytes names.items) (F.holds folder.old)
         (is_found course.now.trusted.root.reading.consistent course.now.searches)) }
@@ -72,8 +78,8 @@ fn measured<R: Threads + Sync, F: Folder + Sync>(
     let searches = course.searches();
     let mut known = named(alloc, names)?;
     note_all(alloc, searches, consistent, &mut known)?;
-    if threads > 0 {
-        read_early(rt, alloc, folder, threads, &mut known)?;
+    if readers.threads > 0 {
+        read_early(readers.rt, alloc, folder, readers.threads, &mut known)?;
     }
     read_all(alloc, folder, searches, consistent, &mut known)?;
     Ok(known)

@@ -12,4 +12,4 @@ mod need;
 mod reading;
 mod store;
 
-pub use closing::close;
+pub use closing::{Readers, close};

@@ -72,16 +72,3 @@ pub fn place_of(
         None => Ok((Listed::Absent, plain)),
     }
 }
-
-/// Returns what is expected of the top-level targets file of this name (TUF 1.0 section 5.6).
-pub(crate) fn due_targets<'a>(root: &'a Root, listed: Listed, name: &'a str) -> Expectation<'a>
-    ensures { expectation result
-        ≡ spec.expected name.now listed root.now.ring root.now.targets }
-{
-    Expectation {
-        name,
-        listed,
-        ring: root.ring(),
-        role: root.targets(),
-    }
-}

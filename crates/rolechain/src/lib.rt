@@ -5,6 +5,7 @@
 mod end;
 mod expected;
 mod fault;
+mod role;
 mod roots;
 mod rotation;
 mod state;
@@ -15,6 +16,7 @@ mod workflow;
 pub use end::{End, Step};
 pub use expected::place_of;
 pub use fault::StateFault;
+pub use role::{Role, examine_role};
 pub use roots::{LAST_VERSION, MOST_ROOTS};
 pub use state::Trusted;
 pub use workflow::advance;

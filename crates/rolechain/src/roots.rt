@@ -9,8 +9,7 @@ ghost use Rattle.rolechain.specs.Advance.{Leaves};
 use crate::end::{Halt, Step, or_halt};
 use crate::expected::due_root;
 use crate::state::Trusted;
-use crate::steps::Round;
-use examine::{examine_root, is_expired};
+use examine::{Context, examine_root, is_expired};
 use keys::Judge;
 use meta::names::root_name;
 use meta::{Fault, Part, Root, Stop};
@@ -23,27 +22,30 @@ pub const LAST_VERSION: u64 = i64::MAX as u64;
 
 /// Trusts the roots that follow, the last of which must not be expired (TUF 1.0 section 5.3).
 pub(crate) fn root_step<J: Judge>(
-    round: &Round,
+    context: &Context,
     state: &mut Trusted,
     judge: &mut J,
 ) -> Result<(), Halt>
-    ensures { Leaves (spec.root_step (file_in round.now.files.now) round.now.moment state.old)
+    ensures { Leaves (spec.root_step (file_in context.now.files.now) context.now.moment state.old)
         result state.new }
 {
-    follow(round, state, judge)?;
-    if is_expired(state.root().reading().header(), round.moment) {
+    follow(context, state, judge)?;
+    if is_expired(state.root().reading().header(), context.moment) {
         return Err(Halt::Stopped(Step::Root, Fault::Expired));
     }
     Ok(())
 }
 
 /// Follows the chain of roots.
-fn follow<J: Judge>(round: &Round, state: &mut Trusted, judge: &mut J) -> Result<(), Halt>
-    ensures { Leaves (spec.followed (file_in round.now.files.now) 256 state.old)
+fn follow<J: Judge>(context: &Context, state: &mut Trusted, judge: &mut J) -> Result<(), Halt>
+    ensures { Leaves (spec.followed (file_in context.now.files.now) 256 state.old)
         result state.new }
 {
     for _done in 0..MOST_ROOTS {
-        match or_halt(Step::Root, successor(round, state.root().reading(), judge))? {
+        match or_halt(
+            Step::Root,
+            successor(context, state.root().reading(), judge),
+        )? {
             Some(next) => state.trust_root(next),
             None => return Ok(()),
         }
@@ -53,23 +55,23 @@ fn follow<J: Judge>(round: &Round, state: &mut Trusted, judge: &mut J) -> Result
 
 /// Returns the root that follows, if there is one.
 fn successor<J: Judge>(
-    round: &Round,
+    context: &Context,
     root: &Root,
     judge: &mut J,
 ) -> Result<Option<Part<Root>>, Stop>
-    ensures { Answers (spec.successor (file_in round.now.files.now) root.now)
+    ensures { Answers (spec.successor (file_in context.now.files.now) root.now)
         result (λ p. p) }
 {
     if root.header().version.get() >= LAST_VERSION {
         return Ok(None);
     }
     let version = due_version(root);
-    let name = root_name(round.alloc, version)?;
-    if !round.files.contains_key(name.as_str()) {
+    let name = root_name(context.alloc, version)?;
+    if !context.files.contains_key(name.as_str()) {
         return Ok(None);
     }
     let expect = due_root(root, name.as_str());
-    let next = examine_root(round.alloc, &expect, version, round.files, judge)?;
+    let next = examine_root(context, &expect, version, judge)?;
     Ok(Some(next))
 }
 

@@ -10,8 +10,9 @@ ghost use Rattle.rolechain.specs.Kept.{AreRead};
 use crate::end::{End, Halt};
 use crate::roots::root_step;
 use crate::state::Trusted;
-use crate::steps::{Round, snapshot_step, targets_step, timestamp_step};
+use crate::steps::{snapshot_step, targets_step, timestamp_step};
 use cjson::NoMemory;
+use examine::Context;
 use keys::Judge;
 use meta::{Moment, Repo};
 use std::alloc::Global;
@@ -40,13 +41,13 @@ pub fn advance<J: Judge>(
     ensures drop { IfOk result (λ r. is_early r.1 ≡ true
         → IsDropped (file_in repo.now.metadata) trusted.now r.0) }
 {
-    let round = Round {
+    let context = Context {
         alloc,
         files: &repo.metadata,
         moment: now,
     };
     let mut state = trusted.copy()?;
-    let end = end_of(steps(&round, &mut state, judge))?;
+    let end = end_of(steps(&context, &mut state, judge))?;
     // (reading a field of the state shows its invariant: the clause `parts`)
     let _root = &state.root;
     Ok((state, end))
@@ -65,12 +66,12 @@ fn end_of(answer: Result<(), Halt>) -> Result<End, NoMemory>
 
 /// Runs the steps of a cycle, in order.
 #[tactic(auto, unfolding(crate::specs::Advance::steps))]
-fn steps<J: Judge>(round: &Round, state: &mut Trusted, judge: &mut J) -> Result<(), Halt>
-    ensures { Leaves (spec.steps (file_in round.now.files.now) round.now.moment state.old)
+fn steps<J: Judge>(context: &Context, state: &mut Trusted, judge: &mut J) -> Result<(), Halt>
+    ensures { Leaves (spec.steps (file_in context.now.files.now) context.now.moment state.old)
         result state.new }
 {
-    root_step(round, state, judge)?;
-    timestamp_step(round, state, judge)?;
-    snapshot_step(round, state, judge)?;
-    targets_step(round, state, judge)
+    root_step(context, state, judge)?;
+    timestamp_step(context, state, judge)?;
+    snapshot_step(context, state, judge)?;
+    targets_step(context, state, judge)
 }

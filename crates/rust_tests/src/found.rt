@@ -7,7 +7,7 @@ ghost use Rattle.folder.specs.Measures.{IsMeasure};
 use cycle::{Course, Limits, Repo, Trusted, follow_alone};
 use folder::{Folder, LoadFault, Measure, Need};
 use maker::make;
-use measured::close;
+use measured::{Readers, close};
 use moment::Moment;
 use report::tell;
 use std::alloc::{AllocError, Global};
@@ -206,7 +206,13 @@ fn closed<R: Threads + Sync>(
     let wanted = wanted(alloc)?;
     let course = course(alloc, &made.repo, wanted.as_slice())?;
     let names = made.targets.names(alloc)?;
-    let outcome = close(rt, alloc, course, &mut made.targets, names, threads)?;
+    let outcome = close(
+        &Readers { rt, threads },
+        alloc,
+        course,
+        &mut made.targets,
+        names,
+    )?;
     let mut lines = Vec::new(alloc);
     tell(alloc, &outcome, wanted.as_slice(), &mut lines)?;
     Ok(lines)

@@ -14,7 +14,7 @@ use crate::host::{Folders, HasWorld, Host};
 use crate::start::{Opened, Start, Terms, limits_of};
 use crate::state::keep_state;
 use crate::verification::outcome;
-use cycle::{Open, Repo, follow};
+use cycle::{Open, follow};
 use failure::Failure;
 use folder::Folder;
 use paths::paths_of_names;
@@ -76,10 +76,10 @@ impl<S: System, M: Folder, T: Folder + Sync, W: Write> Host<S, Folders<M, T>, W>
         ensures cause { IfErr result (IsCauseToVerifyFrom start.entry
             (⟦<Self as HasWorld>⟧.world self.old) (⟦<Self as HasWorld>⟧.world self.new)) }
     {
-        let Opened { repo, names } = self.folders.open(alloc)?;
-        let wanted = wanted_of(rt, alloc, &start, &repo, names.as_slice())?;
+        let opened = self.folders.open(alloc)?;
+        let wanted = wanted_of(rt, alloc, &start, &opened)?;
         let start = wanting(start, wanted.as_slice());
-        let outcome = outcome(rt, alloc, &start, &repo, &mut self.folders.targets, names)?;
+        let outcome = outcome(rt, alloc, &start, opened, &mut self.folders.targets)?;
         keep_state(alloc, &mut self.system, start.state, outcome.trusted())?;
         tell_outcome(alloc, &outcome, start.wanted, &mut self.out)
     }
@@ -104,13 +104,12 @@ fn wanted_of<R: Threads + Wait + Sync>(
     rt: &R,
     alloc: Global,
     start: &Start<'_>,
-    repo: &Repo,
-    names: &[String],
+    opened: &Opened,
 ) -> Result<Vec<String>, Failure>
     ensures paths { let s = start.now in
-        let root = (advanced (file_in repo.now.metadata) s.moment s.trusted).state.root in
+        let root = (advanced (file_in opened.now.repo.metadata) s.moment s.trusted).state.root in
         IfOk result (λ wanted. ArePathsOf root.reading.consistent
-        (map string_bytes names.now) (map string_bytes wanted.items)) }
+        (map string_bytes opened.now.names.items) (map string_bytes wanted.items)) }
     ensures refused { IfErr result (λ f. (f ≡ Failure.Memory)
         ⊎ ((f ≡ Failure.Words) × AreWrong start.now.limit start.now.workers)) }
 {
@@ -119,12 +118,13 @@ fn wanted_of<R: Threads + Wait + Sync>(
         rt,
         alloc,
         &start.trusted,
-        repo,
+        &opened.repo,
         start.moment,
         &[],
         &limits,
         start.workers,
         &Open,
     )?;
+    let names = opened.names.as_slice();
     Ok(paths_of_names(alloc, names, course.has_consistent_names())?)
 }

@@ -20,7 +20,7 @@ use crate::state::keep_state;
 use cycle::{Keeper, Limits, Open, Outcome};
 use failure::Failure;
 use folder::Folder;
-use measured::close;
+use measured::{Readers, close};
 use report::tell_cycles;
 use std::alloc::Global;
 use std::io::Write;
@@ -101,14 +101,9 @@ impl<S: System, M: Folder, T: Folder + Sync, W: Write> Host<S, Vec<Folders<M, T>
     {
         let opened = open_all(alloc, &mut self.folders)?;
         let mut keeper = keeper_of(alloc, cycles)?;
-        let outcomes = outcomes(
-            rt,
-            alloc,
-            &cycles.start,
-            opened,
-            &mut self.folders,
-            &mut keeper,
-        )?;
+        let run = Runtime { rt, alloc };
+        let folders = &mut self.folders;
+        let outcomes = outcomes(&run, &cycles.start, opened, folders, &mut keeper)?;
         keep_state(
             alloc,
             &mut self.system,
@@ -177,11 +172,24 @@ fn keeper_of(alloc: Global, cycles: &Cycles<'_>) -> Result<Keeper, Failure>
     Ok(Keeper::new(alloc, trusted, cycles.keep)?)
 }
 
+/// The runtime and the allocator of a replay.
+#[derive(Drop)]
+struct Runtime<'a, R> {
+    rt: &'a R,
+    alloc: Global,
+}
+
+/// What each cycle of a replay begins with, and its limits.
+#[derive(Clone, Copy)]
+struct Begun<'a> {
+    start: &'a Start<'a>,
+    limits: Limits,
+}
+
 /// Returns the outcomes of all cycles of a keeper of the start's state, with the number of workers
 /// that the start names.
 fn outcomes<R: Threads + Wait + Sync, M: Folder, T: Folder + Sync>(
-    rt: &R,
-    alloc: Global,
+    run: &Runtime<'_, R>,
     start: &Start<'_>,
     opened: Vec<Opened>,
     folders: &mut Vec<Folders<M, T>>,
@@ -200,30 +208,31 @@ fn outcomes<R: Threads + Wait + Sync, M: Folder, T: Folder + Sync>(
         (⟦<Vec<Folders<M, T>> as HasMirrors>⟧.mirrors folders.old)
         (⟦<Vec<Folders<M, T>> as HasMirrors>⟧.mirrors folders.new)) }
 {
-    let limits = limits_of(start)?;
-    let mut all = Vec::new(alloc);
+    let begun = Begun {
+        start,
+        limits: limits_of(start)?,
+    };
+    let mut all = Vec::new(run.alloc);
     for one in opened {
         let targets = &mut folders[all.len()].targets;
-        all.push(outcome(rt, alloc, start, &limits, one, targets, keeper)?)?;
+        all.push(outcome(run, &begun, one, targets, keeper)?)?;
     }
     Ok(all)
 }
 
 /// Returns the outcome of one cycle from the keeper's state, which is then the outcome's.
 fn outcome<R: Threads + Wait + Sync, T: Folder + Sync>(
-    rt: &R,
-    alloc: Global,
-    start: &Start<'_>,
-    limits: &Limits,
+    run: &Runtime<'_, R>,
+    begun: &Begun<'_>,
     one: Opened,
     targets: &mut T,
     keeper: &mut Keeper,
 ) -> Result<Outcome, Failure>
     requires listed { T.lists targets.old (map string_bytes one.names.items) ≡ true }
-    requires limit { limits.now.roles ≡ start.now.limit }
-    requires workers { start.now.workers ≤ 64 }
+    requires limit { begun.now.limits.roles ≡ begun.now.start.now.limit }
+    requires workers { begun.now.start.now.workers ≤ 64 }
     ensures outcome { IfOk result (IsOutcomeOn (T.lists targets.old) (T.holds targets.old)
-        (from_state (start_of start.now) keeper.old) (file_in one.repo.metadata)) }
+        (from_state (start_of begun.now.start.now) keeper.old) (file_in one.repo.metadata)) }
     ensures state { IfOk result (λ o. keeper.new ≡ o.trusted) }
     ensures same_lists { T.lists targets.new ≡ T.lists targets.old }
     ensures same_bytes { T.holds targets.new ≡ T.holds targets.old }
@@ -232,14 +241,19 @@ fn outcome<R: Threads + Wait + Sync, T: Folder + Sync>(
         (T.failures targets.new)) }
 {
     let Opened { repo, names } = one;
+    let start = begun.start;
     let course = keeper.follow(
-        rt,
+        run.rt,
         &repo,
         start.moment,
         start.wanted,
-        limits,
+        &begun.limits,
         start.workers,
         &Open,
     )?;
-    close(rt, alloc, course, targets, names, start.workers)
+    let readers = Readers {
+        rt: run.rt,
+        threads: start.workers,
+    };
+    close(&readers, run.alloc, course, targets, names)
 }

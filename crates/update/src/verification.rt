@@ -14,10 +14,10 @@ use crate::answer::tell_outcome;
 use crate::host::{Folders, HasWorld, Host};
 use crate::start::{Opened, Start, Terms, limits_of};
 use crate::state::keep_state;
-use cycle::{Open, Outcome, Repo, follow};
+use cycle::{Open, Outcome, follow};
 use failure::Failure;
 use folder::Folder;
-use measured::close;
+use measured::{Readers, close};
 use std::alloc::Global;
 use std::io::Write;
 use std::sync::Wait;
@@ -89,8 +89,8 @@ impl<S: System, M: Folder, T: Folder + Sync, W: Write> Host<S, Folders<M, T>, W>
         ensures cause { IfErr result (IsCauseToVerifyFrom start.now
             (⟦<Self as HasWorld>⟧.world self.old) (⟦<Self as HasWorld>⟧.world self.new)) }
     {
-        let Opened { repo, names } = self.folders.open(alloc)?;
-        let outcome = outcome(rt, alloc, start, &repo, &mut self.folders.targets, names)?;
+        let opened = self.folders.open(alloc)?;
+        let outcome = outcome(rt, alloc, start, opened, &mut self.folders.targets)?;
         keep_state(alloc, &mut self.system, start.state, outcome.trusted())?;
         tell_outcome(alloc, &outcome, start.wanted, &mut self.out)
     }
@@ -102,29 +102,33 @@ pub(crate) fn outcome<R: Threads + Wait + Sync, T: Folder + Sync>(
     rt: &R,
     alloc: Global,
     start: &Start<'_>,
-    repo: &Repo,
+    opened: Opened,
     targets: &mut T,
-    names: Vec<String>,
 ) -> Result<Outcome, Failure>
-    requires listed { T.lists targets.old (map string_bytes names.items) ≡ true }
+    requires listed { T.lists targets.old (map string_bytes opened.names.items) ≡ true }
     ensures workflow { IfOk result (IsOutcomeOn (T.lists targets.old) (T.holds targets.old)
-        (start_of start.now) (file_in repo.now.metadata)) }
+        (start_of start.now) (file_in opened.repo.metadata)) }
     ensures state { IfOk result (λ o. o.trusted
-        ≡ (advanced (file_in repo.now.metadata) start.now.moment start.now.trusted).state) }
+        ≡ (advanced (file_in opened.repo.metadata) start.now.moment start.now.trusted).state) }
     ensures cause { IfErr result (IsCauseToEnd (AreWrong start.now.limit start.now.workers)
         (T.failures targets.old) (T.failures targets.new)) }
 {
+    let Opened { repo, names } = opened;
     let limits = limits_of(start)?;
     let course = follow(
         rt,
         alloc,
         &start.trusted,
-        repo,
+        &repo,
         start.moment,
         start.wanted,
         &limits,
         start.workers,
         &Open,
     )?;
-    close(rt, alloc, course, targets, names, start.workers)
+    let readers = Readers {
+        rt,
+        threads: start.workers,
+    };
+    close(&readers, alloc, course, targets, names)
 }

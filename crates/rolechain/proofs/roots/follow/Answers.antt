@@ -13,8 +13,8 @@ loop-done-init g c = begins _ _ 256 _
 
 pub returns-in_err-next : goal.returns-in_err-next
 returns-in_err-next g c =
-    let files = file_in c.args.round.now.files.now in
-    let now = c.args.round.now.moment in
+    let files = file_in c.args.context.now.files.now in
+    let now = c.args.context.now.moment in
     let s = c.loop-done.state in
     let root : c.reading.result.now ≡ s.root.reading = c.reading.ensures.value ∙ ap (λ p. p.reading) c.root.ensures.value in
     let answer : Answers (successor files s.root.reading) c.successor.result (λ p. p) = subst (λ r. Answers (successor files r) c.successor.result (λ p. p)) root c.successor.ensures in
@@ -24,8 +24,8 @@ returns-in_err-next g c =
 
 pub returns-in-None : goal.returns-in-None
 returns-in-None g c =
-    let files = file_in c.args.round.now.files.now in
-    let now = c.args.round.now.moment in
+    let files = file_in c.args.context.now.files.now in
+    let now = c.args.context.now.moment in
     let s = c.loop-done.state in
     let root : c.reading.result.now ≡ s.root.reading = c.reading.ensures.value ∙ ap (λ p. p.reading) c.root.ensures.value in
     let answer : Answers (successor files s.root.reading) c.successor.result (λ p. p) = subst (λ r. Answers (successor files r) c.successor.result (λ p. p)) root c.successor.ensures in
@@ -34,8 +34,8 @@ returns-in-None g c =
 
 pub loop-done-preserved : goal.loop-done-preserved
 loop-done-preserved g c =
-    let files = file_in c.args.round.now.files.now in
-    let now = c.args.round.now.moment in
+    let files = file_in c.args.context.now.files.now in
+    let now = c.args.context.now.moment in
     let s = c.loop-done.state in
     let root : c.reading.result.now ≡ s.root.reading = c.reading.ensures.value ∙ ap (λ p. p.reading) c.root.ensures.value in
     let answer : Answers (successor files s.root.reading) c.successor.result (λ p. p) = subst (λ r. Answers (successor files r) c.successor.result (λ p. p)) root c.successor.ensures in

@@ -7,7 +7,7 @@ use Rattle.rolechain.proofs.roots.successor.Goals as goal
 
 pub returns-in_err-next : goal.returns-in_err-next
 returns-in_err-next g c =
-    let files = file_in c.args.round.now.files.now in
+    let files = file_in c.args.context.now.files.now in
     let root = c.args.root.now in
     let answer : Answers (root_part (due_root root) (root.header.version + 1) files) c.examine_root.result (λ p. p) =
     gives _ (root_part (due_root root) (root.header.version + 1) files) _

@@ -8,8 +8,8 @@ use Rattle.rolechain.proofs.steps.listed_snapshot.Goals as goal
 
 pub returns : goal.returns
 returns g c =
-    let files = file_in c.args.round.now.files.now in
-    let now = c.args.round.now.moment in
+    let files = file_in c.args.context.now.files.now in
+    let now = c.args.context.now.moment in
     let s = c.args.state.now in
     let due = due_snapshot s.root.reading c.reading.result.now.snapshot in
     let same : expectation c.due_snapshot-expect.result ≡ due = cc in

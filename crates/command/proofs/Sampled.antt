@@ -1,0 +1,25 @@
+-- What is printed of an outcome of the workflow.
+use Rattle.std.proofs.Common.{◌≡◌, Result, Ok, Err, IfOk, List, ℕ, Option, subst}
+use Rattle.cycle.specs.Workflow.{Outcome, Repository, Request, workflow}
+use Rattle.update.specs.Runs.{IsTold}
+use Rattle.command.specs.Sampled.{IsSampled}
+
+-- the lines and the status of an outcome of the workflow
+pub sampled : {E : Type 0} (r : Request) (repo : Repository) (o : Outcome) (wanted : List (List ℕ)) (old new : Option (List ℕ)) (status : Result ℕ E)
+    → r.wanted ≡ wanted
+    → o ≡ workflow r repo
+    → IfOk status (λ status. IsTold o wanted status old new)
+    → IfOk status (λ status. IsSampled wanted status old new)
+sampled r repo o wanted old new (Ok status) paths is told = record {
+  request = r;
+  repo = repo;
+  of_paths = paths;
+  printed = subst (λ o. IsTold o wanted status old new) is told;
+}
+sampled r repo o wanted old new (Err e) paths is told = tt
+
+-- the wanted paths by another name
+pub renamed : {E : Type 0} (wanted other : List (List ℕ)) (old new : Option (List ℕ)) (r : Result ℕ E) → wanted ≡ other
+    → IfOk r (λ status. IsSampled wanted status old new)
+    → IfOk r (λ status. IsSampled other status old new)
+renamed wanted other old new r same h = subst (λ w. IfOk r (λ status. IsSampled w status old new)) same h

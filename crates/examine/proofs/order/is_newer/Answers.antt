@@ -1,5 +1,0 @@
-use Rattle.std.proofs.Common.{rules}
-use Rattle.examine.proofs.order.is_newer.Goals as goal
-
-pub returns-then-is_again : goal.returns-then-is_again
-returns-then-is_again = search rules

@@ -1,9 +1,0 @@
-use Rattle.std.proofs.Common.{refl}
-use Rattle.cycle.specs.Workflow.{request}
-use Rattle.sample.proofs.Sampled.{sampled}
-use Rattle.sample.proofs.sampling.verify.Goals as goal
-
-pub returns-clause-sampled : goal.returns-clause-sampled
-returns-clause-sampled g c =
-    sampled (request c.in_ok-trusted.trusted c.in_ok-now.now c.args.wanted.now c.in_ok-limits.limits.roles) _ _ _ _ _
-    c.tell_outcome.result refl c.in_ok-outcome.ensures.workflow c.tell_outcome.ensures.told
