@@ -7,24 +7,25 @@
 The programs, the rounds and the seconds after which a run is killed are those of `checks/mirrors.py`, and so are the
 columns and what is checked of each run: its lines, its status and the state that it stores. If one isn't what the
 workflow requires, it exits with status 1. The files are made in a folder below FOLDER, or else below the one for temporary
-files, and are removed after their case. At most 3 GB of them are there at once, if the file system keeps no room for
+files, and are removed after their case. At most 3.2 GB of them are there at once, if the file system keeps no room for
 holes. `--scale N` divides the sizes of the large files, and the number of targets of `many`, by N.
 
-The files of a case are written before its runs, so their bytes are read from memory where 3 GB of it are free. A run
+The files of a case are written before its runs, so their bytes are read from memory where 3.2 GB of it are free. A run
 itself may take 8,000,000,000 bytes. If the program of `--before` wants more, `memory` is printed instead of its seconds.
 
 All is signed, and by 0 and by 4 workers each:
 
   one        a wanted file of 3,000,000,000 bytes, after the repository of examples/first.script
   twenty     twenty wanted files of 150,000,000 bytes
+  files      64 wanted files of 50,000,000 bytes
   unwanted   a wanted file of 3 bytes, and one of 20,000,000,000 bytes that is listed and that nobody wants
   many       20,000 targets of 1,000 bytes in 64 hash bins, of which one is wanted, and all
   longer     a wanted file that is listed with 3 bytes and has 20,000,000,000, so it is refused as `LengthWrong`
   metadata   a wanted file of 3 bytes, and in the folder of metadata one of 5,000,000,000 bytes that nobody wants: once
              with a name that ends in `.json`, and once with another
 
-The bytes of the files of `one` and `twenty` are drawn by a seed, and their digests worked out by Python. The other
-large files have only holes. In each round of `one` and `twenty`, after the programs, `sha256sum` reads all their files,
+The bytes of the files of `one`, `twenty` and `files` are drawn by a seed, and their digests worked out by Python. The other
+large files have only holes. In each round of these three, after the programs, `sha256sum` reads all their files,
 and must print these digests. The last two columns are the median of its seconds, and how many times as long the program
 took.
 
@@ -35,6 +36,8 @@ killed isn't done.
   the peak of `one`, by 0 and by 4 workers, is less than 20 MB above that of first.script
   `one` takes at most 1.1 times as long as `sha256sum`, by 0 and by 4 workers
   `twenty` takes at most a third as long as `sha256sum` by 4 workers
+  `files` takes at most half of the processor's time of `sha256sum` by 0 workers
+  `files` takes at most half as long by 4 workers as by 0
 
 Nothing else should run meanwhile.
 """
@@ -116,6 +119,7 @@ def cases(scale):
     return {
         "one": [("first.script", first, (), (1,)), ("one", drawn, (1, size(3_000_000_000)), (1,))],
         "twenty": [("twenty", drawn, (20, size(150_000_000)), (20,))],
+        "files": [("files", drawn, (64, size(50_000_000)), (64,))],
         "unwanted": [("unwanted", unwanted, (size(20_000_000_000),), (1,))],
         "many": [("many", many, (targets, 6, 1_000), (1, targets))],
         "longer": [("longer", longer, (size(20_000_000_000),), (1,))],
@@ -169,6 +173,11 @@ def claims(taken):
     if "twenty" in taken:
         runs, usual = taken["twenty"]
         yield "`twenty` takes at most a third as long as sha256sum by 4 workers", [is_within(runs["4"], usual, 1 / 3)]
+    if "files" in taken:
+        runs, usual = taken["files"]
+        half = None if runs["0"].end else runs["0"].processor <= usual.processor / 2
+        yield "`files` takes at most half of the processor's time of sha256sum by 0 workers", [half]
+        yield "`files` takes at most half as long by 4 workers as by 0", [is_within(runs["4"], runs["0"], 1 / 2)]
 
 
 def verdict(held):

@@ -40,12 +40,12 @@ took old new bytes piece n is need counted there256 there512 fed256 fed512 has =
 
 -- ---- pieces that a reader returns
 
-kept : (had has : Option (List ℕ)) → Keeps had has → Consumes had has []
+pub kept : (had has : Option (List ℕ)) → Keeps had has → Consumes had has []
 kept None has k = tt
 kept (Some xs) None k = absurd k
 kept (Some xs) (Some ys) k = sym k
 
-joined : (had mid has : Option (List ℕ)) (a b : List ℕ) → Consumes had mid a → Consumes mid has b → Consumes had has (a ++ b)
+pub joined : (had mid has : Option (List ℕ)) (a b : List ℕ) → Consumes had mid a → Consumes mid has b → Consumes had has (a ++ b)
 joined None mid has a b first next = tt
 joined (Some xs) None has a b first next = absurd first
 joined (Some xs) (Some ys) None a b first next = absurd next
@@ -101,7 +101,7 @@ pub measured : (need : Need) (s t : Measuring) (had has : Option (List ℕ)) (m 
 measured need s t had has m more same new end = (more.piece, end more.piece (more.taken [] new) ∙ ap (λ n. measure_of n more.piece) (more.need ∙ same))
 
 -- what was taken is the start of what the reader had, and it has the rest
-starts : (u : ℕ) (xs ys piece : List ℕ) → xs ≡ piece ++ ys → length piece ≤ u → (u ≤ length piece) ⊎ (ys ≡ []) → (take u xs ≡ take u piece) × (ys ≡ drop u xs)
+pub starts : (u : ℕ) (xs ys piece : List ℕ) → xs ≡ piece ++ ys → length piece ≤ u → (u ≤ length piece) ⊎ (ys ≡ []) → (take u xs ≡ take u piece) × (ys ≡ drop u xs)
 starts u xs ys piece is few (inl all) =
     let len : length piece ≡ u = omega (arith, few, all) in
     (ap (take u) is ∙ take-append-le u piece ys all, sym (ap (drop u) is ∙ drop_at piece ys u len))
@@ -149,7 +149,7 @@ lost_of : (u : ℕ) (piece : List ℕ) (had has : Option (List ℕ)) → IfSome 
 lost_of u piece None has h = tt
 lost_of u piece (Some xs) has h = h.1
 
-known_of : (need : Need) (m : Measure) (piece : List ℕ) (had has : Option (List ℕ)) → m ≡ measure_of need piece
+pub known_of : (need : Need) (m : Measure) (piece : List ℕ) (had has : Option (List ℕ)) → m ≡ measure_of need piece
     → IfSome had (λ xs. (take need.up_to xs ≡ take need.up_to piece) × (has ≡ Some (drop need.up_to xs))) → IfSome had (λ xs. m ≡ measure_of need xs)
 unfolding of_start
 known_of need m piece None has is h = tt

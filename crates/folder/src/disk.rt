@@ -1,14 +1,17 @@
 //! Folders of the file system.
 
-ghost use Rattle.std.specs.Prelude.{◌≡◌, ◌≤◌, ◌↔◌, true, List, ℕ, Bool, IfOk};
+ghost use Rattle.std.specs.Prelude.{◌≡◌, ◌≤◌, ◌↔◌, true, List, ℕ, Bool, IfOk, None};
 ghost use Rattle.std.specs.Prelude.{length, string_bytes};
 ghost use Rattle.std.specs.IoError.{error_kind};
 ghost use Rattle.folder.specs.Folders as spec;
 ghost use Rattle.folder.specs.Measures.{IsMeasure};
 
 use crate::files::{Folder, LoadFault};
+use crate::job::{Done, Job};
 use crate::measure::{Measure, Need};
 use crate::start::start_of_reader;
+use crate::stream::Opener;
+use crate::together::measure_jobs;
 use std::alloc::{AllocError, Global};
 use std::fs;
 use std::io::{self, ErrorKind};
@@ -113,8 +116,23 @@ impl<'a, R: Files + AllocGlobal + Clone + Drop> Folder for Disk<'a, R> {
         measure_file(self.rt, alloc, path.as_str(), need).ok()
     }
 
+    fn measure_many(&self, alloc: Global, jobs: Vec<Job>) -> Vec<Done> {
+        measure_jobs(alloc, self, jobs)
+    }
+
     fn failed(&self) -> u64 {
         self.faults
+    }
+}
+
+impl<'a, R: Files> Opener for Disk<'a, R> {
+    type File = R::File;
+
+    ghost content = { λ _ _. None };
+
+    fn open(&self, alloc: Global, name: &str) -> io::Result<R::File> {
+        let path = path_below(alloc, self.path.as_str(), name)?;
+        fs::open(self.rt, path.as_str())
     }
 }
 

@@ -1,13 +1,14 @@
 //! Folders of files, and what is read from them.
 
 ghost use Rattle.std.specs.Prelude.{◌≡◌, ◌≤◌, ◌<◌, ◌⊎◌, ◌^◌, ◌-◌, List, ℕ, Bool, IsTrue, true};
-ghost use Rattle.std.specs.Prelude.{IfOk, IfErr, IfSome, OnOk, map, string_bytes};
+ghost use Rattle.std.specs.Prelude.{All, IfOk, IfErr, IfSome, OnOk, map, string_bytes};
 ghost use Rattle.folder.specs.Folders.{AddsFile, HasFailed, IsLoaded};
 ghost use Rattle.folder.specs.Measures.{IsMeasureOf};
 ghost use Rattle.folder.specs.Seen.{IsStartOf};
 ghost use Rattle.folder.specs.Starts.{AddsStart, AreStarts};
 ghost use Rattle.folder.specs.declared.files.LoadFault.TheVariants as fault;
 
+use crate::job::{Done, Job};
 use crate::measure::{Measure, Need};
 use crate::start::cut;
 use std::alloc::{AllocError, AllocFailed, Global};
@@ -111,9 +112,43 @@ pub trait Folder {
         None
     }
 
+    /// Measures the files of these jobs in the same way, as `measure_shared` would each, the last job
+    /// first. Returns those that were measured.
+    fn measure_many(&self, alloc: Global, jobs: Vec<Job>) -> Vec<Done>
+        ensures given { All (λ d. IsMeasureOf d.need (holds self.now (string_bytes d.name)) d.measure)
+            result.items }
+    {
+        let mut jobs = jobs;
+        let mut done = Vec::new(alloc);
+        'jobs: while let Some(job) = jobs.pop() {
+            let Job { name, need } = job;
+            if let Some(measure) = self.measure_shared(alloc, name.as_str(), need) {
+                add(
+                    &mut done,
+                    Done {
+                        name,
+                        need,
+                        measure,
+                    },
+                );
+            }
+        }
+        done
+    }
+
     /// Returns the number of failed calls, up to 2^64 - 1.
     fn failed(&self) -> u64
         ensures count { result ≡ failures self.now };
+}
+
+/// Adds a file that was measured, unless out of memory.
+fn add(all: &mut Vec<Done>, done: Done)
+    ensures { (holds : List ℕ → List ℕ → Bool)
+        → IsMeasureOf done.need (holds (string_bytes done.name)) done.measure
+        → All (λ d. IsMeasureOf d.need (holds (string_bytes d.name)) d.measure) all.old.items
+        → All (λ d. IsMeasureOf d.need (holds (string_bytes d.name)) d.measure) all.new.items }
+{
+    all.push(done).ok();
 }
 
 /// A folder behind a reference.
@@ -142,6 +177,10 @@ impl<F: Folder> Folder for &mut F {
 
     fn measure_shared(&self, alloc: Global, name: &str, need: Need) -> Option<Measure> {
         (**self).measure_shared(alloc, name, need)
+    }
+
+    fn measure_many(&self, alloc: Global, jobs: Vec<Job>) -> Vec<Done> {
+        (**self).measure_many(alloc, jobs)
     }
 
     fn failed(&self) -> u64 {

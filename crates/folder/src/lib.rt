@@ -8,9 +8,13 @@
 
 mod disk;
 mod files;
+mod job;
 mod measure;
 mod start;
+mod stream;
+mod together;
 
 pub use disk::{Depth, Disk, path_below};
 pub use files::{Folder, LoadFault, load, load_starts};
+pub use job::{Done, Job};
 pub use measure::{Measure, Measuring, Need};

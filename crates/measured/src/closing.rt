@@ -20,13 +20,13 @@ use std::thread::Threads;
 pub struct Readers<'a, R> {
     /// The runtime that starts them.
     pub rt: &'a R,
-    /// Maximum number of threads; if it is 0, files are read one at a time.
+    /// Maximum number of threads; if it is 0, the calling thread reads.
     pub threads: usize,
 }
 
 /// Ends a course by the target files of a folder that has these names. Each file that a search
 /// found is read once, in pieces, no further than the greatest length that is listed of it and one
-/// byte. No other file is opened.
+/// byte. No other file is opened. Several files are digested side by side by each of the threads.
 ///
 /// Returns the outcome for all target files with these names that begin with the bytes that were
 /// read, whatever follows them. Fails if the folder fails, or if out of memory.
@@ -78,9 +78,7 @@ fn measured<R: Threads + Sync, F: Folder + Sync>(
     let searches = course.searches();
     let mut known = named(alloc, names)?;
     note_all(alloc, searches, consistent, &mut known)?;
-    if readers.threads > 0 {
-        read_early(readers.rt, alloc, folder, readers.threads, &mut known)?;
-    }
+    read_early(readers.rt, alloc, folder, readers.threads, &mut known)?;
     read_all(alloc, folder, searches, consistent, &mut known)?;
     Ok(known)
 }

@@ -1,24 +1,25 @@
-//! Measures of files by several threads at once.
+//! Measures of files before the searches need them, several files at once.
 
-ghost use Rattle.std.specs.Prelude.{◌≡◌, ◌<◌, ℕ, List, Bool, All, IfSome, string_bytes};
+ghost use Rattle.std.specs.Prelude.{◌≡◌, ◌<◌, ℕ, List, Bool, All, string_bytes};
 ghost use Rattle.folder.specs.Measures.{IsMeasureOf};
-ghost use Rattle.measured.specs.Known.{StaysKnown};
+ghost use Rattle.measured.specs.Known.{AreDone, StaysKnown};
 
 use crate::known::{Known, Wanted, entry_of, put};
-use folder::{Folder, Measure, Need};
+use folder::{Done, Folder, Job};
 use std::alloc::{AllocError, Global};
+use std::mem;
 use std::thread::{self, Threads};
 
-/// A file's name, what is needed of the file, and its measure once a thread has taken it.
+/// The files that one thread measures, and those that it has measured.
 #[derive(Drop)]
-pub struct Job {
-    pub name: String,
-    pub need: Need,
-    pub measure: Option<Measure>,
+pub struct Share {
+    pub jobs: Vec<Job>,
+    pub done: Vec<Done>,
 }
 
-/// Measures the wanted files, by at most `threads` threads. What is known of a file is unchanged if
-/// its thread can't measure it. Fails only if out of memory.
+/// Measures the wanted files by `threads` threads, each of which digests several files side by
+/// side. If `threads` is 0, the calling thread does so, if several files are wanted. What is known
+/// of a file is unchanged if it can't be measured. Fails only if out of memory.
 pub(crate) fn read_early<R: Threads + Sync, F: Folder + Sync>(
     rt: &R,
     alloc: Global,
@@ -26,84 +27,138 @@ pub(crate) fn read_early<R: Threads + Sync, F: Folder + Sync>(
     threads: usize,
     known: &mut Known,
 ) -> Result<(), AllocError>
-    requires threads { 0 < threads }
     ensures known { (names : List (List ℕ)) (found : List ℕ → Bool)
         → StaysKnown names (F.holds folder.now) found known.old known.new }
 {
-    let mut jobs = jobs_of(alloc, known)?;
-    measure_all(rt, alloc, folder, jobs.as_mut_slice(), threads);
-    keep_all(jobs, known)
+    let jobs = jobs_of(alloc, known)?;
+    if threads == 0 && jobs.len() < 2 {
+        return Ok(());
+    }
+    let mut shares = shares_of(alloc, threads.max(1))?;
+    deal(jobs, shares.as_mut_slice())?;
+    measure_all(rt, alloc, folder, shares.as_mut_slice(), threads);
+    keep_shares(shares, known)
 }
 
-/// Returns a job for each wanted file. Fails only if out of memory.
+/// Returns a job for each wanted file, with those last of which most is wanted. Fails only if out
+/// of memory.
 fn jobs_of(alloc: Global, known: &Known) -> Result<Vec<Job>, AllocError> {
     let mut jobs = Vec::new(alloc);
     for (name, entry) in &known.files {
         if let Some(wanted) = entry {
             let name = String::from_str(alloc, name.as_str())?;
-            jobs.push(Job {
-                name,
-                need: wanted.need,
-                measure: None,
-            })?;
+            let need = wanted.need;
+            jobs.push(Job { name, need })?;
         }
     }
+    jobs.sort_unstable_by_key(|job: &Job| job.need.up_to);
     Ok(jobs)
 }
 
-fn measure_all<R: Threads + Sync, F: Folder + Sync>(
-    rt: &R,
-    alloc: Global,
-    folder: &F,
-    jobs: &mut [Job],
-    threads: usize,
-)
-    requires { 0 < threads }
-    ensures { All (λ j. IfSome j.measure
-        (IsMeasureOf j.need (F.holds folder.now (string_bytes j.name)))) jobs.new }
-{
-    thread::for_each_mut(
-        rt,
-        jobs,
-        threads,
-        &|_, job: &mut Job| { measure_job(alloc, folder, job) },
-    );
+/// Returns shares with no files. Fails only if out of memory.
+fn shares_of(alloc: Global, count: usize) -> Result<Vec<Share>, AllocError> {
+    let mut shares = Vec::new(alloc);
+    'shares: for _ in 0..count {
+        shares.push(Share {
+            jobs: Vec::new(alloc),
+            done: Vec::new(alloc),
+        })?;
+    }
+    Ok(shares)
 }
 
-fn measure_job<F: Folder>(alloc: Global, folder: &F, job: &mut Job)
-    ensures { IfSome job.new.measure
-        (IsMeasureOf job.new.need (F.holds folder.now (string_bytes job.new.name))) }
-{
-    job.measure = folder.measure_shared(alloc, job.name.as_str(), job.need);
-}
-
-/// Stores all measures that were taken.
-fn keep_all(jobs: Vec<Job>, known: &mut Known) -> Result<(), AllocError>
-    ensures known { (names : List (List ℕ)) (holds : List ℕ → List ℕ → Bool)
-        (found : List ℕ → Bool) → All (λ j. IfSome j.measure
-        (IsMeasureOf j.need (holds (string_bytes j.name)))) jobs.items
-        → StaysKnown names holds found known.old known.new }
-{
+/// Deals the jobs to the shares in turn. Fails only if out of memory.
+fn deal(jobs: Vec<Job>, shares: &mut [Share]) -> Result<(), AllocError> {
+    let mut next = 0;
     for job in jobs {
-        keep(job, known)?;
+        if next >= shares.len() {
+            next = 0;
+        }
+        if let Some(share) = shares.get_mut(next) {
+            share.jobs.push(job)?;
+            next += 1;
+        }
     }
     Ok(())
 }
 
-/// Stores the measure of a wanted file, if it was taken.
-fn keep(job: Job, known: &mut Known) -> Result<(), AllocError>
+/// Measures the files of each share, each by a thread of its own unless `threads` is 0.
+fn measure_all<R: Threads + Sync, F: Folder + Sync>(
+    rt: &R,
+    alloc: Global,
+    folder: &F,
+    shares: &mut [Share],
+    threads: usize,
+)
+    ensures { All (λ s. AreDone (F.holds folder.now) s.done.items) shares.new }
+{
+    if threads == 0 {
+        measure_each(alloc, folder, shares);
+        return;
+    }
+    thread::for_each_mut(
+        rt,
+        shares,
+        threads,
+        &|_, share: &mut Share| { measure_share(alloc, folder, share) },
+    );
+}
+
+/// Measures the files of each share, one share after the other.
+fn measure_each<F: Folder>(alloc: Global, folder: &F, shares: &mut [Share])
+    ensures { All (λ s. AreDone (F.holds folder.now) s.done.items) shares.new }
+{
+    'shares: for i in 0..shares.len() {
+        measure_share(alloc, folder, &mut shares[i]);
+    }
+}
+
+fn measure_share<F: Folder>(alloc: Global, folder: &F, share: &mut Share)
+    ensures { AreDone (F.holds folder.now) share.new.done.items }
+{
+    let jobs = mem::replace(&mut share.jobs, Vec::new(alloc));
+    share.done = folder.measure_many(alloc, jobs);
+}
+
+/// Stores the measures of all shares.
+fn keep_shares(shares: Vec<Share>, known: &mut Known) -> Result<(), AllocError>
     ensures known { (names : List (List ℕ)) (holds : List ℕ → List ℕ → Bool)
-        (found : List ℕ → Bool)
-        → IfSome job.measure (IsMeasureOf job.need (holds (string_bytes job.name)))
+        (found : List ℕ → Bool) → All (λ s. AreDone holds s.done.items) shares.items
         → StaysKnown names holds found known.old known.new }
 {
-    let Job {
+    for share in shares {
+        keep_all(share.done, known)?;
+    }
+    Ok(())
+}
+
+/// Stores these measures.
+fn keep_all(done: Vec<Done>, known: &mut Known) -> Result<(), AllocError>
+    ensures known { (names : List (List ℕ)) (holds : List ℕ → List ℕ → Bool)
+        (found : List ℕ → Bool) → AreDone holds done.items
+        → StaysKnown names holds found known.old known.new }
+{
+    for one in done {
+        keep(one, known)?;
+    }
+    Ok(())
+}
+
+/// Stores the measure of a wanted file.
+fn keep(done: Done, known: &mut Known) -> Result<(), AllocError>
+    ensures known { (names : List (List ℕ)) (holds : List ℕ → List ℕ → Bool)
+        (found : List ℕ → Bool)
+        → IsMeasureOf done.need (holds (string_bytes done.name)) done.measure
+        → StaysKnown names holds found known.old known.new }
+{
+    let Done {
         name,
         need,
         measure,
-    } = job;
+    } = done;
     let Some(Some(_)) = entry_of(known, name.as_str()) else {
         return Ok(());
     };
+    let measure = Some(measure);
     put(known, name, Some(Wanted { need, measure }))
 }

@@ -1,17 +1,16 @@
-use Rattle.std.proofs.Common.{ℕ, List, Bool, All, IfSome, string_bytes}
+use Rattle.std.proofs.Common.{ℕ, List, Bool, All}
 use Rattle.std.specs.Vec.Iter.{into_iter_items}
-use Rattle.folder.specs.Measures.{IsMeasureOf}
-use Rattle.measured.specs.Known.{IsKnown}
+use Rattle.measured.specs.Known.{AreDone, IsKnown}
 use Rattle.measured.proofs.early.keep_all.Given as goal
 
-abbrev pub invariant-loop-job : goal.invariant-loop-job
-invariant-loop-job l = record {
-  can : goal.iterator-loop-job.can_next l.job-iterator;
-  ends : goal.iterator-loop-job.is_finite l.job-iterator;
+abbrev pub invariant-loop-one : goal.invariant-loop-one
+invariant-loop-one l = record {
+  can : goal.iterator-loop-one.can_next l.one-iterator;
+  ends : goal.iterator-loop-one.is_finite l.one-iterator;
   known : (names : List (List ℕ)) (holds : List ℕ → List ℕ → Bool) (found : List ℕ → Bool)
-      → All (λ j. IfSome j.measure (IsMeasureOf j.need (holds (string_bytes j.name)))) l.fn.jobs.items
+      → AreDone holds l.fn.done.items
       → IsKnown names holds found l.initial.known → IsKnown names holds found l.known;
   left : (holds : List ℕ → List ℕ → Bool)
-      → All (λ j. IfSome j.measure (IsMeasureOf j.need (holds (string_bytes j.name)))) l.fn.jobs.items
-      → All (λ j. IfSome j.measure (IsMeasureOf j.need (holds (string_bytes j.name)))) (into_iter_items l.job-iterator);
+      → AreDone holds l.fn.done.items
+      → AreDone holds (into_iter_items l.one-iterator);
 }

@@ -1,0 +1,10 @@
+use Rattle.lanes.specs.Lanes.{IsRow}
+use Rattle.folder.specs.Streams.{AreLanes, AreMeasured}
+use Rattle.folder.proofs.together.tend_all.Given as goal
+
+abbrev pub invariant-lanes : goal.invariant-lanes
+invariant-lanes g l = record {
+  row : IsRow g.row.N 8 l.state;
+  lanes : AreLanes (g.O.Opener.content l.opener) g.O.File.Read.remaining g.row.N l.state l.lanes;
+  done : AreMeasured (g.O.Opener.content l.opener) l.initial.work.done.items → AreMeasured (g.O.Opener.content l.opener) l.work.done.items;
+}
