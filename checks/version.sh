@@ -1,5 +1,5 @@
 #!/bin/bash
-# Compares the version that the program prints with what else names it: the release's scripts, the man page, the pages for
+# Compares the version that the program prints with what else names it: the release's scripts, the library's header and crates, the man page, the pages for
 # users and on formats, the changelog, and the logic of the kit in the README. The one place of the version is
 # crates/words/src/version.rt.
 #
@@ -31,6 +31,13 @@ holds() {
 }
 
 names dist/package.sh "version=$version"
+names dist/package-dev.sh "version=$version"
+names bindings/c/tufcheck.h "#define TUFCHECK_VERSION_TEXT \"$version\""
+IFS=. read -r first second third <<< "$version"
+names bindings/c/tufcheck.h "#define TUFCHECK_VERSION $((first * 1000000 + second * 1000 + third))"
+names bindings/rust/tufcheck-sys/Cargo.toml "version = \"$version\""
+names bindings/rust/tufcheck/Cargo.toml "version = \"$version\""
+holds crates/tufcheck_c/src/version.rt "/// The version $version."
 names docs/tufcheck.1 ".TH TUFCHECK 1 \"\" \"tufcheck $version\""
 names docs/FORMATS.md "- Implementation Version: $version"
 holds docs/USERS.md "tufcheck_${version}_amd64.deb"

@@ -1,0 +1,246 @@
+/* tufcheck: verifies a repository of The Update Framework (TUF 1.0) with LMS signatures (RFC 8554),
+ * from files that the caller has in memory. C99 and C++.
+ *
+ * An updater calls tufcheck_first once, with the root file that it was shipped with, and keeps the
+ * state. For each update it calls tufcheck_next, fetches the files that this names, adds them to
+ * the job and calls again, until it finds no more of them. Then it calls tufcheck_verify, and keeps
+ * the new state. docs/EMBEDDING.md has a worked example, and says what is proved of these calls.
+ *
+ * No call opens a file, reads a clock, starts a thread, takes a lock or keeps anything after it
+ * returns. All calls may run at the same time in different threads, with different answers.
+ *
+ * What the caller owes:
+ *
+ * - No pointer is null, also where its length or count is 0: there any other address does, such as
+ *   TUFCHECK_NOTHING. A pointer is aligned for its type, and its memory is as long as its length or
+ *   count says. No room overlaps another room, its own answer or any memory of the job, and nothing
+ *   writes to the job's memory during a call.
+ * - A stack of 256 KB. A file of nested JSON takes up to 125 KB of it, before any signature is
+ *   checked, so any mirror can cause that.
+ * - malloc, realloc and free of one allocator, which align a block to each power of two up to 16
+ *   that divides its size. If one of them refuses memory, the call returns TUFCHECK_NO_MEMORY.
+ * - No call from a signal handler, or from the forked child of a process with threads.
+ * - A processor of x86-64 with SSE4.2 (x86-64-v2), and 64-bit Linux.
+ */
+#ifndef TUFCHECK_H
+#define TUFCHECK_H
+
+#include <stddef.h>
+#include <stdint.h>
+
+#ifdef __cplusplus
+extern "C" {
+#endif
+
+/* The version of this header: 1,000,000 times its first number, 1,000 times its second number, and
+ * its third number, added. tufcheck_version returns that of the library; the first numbers must be
+ * equal. */
+#define TUFCHECK_VERSION 1000000
+#define TUFCHECK_VERSION_TEXT "1.0.0"
+
+/* A pointer for a length or a count of 0. */
+#define TUFCHECK_NOTHING ((void *)16)
+
+/* No text of a state is longer, in bytes. Nor is it longer than that of the state before and twice
+ * all metadata files of the job, and 64. */
+#define TUFCHECK_STATE_MOST 15056821
+
+/* Results of the calls. From 0 on there is an answer. Below 0 there is none, and no room is written.
+ * tufcheck_next and tufcheck_list say below what 0 and 1 mean there. */
+enum {
+    TUFCHECK_GOOD = 0,        /* the cycle is ready, and every wanted target is accepted */
+    TUFCHECK_REFUSED = 1,     /* the cycle is ready, and some wanted target is refused */
+    TUFCHECK_STOPPED = 2,     /* the cycle stopped at summary.end, for summary.fault */
+    TUFCHECK_NO_MEMORY = -1,  /* out of memory */
+    TUFCHECK_NO_STATE = -2,   /* the state, or the first root, is not one */
+    TUFCHECK_NO_NAME = -3,    /* a file's name or a wanted path is not UTF-8 */
+    TUFCHECK_NO_MOMENT = -4,  /* the moment is past the year 9999 */
+    TUFCHECK_NO_LIMIT = -5,   /* the limit is not 1 to 256 */
+    TUFCHECK_NO_ROOM = -6     /* some room is too small: the summary counts how much is needed */
+};
+
+/* How a cycle ends: summary.end. */
+enum {
+    TUFCHECK_READY = 1,
+    TUFCHECK_AT_ROOT = 2,
+    TUFCHECK_AT_TIMESTAMP = 3,
+    TUFCHECK_AT_SNAPSHOT = 4,
+    TUFCHECK_AT_TARGETS = 5
+};
+
+/* Kinds of verdicts. */
+enum {
+    TUFCHECK_ACCEPTED = 1,       /* the file has the length and the digests that a role lists */
+    TUFCHECK_NOT_FOUND = 2,      /* no role lists the path */
+    TUFCHECK_LIMIT_REACHED = 3,  /* the search would visit more roles than the limit */
+    TUFCHECK_ROLE_REFUSED = 4,   /* the search came to a role whose own file is refused */
+    TUFCHECK_FILE_REFUSED = 5,   /* a role lists the path, but its file is refused */
+    TUFCHECK_NOT_SEARCHED = 6    /* the cycle stopped before any search */
+};
+
+/* Why a file is refused: the first check that it fails. */
+enum {
+    TUFCHECK_NOT_LISTED = 1,    /* the snapshot doesn't list the role's file */
+    TUFCHECK_MISSING = 2,       /* the job has no file of its name */
+    TUFCHECK_TOO_LONG = 3,      /* it is longer than the limit of its kind */
+    TUFCHECK_LENGTH_WRONG = 4,  /* it has another length than is listed */
+    TUFCHECK_HASH_WRONG = 5,    /* it has another digest than is listed */
+    TUFCHECK_NO_KNOWN_HASH = 6, /* no digest of a known kind is listed */
+    TUFCHECK_MALFORMED = 7,     /* it isn't a file of its kind */
+    TUFCHECK_UNSIGNED = 8,      /* fewer keys signed it than the threshold */
+    TUFCHECK_VERSION_WRONG = 9, /* it has another version than is expected */
+    TUFCHECK_ROLLBACK = 10,     /* it is older than what is trusted */
+    TUFCHECK_EXPIRED = 11       /* it has expired */
+};
+
+/* Where a file belongs that is to be fetched. */
+enum {
+    TUFCHECK_METADATA = 1,
+    TUFCHECK_TARGETS = 2
+};
+
+typedef struct tufcheck_bytes {
+    const uint8_t *data;
+    size_t len;
+} tufcheck_bytes;
+
+/* A file in memory. Its name is that below the repository's folder of metadata or of targets, in
+ * UTF-8, with `/` between folders. */
+typedef struct tufcheck_file {
+    tufcheck_bytes name;
+    tufcheck_bytes bytes;
+} tufcheck_file;
+
+/* A target file that isn't in memory: its length and both digests, for a caller that computes them
+ * while it downloads. */
+typedef struct tufcheck_digests {
+    tufcheck_bytes name;
+    uint64_t length;
+    uint8_t sha256[32];
+    uint8_t sha512[64];
+} tufcheck_digests;
+
+/* The input of a call. Of all files with one name the last counts, and one of digests counts after
+ * one of targets. */
+typedef struct tufcheck_job {
+    tufcheck_bytes state; /* the text of the trusted state: of tufcheck_first, or the last answer */
+    const tufcheck_file *metadata;
+    size_t metadata_count;
+    const tufcheck_file *targets;
+    size_t target_count;
+    const tufcheck_digests *digests;
+    size_t digest_count;
+    const tufcheck_bytes *wanted; /* paths of targets, in UTF-8 */
+    size_t wanted_count;
+    uint64_t moment; /* seconds after 1970-01-01T00:00:00Z, up to the year 9999 */
+    size_t limit;    /* maximum number of roles that a search visits, 1 to 256; 32 is usual */
+} tufcheck_job;
+
+/* How a cycle ended, and how much there is in each room, or is needed. */
+typedef struct tufcheck_summary {
+    uint32_t end;
+    uint32_t fault;        /* the fault that stopped the cycle, or 0 */
+    uint64_t root_version; /* of the new trusted root */
+    size_t state_len;      /* bytes of the new state's text */
+    size_t verdict_count;  /* rows of wanted paths, or of files to fetch */
+    size_t role_count;     /* rows of accepted roles */
+    size_t name_len;       /* bytes of all names */
+} tufcheck_summary;
+
+/* The verdict of a wanted path. The name of its role is in the names, from role_at on. */
+typedef struct tufcheck_verdict {
+    uint32_t kind;
+    uint32_t fault;  /* of a refused file, or 0 */
+    uint64_t length; /* of an accepted file in bytes, or 0 */
+    size_t role_at;
+    size_t role_len; /* 0 if there is no role */
+} tufcheck_verdict;
+
+/* A delegated role that was accepted. */
+typedef struct tufcheck_role {
+    uint64_t version;
+    size_t name_at;
+    size_t name_len;
+} tufcheck_role;
+
+/* The rooms for the outcome of a verification. The caller sets all but the summary. */
+typedef struct tufcheck_answer {
+    uint8_t *state; /* for the text of the new state, to be kept whenever there is an answer */
+    size_t state_room;
+    tufcheck_verdict *verdicts; /* one for each wanted path, in order */
+    size_t verdict_room;
+    tufcheck_role *roles; /* those accepted, each once, in byte order of their names */
+    size_t role_room;
+    uint8_t *names;
+    size_t name_room;
+    tufcheck_summary summary;
+} tufcheck_answer;
+
+/* What roles list of a wanted path. */
+typedef struct tufcheck_listed {
+    uint32_t kind;   /* TUFCHECK_ACCEPTED here means that a role lists the path */
+    uint32_t fault;  /* of a role's refused file, or 0 */
+    uint64_t length; /* the listed length in bytes, or 0 */
+    size_t role_at;
+    size_t role_len;
+    uint8_t has_sha256; /* 1 if that digest is listed; if not, it is zeros */
+    uint8_t has_sha512;
+    uint8_t sha256[32];
+    uint8_t sha512[64];
+} tufcheck_listed;
+
+/* The rooms for a listing. Its summary counts no roles. */
+typedef struct tufcheck_listing {
+    uint8_t *state;
+    size_t state_room;
+    tufcheck_listed *rows; /* one for each wanted path, in order */
+    size_t row_room;
+    uint8_t *names;
+    size_t name_room;
+    tufcheck_summary summary;
+} tufcheck_listing;
+
+/* A file to fetch. Its name is in the names, from name_at on. */
+typedef struct tufcheck_need {
+    uint32_t place;    /* TUFCHECK_METADATA or TUFCHECK_TARGETS */
+    uint8_t optional;  /* 1 if the file may be absent for good, as the root of the next version */
+    uint64_t most;     /* fetch no more bytes than that: a longer file is refused */
+    size_t name_at;
+    size_t name_len;
+} tufcheck_need;
+
+/* The rooms for the files to fetch. The summary counts no state and no roles. */
+typedef struct tufcheck_needs {
+    tufcheck_need *rows; /* in the order in which the workflow looks the files up */
+    size_t row_room;
+    uint8_t *names;
+    size_t name_room;
+    tufcheck_summary summary;
+} tufcheck_needs;
+
+/* The version of the library, as that of this header. */
+uint32_t tufcheck_version(void);
+
+/* Writes the text of the state of a first root, which the caller trusts, to state, and its length
+ * to len. Returns 0, TUFCHECK_NO_STATE, TUFCHECK_NO_MEMORY or TUFCHECK_NO_ROOM; for the last one len
+ * is the length of the text. Twice the length of the root and 64 is always room enough. */
+int32_t tufcheck_first(const uint8_t *root, size_t root_len, uint8_t *state, size_t state_room,
+                       size_t *len);
+
+/* Returns which files the cycle looked up in the job and didn't find: 1 if some of them isn't
+ * optional, else 2 if the cycle stopped, else 0. The names come from metadata, which a stranger may
+ * have written: a caller that opens files must refuse names that lead out of its folder. */
+int32_t tufcheck_next(const tufcheck_job *job, tufcheck_needs *needs);
+
+/* Returns what roles list of the wanted paths, without looking at target files: 0 if the cycle is
+ * ready and all are listed, 1 if it is ready and some is not, 2 if it stopped. */
+int32_t tufcheck_list(const tufcheck_job *job, tufcheck_listing *listing);
+
+/* Verifies the job: runs one cycle of the client workflow, and writes the outcome to answer. */
+int32_t tufcheck_verify(const tufcheck_job *job, tufcheck_answer *answer);
+
+#ifdef __cplusplus
+}
+#endif
+
+#endif

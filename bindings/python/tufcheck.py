@@ -1,0 +1,484 @@
+"""Verify a repository of The Update Framework, by the C library ``libtufcheck``.
+
+An updater keeps a trusted state, which begins with a root file that it was shipped with::
+
+    state = tufcheck.first(root_bytes)
+
+For each update it makes a `Job`, fetches what the job needs, and verifies it::
+
+    job = tufcheck.Job(state, wanted=["abc.txt"], moment=int(time.time()))
+    tufcheck.fetch_all(job, fetch)
+    outcome = job.verify()
+    state = outcome.state
+
+Here ``fetch(need)`` returns the bytes of a file, or None if there is none. A target file may be
+given by its length and digests alone (`Digests`), which a caller can compute while it downloads.
+
+This module needs ctypes alone. It loads the library that the environment variable
+``TUFCHECK_LIBRARY`` names, or else ``libtufcheck.so.1`` where the system looks for libraries. What
+is proved of the library's calls, and what isn't, is in its page EMBEDDING.
+"""
+
+from __future__ import annotations
+
+import ctypes as _c
+import enum
+import os
+from dataclasses import dataclass, field
+from typing import Callable, Dict, List, Mapping, Optional, Sequence, Union
+
+__all__ = [
+    "Digests", "End", "Fault", "Job", "Kind", "LimitError", "Listed", "Listing", "MomentError",
+    "TextError", "Need", "Needs", "Outcome", "Place", "StateError", "Status", "TufcheckError",
+    "Verdict", "fetch_all", "first", "version",
+]
+
+
+class Status(enum.IntEnum):
+    """The result of a call."""
+
+    GOOD = 0
+    """The cycle is ready, and every wanted target is accepted."""
+    REFUSED = 1
+    """The cycle is ready, and some wanted target is refused."""
+    STOPPED = 2
+    """The cycle stopped."""
+
+
+class End(enum.IntEnum):
+    """How a cycle ends: ready, or the step at which it stopped."""
+
+    READY = 1
+    ROOT = 2
+    TIMESTAMP = 3
+    SNAPSHOT = 4
+    TARGETS = 5
+
+
+class Kind(enum.IntEnum):
+    """The kind of a verdict."""
+
+    ACCEPTED = 1
+    """The file has the length and the digests that a role lists."""
+    NOT_FOUND = 2
+    """No role lists the path."""
+    LIMIT_REACHED = 3
+    """The search would visit more roles than the limit."""
+    ROLE_REFUSED = 4
+    """The search came to a role whose own file is refused."""
+    FILE_REFUSED = 5
+    """A role lists the path, but its file is refused."""
+    NOT_SEARCHED = 6
+    """The cycle stopped before any search."""
+
+
+class Fault(enum.IntEnum):
+    """Why a file is refused: the first check that it fails."""
+
+    NOT_LISTED = 1
+    MISSING = 2
+    TOO_LONG = 3
+    LENGTH_WRONG = 4
+    HASH_WRONG = 5
+    NO_KNOWN_HASH = 6
+    MALFORMED = 7
+    UNSIGNED = 8
+    VERSION_WRONG = 9
+    ROLLBACK = 10
+    EXPIRED = 11
+
+
+class Place(enum.IntEnum):
+    """Where a file belongs that is to be fetched."""
+
+    METADATA = 1
+    TARGETS = 2
+
+
+class TufcheckError(Exception):
+    """A call of the library failed. (Out of memory is a `MemoryError`.)"""
+
+
+class StateError(TufcheckError, ValueError):
+    """The state, or the first root, is not one."""
+
+
+class TextError(TufcheckError, ValueError):
+    """A file's name or a wanted path is not UTF-8."""
+
+
+class MomentError(TufcheckError, ValueError):
+    """The moment is past the year 9999."""
+
+
+class LimitError(TufcheckError, ValueError):
+    """The limit is not 1 to 256."""
+
+
+@dataclass(frozen=True)
+class Digests:
+    """A target file by its length in bytes and both digests of its bytes."""
+
+    length: int
+    sha256: bytes
+    sha512: bytes
+
+
+@dataclass(frozen=True)
+class Verdict:
+    """The verdict of a wanted path. It is true exactly if the file is accepted."""
+
+    kind: Kind
+    fault: Optional[Fault]
+    """Why a file is refused."""
+    length: int
+    """The length of an accepted file in bytes, or 0."""
+    role: str
+    """The role that lists the accepted file, or whose own file is refused, or ``""``."""
+
+    def __bool__(self) -> bool:
+        return self.kind is Kind.ACCEPTED
+
+
+@dataclass(frozen=True)
+class Outcome:
+    """The outcome of a cycle. Keep `state` whatever the status is."""
+
+    status: Status
+    end: End
+    fault: Optional[Fault]
+    """Why the cycle stopped."""
+    root_version: int
+    state: bytes
+    """The text of the new trusted state."""
+    verdicts: Dict[str, Verdict]
+    """By wanted path."""
+    roles: Dict[str, int]
+    """The version of each delegated role that was accepted."""
+
+
+@dataclass(frozen=True)
+class Listed:
+    """What roles list of a wanted path. It is true exactly if a role lists it."""
+
+    kind: Kind
+    """`Kind.ACCEPTED` means here that a role lists the path."""
+    fault: Optional[Fault]
+    length: int
+    role: str
+    sha256: Optional[bytes]
+    sha512: Optional[bytes]
+
+    def __bool__(self) -> bool:
+        return self.kind is Kind.ACCEPTED
+
+
+@dataclass(frozen=True)
+class Listing:
+    """What roles list of the wanted paths: GOOD if all are listed, REFUSED if some is not."""
+
+    status: Status
+    end: End
+    fault: Optional[Fault]
+    root_version: int
+    state: bytes
+    listed: Dict[str, Listed]
+    """By wanted path."""
+
+
+@dataclass(frozen=True)
+class Need:
+    """A file to fetch. A caller that opens files must refuse names that lead out of its folder."""
+
+    place: Place
+    name: str
+    most: int
+    """Fetch no more bytes than that: a longer file is refused."""
+    optional: bool
+    """Whether the file may be absent for good, as the root of the next version."""
+
+
+@dataclass(frozen=True)
+class Needs:
+    """The files that the workflow looked up and didn't find."""
+
+    status: Status
+    """REFUSED if some file isn't optional, else STOPPED if the cycle stopped, else GOOD."""
+    end: End
+    fault: Optional[Fault]
+    root_version: int
+    files: List[Need]
+
+
+@dataclass
+class Job:
+    """The input of a call: a trusted state, files by name, wanted paths, and the moment in seconds
+    after 1970-01-01T00:00:00Z. The limit is the maximum number of roles that a search visits, 1 to
+    256. A name in `digests` counts before the same one in `targets`."""
+
+    state: bytes
+    wanted: Sequence[str]
+    moment: int
+    metadata: Dict[str, bytes] = field(default_factory=dict)
+    targets: Dict[str, bytes] = field(default_factory=dict)
+    digests: Dict[str, Digests] = field(default_factory=dict)
+    limit: int = 32
+
+    def verify(self) -> Outcome:
+        """Runs one cycle of the client workflow. Raises `StateError`, `TextError`, `MomentError`,
+        `LimitError` or `MemoryError`."""
+        rooms = _Rooms(self._state_room(), len(self.wanted), 64, 4096)
+        while True:
+            state, names = _buffer(rooms.state), _buffer(rooms.names)
+            verdicts, roles = (_Verdict * (rooms.rows + 1))(), (_Role * (rooms.roles + 1))()
+            answer = _Answer(state, rooms.state, verdicts, rooms.rows, roles, rooms.roles, names,
+                             rooms.names)
+            status = _status(_library.tufcheck_verify(self._in_c(), answer))
+            if status is not None:
+                break
+            rooms = _Rooms.of(answer.summary)
+        told, text = answer.summary, names.raw
+        return Outcome(
+            status, End(told.end), _fault(told.fault), told.root_version,
+            state.raw[: told.state_len],
+            {path: Verdict(Kind(row.kind), _fault(row.fault), row.length,
+                           _cut(text, row.role_at, row.role_len))
+             for path, row in zip(self.wanted, verdicts)},
+            {_cut(text, row.name_at, row.name_len): row.version
+             for row in roles[: told.role_count]})
+
+    def list(self) -> Listing:
+        """Returns what roles list of the wanted paths, without looking at target files. Raises what
+        `verify` raises."""
+        rooms = _Rooms(self._state_room(), len(self.wanted), 0, 4096)
+        while True:
+            state, names = _buffer(rooms.state), _buffer(rooms.names)
+            rows = (_Listed * (rooms.rows + 1))()
+            listing = _Listing(state, rooms.state, rows, rooms.rows, names, rooms.names)
+            status = _status(_library.tufcheck_list(self._in_c(), listing))
+            if status is not None:
+                break
+            rooms = _Rooms.of(listing.summary)
+        told, text = listing.summary, names.raw
+        return Listing(
+            status, End(told.end), _fault(told.fault), told.root_version,
+            state.raw[: told.state_len],
+            {path: Listed(Kind(row.kind), _fault(row.fault), row.length,
+                          _cut(text, row.role_at, row.role_len),
+                          bytes(row.sha256) if row.has_sha256 else None,
+                          bytes(row.sha512) if row.has_sha512 else None)
+             for path, row in zip(self.wanted, rows)})
+
+    def next(self) -> Needs:
+        """Returns the files to fetch next. Raises what `verify` raises."""
+        rooms = _Rooms(0, len(self.wanted) + 2, 0, 4096)
+        while True:
+            rows, names = (_Need * (rooms.rows + 1))(), _buffer(rooms.names)
+            needs = _Needs(rows, rooms.rows, names, rooms.names)
+            status = _status(_library.tufcheck_next(self._in_c(), needs))
+            if status is not None:
+                break
+            rooms = _Rooms.of(needs.summary)
+        told, text = needs.summary, names.raw
+        return Needs(
+            status, End(told.end), _fault(told.fault), told.root_version,
+            [Need(Place(row.place), _cut(text, row.name_at, row.name_len), row.most,
+                  bool(row.optional))
+             for row in rows[: told.verdict_count]])
+
+    def _state_room(self) -> int:
+        # A state has files of the job in hexadecimal, or those of the state before.
+        return min(len(self.state) + 2 * sum(map(len, self.metadata.values())) + 64, _STATE_MOST)
+
+    def _in_c(self) -> _Job:
+        # Each array is one longer than its count, so that no pointer is null.
+        digests = (_Digests * (len(self.digests) + 1))()
+        for place, (name, d) in enumerate(self.digests.items()):
+            digests[place] = _Digests(_bytes(name.encode()), d.length,
+                                      (_c.c_uint8 * 32).from_buffer_copy(d.sha256),
+                                      (_c.c_uint8 * 64).from_buffer_copy(d.sha512))
+        wanted = (_Bytes * (len(self.wanted) + 1))(*(_bytes(path.encode()) for path in self.wanted))
+        return _Job(_bytes(self.state), _files(self.metadata), len(self.metadata),
+                    _files(self.targets), len(self.targets), digests, len(self.digests),
+                    wanted, len(self.wanted), self.moment, self.limit)
+
+
+def version() -> str:
+    """The version of the library."""
+    number = _library.tufcheck_version()
+    return f"{number // 1_000_000}.{number // 1_000 % 1_000}.{number % 1_000}"
+
+
+def first(root: bytes) -> bytes:
+    """The text of the state of a first root file, which the caller trusts. Raises `StateError` if it
+    isn't a root file, or `MemoryError`."""
+    room, used = _buffer(2 * len(root) + 64), _c.c_size_t()
+    _status(_library.tufcheck_first(root, len(root), room, len(room) - 1, used))
+    return room.raw[: used.value]
+
+
+def fetch_all(job: Job, fetch: Callable[[Need], Union[bytes, Digests, None]]) -> List[Need]:
+    """Adds files to the job until `fetch` has none that is needed. Returns those that it had not.
+
+    `fetch` returns a file's bytes, of a target file its digests instead, or None if there is no such
+    file. It is called once for each name."""
+    asked: Dict[tuple, bool] = {}
+    while True:
+        needed = job.next().files
+        new = [need for need in needed if (need.place, need.name) not in asked]
+        if not new:
+            return needed
+        for need in new:
+            found = fetch(need)
+            asked[need.place, need.name] = found is not None
+            if isinstance(found, Digests):
+                job.digests[need.name] = found
+            elif found is not None:
+                files = job.metadata if need.place is Place.METADATA else job.targets
+                files[need.name] = found
+
+
+# The rest is the layout of the header.
+
+_STATE_MOST = 15_056_821
+_NO_ROOM = -6
+_FAULTS = {
+    -2: (StateError, "the state, or the first root, is not one"),
+    -3: (TextError, "a file's name or a wanted path is not UTF-8"),
+    -4: (MomentError, "the moment is past the year 9999"),
+    -5: (LimitError, "the limit is not 1 to 256"),
+}
+
+
+class _Bytes(_c.Structure):
+    _fields_ = [("data", _c.c_char_p), ("len", _c.c_size_t)]
+
+
+class _File(_c.Structure):
+    _fields_ = [("name", _Bytes), ("bytes", _Bytes)]
+
+
+class _Digests(_c.Structure):
+    _fields_ = [("name", _Bytes), ("length", _c.c_uint64), ("sha256", _c.c_uint8 * 32),
+                ("sha512", _c.c_uint8 * 64)]
+
+
+class _Job(_c.Structure):
+    _fields_ = [("state", _Bytes),
+                ("metadata", _c.POINTER(_File)), ("metadata_count", _c.c_size_t),
+                ("targets", _c.POINTER(_File)), ("target_count", _c.c_size_t),
+                ("digests", _c.POINTER(_Digests)), ("digest_count", _c.c_size_t),
+                ("wanted", _c.POINTER(_Bytes)), ("wanted_count", _c.c_size_t),
+                ("moment", _c.c_uint64), ("limit", _c.c_size_t)]
+
+
+class _Summary(_c.Structure):
+    _fields_ = [("end", _c.c_uint32), ("fault", _c.c_uint32), ("root_version", _c.c_uint64),
+                ("state_len", _c.c_size_t), ("verdict_count", _c.c_size_t),
+                ("role_count", _c.c_size_t), ("name_len", _c.c_size_t)]
+
+
+class _Verdict(_c.Structure):
+    _fields_ = [("kind", _c.c_uint32), ("fault", _c.c_uint32), ("length", _c.c_uint64),
+                ("role_at", _c.c_size_t), ("role_len", _c.c_size_t)]
+
+
+class _Role(_c.Structure):
+    _fields_ = [("version", _c.c_uint64), ("name_at", _c.c_size_t), ("name_len", _c.c_size_t)]
+
+
+class _Answer(_c.Structure):
+    _fields_ = [("state", _c.POINTER(_c.c_char)), ("state_room", _c.c_size_t),
+                ("verdicts", _c.POINTER(_Verdict)), ("verdict_room", _c.c_size_t),
+                ("roles", _c.POINTER(_Role)), ("role_room", _c.c_size_t),
+                ("names", _c.POINTER(_c.c_char)), ("name_room", _c.c_size_t),
+                ("summary", _Summary)]
+
+
+class _Listed(_c.Structure):
+    _fields_ = [("kind", _c.c_uint32), ("fault", _c.c_uint32), ("length", _c.c_uint64),
+                ("role_at", _c.c_size_t), ("role_len", _c.c_size_t), ("has_sha256", _c.c_uint8),
+                ("has_sha512", _c.c_uint8), ("sha256", _c.c_uint8 * 32),
+                ("sha512", _c.c_uint8 * 64)]
+
+
+class _Listing(_c.Structure):
+    _fields_ = [("state", _c.POINTER(_c.c_char)), ("state_room", _c.c_size_t),
+                ("rows", _c.POINTER(_Listed)), ("row_room", _c.c_size_t),
+                ("names", _c.POINTER(_c.c_char)), ("name_room", _c.c_size_t),
+                ("summary", _Summary)]
+
+
+class _Need(_c.Structure):
+    _fields_ = [("place", _c.c_uint32), ("optional", _c.c_uint8), ("most", _c.c_uint64),
+                ("name_at", _c.c_size_t), ("name_len", _c.c_size_t)]
+
+
+class _Needs(_c.Structure):
+    _fields_ = [("rows", _c.POINTER(_Need)), ("row_room", _c.c_size_t),
+                ("names", _c.POINTER(_c.c_char)), ("name_room", _c.c_size_t),
+                ("summary", _Summary)]
+
+
+@dataclass(frozen=True)
+class _Rooms:
+    state: int
+    rows: int
+    roles: int
+    names: int
+
+    @staticmethod
+    def of(needed: _Summary) -> _Rooms:
+        return _Rooms(needed.state_len, needed.verdict_count, needed.role_count, needed.name_len)
+
+
+def _buffer(size: int) -> _c.Array:
+    return _c.create_string_buffer(size + 1)
+
+
+def _bytes(data: bytes) -> _Bytes:
+    return _Bytes(data, len(data))
+
+
+def _files(files: Mapping[str, bytes]) -> _c.Array:
+    return (_File * (len(files) + 1))(*(_File(_bytes(name.encode()), _bytes(data))
+                                        for name, data in files.items()))
+
+
+def _cut(names: bytes, at: int, length: int) -> str:
+    return names[at: at + length].decode()
+
+
+def _fault(number: int) -> Optional[Fault]:
+    return Fault(number) if number else None
+
+
+def _status(result: int) -> Optional[Status]:
+    """The status, or None if there was too little room."""
+    if result >= 0:
+        return Status(result)
+    if result == _NO_ROOM:
+        return None
+    if result == -1:
+        raise MemoryError("out of memory")
+    kind, why = _FAULTS[result]
+    raise kind(why)
+
+
+def _load() -> _c.CDLL:
+    library = _c.CDLL(os.environ.get("TUFCHECK_LIBRARY", "libtufcheck.so.1"))
+    if library.tufcheck_version() // 1_000_000 != 1:
+        raise ImportError("libtufcheck has another version than this module")
+    room, size = _c.POINTER(_c.c_char), _c.c_size_t
+    library.tufcheck_version.restype = _c.c_uint32
+    library.tufcheck_first.argtypes = [_c.c_char_p, size, room, size, _c.POINTER(size)]
+    library.tufcheck_next.argtypes = [_c.POINTER(_Job), _c.POINTER(_Needs)]
+    library.tufcheck_list.argtypes = [_c.POINTER(_Job), _c.POINTER(_Listing)]
+    library.tufcheck_verify.argtypes = [_c.POINTER(_Job), _c.POINTER(_Answer)]
+    for call in (library.tufcheck_first, library.tufcheck_next, library.tufcheck_list,
+                 library.tufcheck_verify):
+        call.restype = _c.c_int32
+    return library
+
+
+_library = _load()

@@ -1,0 +1,466 @@
+//! Verifies a repository of The Update Framework, by the C library libtufcheck.
+//!
+//! An updater keeps a trusted state, which begins with [`first`]. For each update it makes a
+//! [`Job`], adds the files that [`Job::next`] names until it finds no more of them, and calls
+//! [`Job::verify`]. A call needs a stack of 256 KB.
+
+use std::error;
+use std::fmt;
+use std::ptr::NonNull;
+use tufcheck_sys as c;
+
+/// Why a call failed.
+#[derive(Clone, Copy, Debug, PartialEq, Eq)]
+pub enum Error {
+    /// Out of memory.
+    Memory,
+    /// The state, or the first root, isn't one.
+    State,
+    /// The moment is past the year 9999.
+    Moment,
+    /// The limit isn't 1 to 256.
+    Limit,
+}
+
+impl fmt::Display for Error {
+    fn fmt(&self, f: &mut fmt::Formatter<'_>) -> fmt::Result {
+        f.write_str(match self {
+            Error::Memory => "out of memory",
+            Error::State => "not a trusted state",
+            Error::Moment => "a moment past the year 9999",
+            Error::Limit => "a limit that is not 1 to 256",
+        })
+    }
+}
+
+impl error::Error for Error {}
+
+/// The result of a call.
+#[derive(Clone, Copy, Debug, PartialEq, Eq)]
+pub enum Status {
+    /// The cycle is ready, and every wanted target is accepted.
+    Good,
+    /// The cycle is ready, and some wanted target is refused.
+    Refused,
+    /// The cycle stopped.
+    Stopped,
+}
+
+/// How a cycle ends: ready, or the step at which it stopped.
+#[derive(Clone, Copy, Debug, PartialEq, Eq)]
+pub enum End {
+    Ready,
+    Root,
+    Timestamp,
+    Snapshot,
+    Targets,
+}
+
+/// Why a file is refused: the first check that it fails.
+#[derive(Clone, Copy, Debug, PartialEq, Eq)]
+pub enum Fault {
+    NotListed,
+    Missing,
+    TooLong,
+    LengthWrong,
+    HashWrong,
+    NoKnownHash,
+    Malformed,
+    Unsigned,
+    VersionWrong,
+    Rollback,
+    Expired,
+}
+
+/// The kind of a verdict.
+#[derive(Clone, Copy, Debug, PartialEq, Eq)]
+pub enum Kind {
+    /// The file has the length and the digests that a role lists.
+    Accepted,
+    /// No role lists the path.
+    NotFound,
+    /// The search would visit more roles than the limit.
+    LimitReached,
+    /// The search came to a role whose own file is refused.
+    RoleRefused,
+    /// A role lists the path, but its file is refused.
+    FileRefused,
+    /// The cycle stopped before any search.
+    NotSearched,
+}
+
+/// Where a file belongs that is to be fetched.
+#[derive(Clone, Copy, Debug, PartialEq, Eq)]
+pub enum Place {
+    Metadata,
+    Targets,
+}
+
+/// A target file by its length in bytes and both digests of its bytes.
+#[derive(Clone, Copy, Debug)]
+pub struct Digests<'a> {
+    pub name: &'a str,
+    pub length: u64,
+    pub sha256: [u8; 32],
+    pub sha512: [u8; 64],
+}
+
+/// The input of a call. Of all files with one name the last counts, and one of `digests` counts
+/// after one of `targets`. The moment is in seconds after 1970-01-01T00:00:00Z, and the limit is the
+/// maximum number of roles that a search visits.
+#[derive(Clone, Copy, Debug)]
+pub struct Job<'a> {
+    pub state: &'a [u8],
+    pub metadata: &'a [(&'a str, &'a [u8])],
+    pub targets: &'a [(&'a str, &'a [u8])],
+    pub digests: &'a [Digests<'a>],
+    pub wanted: &'a [&'a str],
+    pub moment: u64,
+    pub limit: usize,
+}
+
+/// The verdict of a wanted path.
+#[derive(Clone, Debug, PartialEq, Eq)]
+pub struct Verdict {
+    pub kind: Kind,
+    /// Why a file is refused.
+    pub fault: Option<Fault>,
+    /// The length of an accepted file in bytes, or 0.
+    pub length: u64,
+    /// The role that lists the accepted file, or whose own file is refused, or no name.
+    pub role: String,
+}
+
+/// The outcome of a cycle. Keep `state` whatever the status is.
+#[derive(Clone, Debug, PartialEq, Eq)]
+pub struct Outcome {
+    pub status: Status,
+    pub end: End,
+    /// Why the cycle stopped.
+    pub fault: Option<Fault>,
+    pub root_version: u64,
+    /// The text of the new trusted state.
+    pub state: Vec<u8>,
+    /// A verdict for each wanted path, by position.
+    pub verdicts: Vec<Verdict>,
+    /// The name and version of each delegated role that was accepted.
+    pub roles: Vec<(String, u64)>,
+}
+
+/// What a role lists of a path.
+#[derive(Clone, Debug, PartialEq, Eq)]
+pub struct Listed {
+    /// [`Kind::Accepted`] means here that a role lists the path.
+    pub kind: Kind,
+    pub fault: Option<Fault>,
+    pub length: u64,
+    pub role: String,
+    pub sha256: Option<[u8; 32]>,
+    pub sha512: Option<[u8; 64]>,
+}
+
+/// What roles list of the wanted paths: good if all are listed, refused if some is not.
+#[derive(Clone, Debug, PartialEq, Eq)]
+pub struct Listing {
+    pub status: Status,
+    pub end: End,
+    pub fault: Option<Fault>,
+    pub root_version: u64,
+    pub state: Vec<u8>,
+    /// By position.
+    pub listed: Vec<Listed>,
+}
+
+/// A file to fetch. A caller that opens files must refuse names that lead out of its folder.
+#[derive(Clone, Debug, PartialEq, Eq)]
+pub struct Need {
+    pub place: Place,
+    pub name: String,
+    /// Fetch no more bytes than that: a longer file is refused.
+    pub most: u64,
+    /// Whether the file may be absent for good, as the root of the next version.
+    pub optional: bool,
+}
+
+/// The files that the workflow looked up and didn't find: refused if some isn't optional, else
+/// stopped if the cycle stopped, else good.
+#[derive(Clone, Debug, PartialEq, Eq)]
+pub struct Needs {
+    pub status: Status,
+    pub end: End,
+    pub fault: Option<Fault>,
+    pub root_version: u64,
+    pub files: Vec<Need>,
+}
+
+/// The version of the library, as 1,000,000 for 1.0.0.
+pub fn version() -> u32 {
+    unsafe { c::tufcheck_version() }
+}
+
+/// Returns the text of the state of a first root file, which the caller trusts. Fails with `State`
+/// or `Memory`.
+pub fn first(root: &[u8]) -> Result<Vec<u8>, Error> {
+    let mut state = vec![0; 2 * root.len() + 64];
+    let mut len = 0;
+    // A slice's pointer and that of a vector are never null.
+    let result = unsafe {
+        c::tufcheck_first(
+            root.as_ptr(),
+            root.len(),
+            state.as_mut_ptr(),
+            state.len(),
+            &mut len,
+        )
+    };
+    status_of(result)?;
+    state.truncate(len);
+    Ok(state)
+}
+
+impl Job<'_> {
+    /// Runs one cycle of the client workflow. Fails with the first fault of the job, or `Memory`.
+    pub fn verify(&self) -> Result<Outcome, Error> {
+        let mut rooms = self.rooms(64);
+        loop {
+            let mut state = vec![0; rooms.state_len];
+            let mut verdicts = vec![c::Verdict::default(); rooms.verdict_count];
+            let mut roles = vec![c::Role::default(); rooms.role_count];
+            let mut names = vec![0; rooms.name_len];
+            let mut answer = c::Answer {
+                state: state.as_mut_ptr(),
+                state_room: state.len(),
+                verdicts: verdicts.as_mut_ptr(),
+                verdict_room: verdicts.len(),
+                roles: roles.as_mut_ptr(),
+                role_room: roles.len(),
+                names: names.as_mut_ptr(),
+                name_room: names.len(),
+                summary: c::Summary::default(),
+            };
+            let result = self.in_c(|job| unsafe { c::tufcheck_verify(job, &mut answer) });
+            rooms = answer.summary;
+            let Some(status) = status_of(result)? else {
+                continue;
+            };
+            state.truncate(rooms.state_len);
+            return Ok(Outcome {
+                status,
+                end: end_of(rooms.end),
+                fault: fault_of(rooms.fault),
+                root_version: rooms.root_version,
+                state,
+                verdicts: verdicts[..rooms.verdict_count]
+                    .iter()
+                    .map(|row| Verdict {
+                        kind: kind_of(row.kind),
+                        fault: fault_of(row.fault),
+                        length: row.length,
+                        role: cut(&names, row.role_at, row.role_len),
+                    })
+                    .collect(),
+                roles: roles[..rooms.role_count]
+                    .iter()
+                    .map(|row| (cut(&names, row.name_at, row.name_len), row.version))
+                    .collect(),
+            });
+        }
+    }
+
+    /// Returns what roles list of the wanted paths, without looking at target files.
+    pub fn list(&self) -> Result<Listing, Error> {
+        let none = c::Listed {
+            kind: 0,
+            fault: 0,
+            length: 0,
+            role_at: 0,
+            role_len: 0,
+            has_sha256: 0,
+            has_sha512: 0,
+            sha256: [0; 32],
+            sha512: [0; 64],
+        };
+        let mut rooms = self.rooms(0);
+        loop {
+            let mut state = vec![0; rooms.state_len];
+            let mut rows = vec![none; rooms.verdict_count];
+            let mut names = vec![0; rooms.name_len];
+            let mut listing = c::Listing {
+                state: state.as_mut_ptr(),
+                state_room: state.len(),
+                rows: rows.as_mut_ptr(),
+                row_room: rows.len(),
+                names: names.as_mut_ptr(),
+                name_room: names.len(),
+                summary: c::Summary::default(),
+            };
+            let result = self.in_c(|job| unsafe { c::tufcheck_list(job, &mut listing) });
+            rooms = listing.summary;
+            let Some(status) = status_of(result)? else {
+                continue;
+            };
+            state.truncate(rooms.state_len);
+            return Ok(Listing {
+                status,
+                end: end_of(rooms.end),
+                fault: fault_of(rooms.fault),
+                root_version: rooms.root_version,
+                state,
+                listed: rows[..rooms.verdict_count]
+                    .iter()
+                    .map(|row| Listed {
+                        kind: kind_of(row.kind),
+                        fault: fault_of(row.fault),
+                        length: row.length,
+                        role: cut(&names, row.role_at, row.role_len),
+                        sha256: (row.has_sha256 == 1).then_some(row.sha256),
+                        sha512: (row.has_sha512 == 1).then_some(row.sha512),
+                    })
+                    .collect(),
+            });
+        }
+    }
+
+    /// Returns the files to fetch next.
+    pub fn next(&self) -> Result<Needs, Error> {
+        let mut rooms = self.rooms(0);
+        loop {
+            let mut rows = vec![c::Need::default(); rooms.verdict_count];
+            let mut names = vec![0; rooms.name_len];
+            let mut needs = c::Needs {
+                rows: rows.as_mut_ptr(),
+                row_room: rows.len(),
+                names: names.as_mut_ptr(),
+                name_room: names.len(),
+                summary: c::Summary::default(),
+            };
+            let result = self.in_c(|job| unsafe { c::tufcheck_next(job, &mut needs) });
+            rooms = needs.summary;
+            let Some(status) = status_of(result)? else {
+                continue;
+            };
+            return Ok(Needs {
+                status,
+                end: end_of(rooms.end),
+                fault: fault_of(rooms.fault),
+                root_version: rooms.root_version,
+                files: rows[..rooms.verdict_count]
+                    .iter()
+                    .map(|row| Need {
+                        place: if row.place == 1 { Place::Metadata } else { Place::Targets },
+                        name: cut(&names, row.name_at, row.name_len),
+                        most: row.most,
+                        optional: row.optional == 1,
+                    })
+                    .collect(),
+            });
+        }
+    }
+
+    /// A guess of how much room is needed.
+    fn rooms(&self, roles: usize) -> c::Summary {
+        let files: usize = self.metadata.iter().map(|(_, bytes)| bytes.len()).sum();
+        c::Summary {
+            state_len: (self.state.len() + 2 * files + 64).min(15_056_821),
+            verdict_count: self.wanted.len(),
+            role_count: roles,
+            name_len: 4096,
+            ..c::Summary::default()
+        }
+    }
+
+    /// Calls with the job in the layout of C.
+    fn in_c(&self, call: impl FnOnce(*const c::Job) -> i32) -> i32 {
+        let files = |all: &[(&str, &[u8])]| -> Vec<c::File> {
+            all.iter()
+                .map(|(name, data)| c::File {
+                    name: bytes(name.as_bytes()),
+                    bytes: bytes(data),
+                })
+                .collect()
+        };
+        let (metadata, targets) = (files(self.metadata), files(self.targets));
+        let digests: Vec<c::Digests> = self
+            .digests
+            .iter()
+            .map(|row| c::Digests {
+                name: bytes(row.name.as_bytes()),
+                length: row.length,
+                sha256: row.sha256,
+                sha512: row.sha512,
+            })
+            .collect();
+        let wanted: Vec<c::Bytes> = self.wanted.iter().map(|path| bytes(path.as_bytes())).collect();
+        call(&c::Job {
+            state: bytes(self.state),
+            metadata: metadata.as_ptr(),
+            metadata_count: metadata.len(),
+            targets: targets.as_ptr(),
+            target_count: targets.len(),
+            digests: digests.as_ptr(),
+            digest_count: digests.len(),
+            wanted: wanted.as_ptr(),
+            wanted_count: wanted.len(),
+            moment: self.moment,
+            limit: self.limit,
+        })
+    }
+}
+
+fn bytes(data: &[u8]) -> c::Bytes {
+    c::Bytes {
+        data: NonNull::from(data).cast().as_ptr(),
+        len: data.len(),
+    }
+}
+
+/// A name of the rows. Names are UTF-8, since JSON and wanted paths are.
+fn cut(names: &[u8], at: usize, len: usize) -> String {
+    String::from_utf8_lossy(&names[at..at + len]).into_owned()
+}
+
+/// The status, or None if there was too little room. Texts of Rust are UTF-8, so no name fails.
+fn status_of(result: i32) -> Result<Option<Status>, Error> {
+    match result {
+        0 => Ok(Some(Status::Good)),
+        1 => Ok(Some(Status::Refused)),
+        2 => Ok(Some(Status::Stopped)),
+        -6 => Ok(None),
+        -2 => Err(Error::State),
+        -4 => Err(Error::Moment),
+        -5 => Err(Error::Limit),
+        _ => Err(Error::Memory),
+    }
+}
+
+fn end_of(number: u32) -> End {
+    [End::Ready, End::Root, End::Timestamp, End::Snapshot, End::Targets][number as usize - 1]
+}
+
+fn kind_of(number: u32) -> Kind {
+    [
+        Kind::Accepted,
+        Kind::NotFound,
+        Kind::LimitReached,
+        Kind::RoleRefused,
+        Kind::FileRefused,
+        Kind::NotSearched,
+    ][number as usize - 1]
+}
+
+fn fault_of(number: u32) -> Option<Fault> {
+    let all = [
+        Fault::NotListed,
+        Fault::Missing,
+        Fault::TooLong,
+        Fault::LengthWrong,
+        Fault::HashWrong,
+        Fault::NoKnownHash,
+        Fault::Malformed,
+        Fault::Unsigned,
+        Fault::VersionWrong,
+        Fault::Rollback,
+        Fault::Expired,
+    ];
+    (number > 0).then(|| all[number as usize - 1])
+}

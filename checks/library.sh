@@ -1,0 +1,170 @@
+#!/bin/bash
+# Compares the C library with the header, with the program and with itself.
+#
+#   checks/library.sh [COUNT]      1,000 histories unless given
+#
+# `rt lib` in crates/tufcheck_c proves and builds the library, and `rt run` in crates/tufcheck the program; LIBRARY and
+# PROGRAM in the environment name others. It needs cc and binutils. What is here of the rest is tried too: g++, pkg-config,
+# rustc, valgrind. What isn't is said in a line `not tried`.
+#
+#   1. The library shows the calls of the header and nothing else, and needs the C library's memory calls alone.
+#   2. Each field of the header is where the library has it; the header is C99 and C++, without warnings.
+#   3. The example updaters of C, Python and Rust fetch repositories of examples/ from a folder, and verify them.
+#   4. Drawn histories (those of second.py) have the lines, the status and the state of the program, from Python and from C,
+#      with bytes, with digests and after fetching (library/compare.py).
+#   5. With each allocation refused in turn, with one too little in each room, with each error, in four threads and on a stack
+#      of 256 KB the calls return what they must (library/stress.c); and how much of a stack nested JSON takes.
+#   6. valgrind finds nothing in 3 (C) and in 5.
+#
+# The status is 1 if something is not as it must be. With 1,000 histories it takes five minutes on four cores.
+set -u
+export LC_ALL=C
+count=${1:-1000}
+top=$(cd "$(dirname "$0")/.." && pwd) || exit 2
+library=${LIBRARY:-$top/crates/tufcheck_c/out/libtufcheck_c.a} program=$(realpath "${PROGRAM:-$top/crates/tufcheck/out/tufcheck}")
+work=$(mktemp -d) || exit 2
+trap 'rm -rf "$work"' EXIT
+here=$top/checks/library now=1767225600 failed=0
+
+# done STATUS WHAT: a line for a thing that was tried, with what it printed if it failed
+done_() {
+    if [ "$1" = 0 ]; then
+        echo "ok $2"
+    else
+        echo "failed $2"
+        tail -20 "$work/seen"
+        failed=1
+    fi
+}
+
+# has TOOL WHAT: whether a tool is here
+has() {
+    command -v "$1" > "$work/found" || { echo "not tried $2: $1 is missing"; return 1; }
+}
+
+[ -f "$library" ] || { echo "no library at $library: \`rt lib\` in crates/tufcheck_c builds it"; exit 2; }
+[ -x "$program" ] || { echo "no program at $program: \`rt run\` in crates/tufcheck builds it"; exit 2; }
+"$top/bindings/link.sh" "$work/lib" "$library" > "$work/names" 2> "$work/seen" || { cat "$work/seen"; exit 2; }
+export TUFCHECK_LIBRARY=$work/lib/libtufcheck.so.1 PYTHONPATH=$top/bindings/python:$top/checks PYTHONDONTWRITEBYTECODE=1
+
+# 1. Names.
+{
+    for name in first list next verify version; do echo "shows tufcheck_$name"; done
+    echo "needs free malloc memcmp memcpy memmove memset realloc"
+} > "$work/wanted"
+{
+    grep '^shows' "$work/names" | sort
+    echo "needs $(sed -n 's/^needs //p' "$work/names" | sort | tr '\n' ' ' | sed 's/ $//')"
+} > "$work/has"
+diff <(sed 's/ memcmp//' "$work/wanted") <(sed 's/ memcmp//' "$work/has") > "$work/seen"
+done_ $? "names: $(tail -1 "$work/has")"
+
+# 2. Layout.
+cc -std=c11 -Wall -Wextra -pedantic -Werror -c -o "$work/layout.o" "$top/bindings/c/layout.c" > "$work/seen" 2>&1
+done_ $? "layout"
+echo '#include "tufcheck.h"' > "$work/header.c"
+cc -std=c99 -Wall -Wextra -pedantic -Werror -I "$top/bindings/c" -c -o "$work/header.o" "$work/header.c" > "$work/seen" 2>&1
+done_ $? "header in C99"
+if has g++ "header in C++"; then
+    g++ -std=c++98 -x c++ -Wall -Wextra -Werror -Wno-long-long -I "$top/bindings/c" -c -o "$work/header.o" "$work/header.c" > "$work/seen" 2>&1
+    done_ $? "header in C++"
+fi
+
+# 3. Examples.
+flags="-I$top/bindings/c -L$work/lib -ltufcheck"
+has pkg-config "pkg-config" && flags=$(PKG_CONFIG_PATH=$work/lib pkg-config --cflags --libs tufcheck) && echo "ok pkg-config: $flags"
+# shellcheck disable=SC2086
+cc -std=c99 -Wall -Wextra -pedantic -Werror -O1 -g -o "$work/updater" "$top/bindings/c/example_updater.c" $flags -Wl,-rpath,"$work/lib" > "$work/seen" 2>&1
+done_ $? "example in C compiles"
+cc -std=c11 -D_DEFAULT_SOURCE -Wall -Wextra -Werror -O1 -g -I "$top/bindings/c" -o "$work/lines" "$here/lines.c" "$work/lib/libtufcheck.a" > "$work/seen" 2>&1
+done_ $? "lines.c compiles"
+cc -std=c11 -D_DEFAULT_SOURCE -Wall -Wextra -Werror -O1 -g -pthread -I "$top/bindings/c" -o "$work/stress" "$here/stress.c" "$work/lib/libtufcheck.a" \
+    -Wl,--wrap=malloc,--wrap=realloc,--wrap=free > "$work/seen" 2>&1
+done_ $? "stress.c compiles"
+if has rustc "example in Rust"; then
+    (cd "$top/bindings/rust" &&
+        rustc --edition 2021 -D warnings --crate-type rlib --crate-name tufcheck_sys -o "$work/libtufcheck_sys.rlib" tufcheck-sys/src/lib.rs &&
+        rustc --edition 2021 -D warnings --crate-type rlib --crate-name tufcheck --extern tufcheck_sys="$work/libtufcheck_sys.rlib" \
+            -o "$work/libtufcheck.rlib" tufcheck/src/lib.rs &&
+        rustc --edition 2021 -D warnings --crate-type bin --extern tufcheck="$work/libtufcheck.rlib" -L "dependency=$work" -L "native=$work/lib" \
+            -l static=tufcheck -o "$work/updater_rust" tufcheck/examples/updater.rs) > "$work/seen" 2>&1
+    done_ $? "example in Rust compiles"
+fi
+
+# updates NAME STATUS PATH..: each updater fetches the repository of the script, whose status is that
+updates() {
+    local name=$1 want=$2 got
+    shift 2
+    rm -rf "$work/repo" && "$program" make "$top/examples/$name.script" "$work/repo" > "$work/seen" 2>&1 || { done_ 1 "make $name"; return; }
+    local root=$work/repo/metadata/1.root.json
+    rm -f "$work"/state.*
+    "$work/updater" "$root" "$work/state.c" "$work/repo" $now "$@" > "$work/seen" 2>&1
+    [ $? = "$want" ]
+    done_ $? "C updates from $name"
+    rm -rf "$work/out" && mkdir "$work/out"
+    python3 "$top/bindings/python/example_updater.py" "$root" "$work/state.py" "$work/repo" $now "$work/out" "$@" > "$work/seen" 2>&1
+    [ $? = "$want" ] && cmp -s "$work/state.c" "$work/state.py"
+    done_ $? "Python updates from $name"
+    if [ -x "$work/updater_rust" ]; then
+        "$work/updater_rust" "$root" "$work/state.rust" "$work/repo" $now "$@" > "$work/seen" 2>&1
+        [ $? = "$want" ] && cmp -s "$work/state.c" "$work/state.rust"
+        done_ $? "Rust updates from $name"
+    fi
+    "$program" init "$root" --out "$work/state.t" > "$work/seen" 2>&1
+    "$program" verify --state "$work/state.t" --metadata "$work/repo/metadata" --targets "$work/repo/targets" --now 2026-01-01T00:00:00Z \
+        --out "$work/state.t" "$@" > "$work/seen" 2>&1
+    got=$?
+    [ $got = "$want" ] && cmp -s "$work/state.c" "$work/state.t"
+    done_ $? "the program says the same of $name"
+}
+updates first 0 abc.txt
+updates consistent 0 abc.txt
+updates delegations 1 abc.txt faq.txt apps/web/a.js nope
+updates bins 1 abc.txt nope
+updates rotation 0 abc.txt
+
+# 4. Drawn histories.
+python3 "$here/compare.py" "$program" "$work/lines" "$count" > "$work/seen" 2>&1
+status=$?
+cat "$work/seen"
+done_ $status "compared with the program"
+
+# 5. Memory, rooms, threads, stacks.
+# stressed NAME PATH..: the calls on the repository of the script
+stressed() {
+    local name=$1
+    shift
+    rm -rf "$work/repo" && "$program" make "$top/examples/$name.script" "$work/repo" > "$work/seen" 2>&1
+    "$program" init "$work/repo/metadata/1.root.json" --out "$work/state" >> "$work/seen" 2>&1
+    "$work/stress" "$work/repo/metadata/1.root.json" "$work/state" "$work/repo/metadata" "$work/repo/targets" $now 32 "$@" > "$work/seen" 2>&1
+    local status=$?
+    cat "$work/seen"
+    done_ $status "stressed by $name"
+    if has valgrind "valgrind"; then
+        QUICK=1 valgrind -q --error-exitcode=9 --exit-on-first-error=no "$work/stress" "$work/repo/metadata/1.root.json" "$work/state" \
+            "$work/repo/metadata" "$work/repo/targets" $now 32 "$@" > "$work/seen" 2>&1
+        done_ $? "valgrind: stress by $name"
+        valgrind -q --error-exitcode=9 "$work/lines" "$work/state" "$work/repo/metadata" "$work/repo/targets" $now 32 "$work/new" "$@" > "$work/seen" 2>&1
+        [ $? -lt 3 ]
+        done_ $? "valgrind: lines of $name"
+    fi
+}
+stressed first abc.txt
+stressed delegations abc.txt faq.txt apps/web/a.js nope
+stressed bins abc.txt nope
+stressed consistent abc.txt nope
+# A timestamp of nested JSON, which no key signed.
+for kind in arrays objects; do
+    rm -rf "$work/repo" && "$program" make "$top/examples/first.script" "$work/repo" > "$work/seen" 2>&1
+    python3 - "$kind" > "$work/repo/metadata/timestamp.json" <<'EOF'
+import sys
+depth = 124
+inner = "[" * depth + "]" * depth if sys.argv[1] == "arrays" else '{"a":' * depth + "1" + "}" * depth
+print('{"signed":{"a":' + inner + '},"signatures":[]}', end="")
+EOF
+    "$work/stress" "$work/repo/metadata/1.root.json" "$work/state" "$work/repo/metadata" "$work/repo/targets" $now 32 abc.txt > "$work/seen" 2>&1
+    status=$?
+    grep stack "$work/seen"
+    done_ $status "stressed by a timestamp of nested $kind"
+done
+exit $failed

@@ -1,0 +1,154 @@
+#!/usr/bin/env python3
+"""Verifies drawn repositories by the program, by the library from Python and by the library from C, and compares them.
+
+  compare.py PROGRAM LINES COUNT [SEED]
+
+The histories are those of second.py: three states each, most of them damaged. TUFCHECK_LIBRARY names the library, and
+PYTHONPATH has its module and second.py; LINES is the program that library.sh compiles of lines.c. The lines, the status
+and the new state must be the same, and so must be
+
+  - the outcome with target files given by length and digests, all or some;
+  - the outcome after `fetch_all` into an empty job, which asks for no file twice;
+  - the listing's state and end, and what it lists beside the verdicts.
+
+The last lines count the statuses and the ends. A history that differs is printed, and the status is then 1.
+"""
+import collections
+import hashlib
+import os
+import subprocess
+import sys
+import tempfile
+from multiprocessing import Pool
+
+import second
+import tufcheck
+from tufcheck import Digests, Fault, Kind, Place, Status
+
+SECONDS = 1_767_225_600
+PROGRAM, LINES = (os.path.abspath(word) for word in sys.argv[1:3])
+WORDS = {fault: "".join(part.title() for part in fault.name.split("_")) for fault in Fault}
+KINDS = {Kind.NOT_FOUND: "NotFound", Kind.LIMIT_REACHED: "LimitReached", Kind.NOT_SEARCHED: "NotSearched"}
+
+
+def quoted(name):
+    plain = lambda byte: 32 <= byte <= 126 and byte not in b'"\\'
+    return '"' + "".join(chr(byte) if plain(byte) else f"\\x{byte:02x}" for byte in name.encode()) + '"'
+
+
+def lines(outcome):
+    yield f"root {outcome.root_version}"
+    yield f"end {outcome.end.name.lower()}" + (f" {WORDS[outcome.fault]}" if outcome.fault else "")
+    for name, version in outcome.roles.items():
+        yield f"role {quoted(name)} {version}"
+    for path, row in outcome.verdicts.items():
+        if row:
+            yield f"ok {quoted(path)} {row.length} {quoted(row.role)}"
+        elif row.kind is Kind.ROLE_REFUSED:
+            yield f"no {quoted(path)} {WORDS[row.fault]} {quoted(row.role)}"
+        else:
+            yield f"no {quoted(path)} {WORDS[row.fault] if row.fault else KINDS[row.kind]}"
+
+
+def digests(data):
+    return Digests(len(data), hashlib.sha256(data).digest(), hashlib.sha512(data).digest())
+
+
+class Fetcher:
+    def __init__(self, metadata, targets):
+        self.files = {Place.METADATA: metadata, Place.TARGETS: targets}
+        self.asked = set()
+
+    def __call__(self, need):
+        assert (need.place, need.name) not in self.asked
+        self.asked.add((need.place, need.name))
+        data = self.files[need.place].get(need.name)
+        return None if data is None else data[: need.most + 1]
+
+
+def compared(case):
+    """What differs of a case, or its outcome."""
+    folder, state, metadata, targets, wanted, limit, draw = case
+    ran = subprocess.run(
+        [PROGRAM, "verify", "--state", "state", "--metadata", "metadata", "--targets", "targets", "--now", second.NOW,
+         "--limit", str(limit), "--workers", "0", "--out", "new", "--", *wanted], cwd=folder, capture_output=True, check=False)
+    stored = open(f"{folder}/new", "rb").read()
+    said = ran.stdout.decode().splitlines(), ran.returncode, stored
+    job = tufcheck.Job(state, wanted, SECONDS, metadata, targets, limit=limit)
+    outcome = job.verify()
+    if said != (list(lines(outcome)), outcome.status, outcome.state):
+        return f"program {said}\nPython {outcome}", outcome
+    ran = subprocess.run([LINES, "state", "metadata", "targets", str(SECONDS), str(limit), "in_c", *wanted], cwd=folder,
+                         capture_output=True, check=False)
+    if said != (ran.stdout.decode().splitlines(), ran.returncode, open(f"{folder}/in_c", "rb").read()):
+        return f"program {said}\nC {ran.stdout.decode().splitlines()} {ran.returncode}", outcome
+    measured = {name: digests(data) for name, data in targets.items() if draw.random() < 0.8}
+    others = {name: b"other" if name in measured else data for name, data in targets.items()}
+    by_digests = tufcheck.Job(state, wanted, SECONDS, metadata, others, measured, limit).verify()
+    if by_digests != outcome:
+        return f"by bytes {outcome}\nby digests {by_digests}", outcome
+    begun = tufcheck.Job(state, wanted, SECONDS, limit=limit)
+    absent = tufcheck.fetch_all(begun, Fetcher(metadata, targets))
+    if begun.verify() != outcome:
+        return f"all {outcome}\nfetched {begun.verify()}", outcome
+    if not absent and not outcome.verdicts:
+        return "nothing was absent", outcome
+    listing = job.list()
+    if (listing.state, listing.end, listing.fault, listing.root_version) != (
+            outcome.state, outcome.end, outcome.fault, outcome.root_version):
+        return f"listing {listing}\n{outcome}", outcome
+    for path, row in listing.listed.items():
+        verdict = outcome.verdicts[path]
+        if bool(row) != (verdict.kind in (Kind.ACCEPTED, Kind.FILE_REFUSED)):
+            return f"{path}: {row} {verdict}", outcome
+        if verdict and (row.length, row.role) != (verdict.length, verdict.role):
+            return f"{path}: {row} {verdict}", outcome
+    return None, outcome
+
+
+def lived(seed):
+    history, counts = second.History(seed), collections.Counter()
+    history.root()
+    with tempfile.TemporaryDirectory(prefix="library-") as folder:
+        state = tufcheck.first(history.metadata["1.root.json"])
+        for number in range(3):
+            history.go_on()
+            limit = history.draw.choice([1, 2, 3, 32, 32, 32])
+            wanted = history.draw.sample(second.PATHS, history.draw.randint(1, 4))
+            metadata = {name: data for name, data in history.metadata.items() if "/" not in name}
+            second.write(f"{folder}/metadata", metadata)
+            second.write(f"{folder}/targets", history.targets)
+            with open(f"{folder}/state", "wb") as file:
+                file.write(state)
+            case = folder, state, metadata, history.targets, wanted, limit, history.draw
+            differs, outcome = compared(case)
+            if differs:
+                return counts, f"seed {seed}, state {number + 1}: {differs}"
+            state = outcome.state
+            counts[f"status {int(outcome.status)}"] += 1
+            counts[f"end {outcome.end.name} {outcome.fault.name if outcome.fault else ''}"] += 1
+            for row in outcome.verdicts.values():
+                counts[f"verdict {row.kind.name} {row.fault.name if row.fault else ''}"] += 1
+    return counts, None
+
+
+def main():
+    count, seed = int(sys.argv[3]), int((sys.argv + ["1"] * 5)[4] if len(sys.argv) > 4 else "1")
+    second.pool()
+    total, status = collections.Counter(), 0
+    with Pool() as workers:
+        for counts, differs in workers.imap_unordered(lived, range(seed, seed + count)):
+            total += counts
+            if differs:
+                print(differs, flush=True)
+                status = 1
+    for words, times in sorted(total.items()):
+        print(f"{times:8} {words}")
+    runs = sum(times for words, times in total.items() if words.startswith("status"))
+    good = total[f"status {int(Status.GOOD)}"]
+    print(f"{count} histories, {runs} repositories, {good} of them good: {'some differ' if status else 'none differs'}")
+    return status or good == 0
+
+
+if __name__ == "__main__":
+    sys.exit(main())

@@ -1,0 +1,288 @@
+/* What the library does if memory is refused, with too little room, in four threads and on small stacks:
+ *
+ *   stress ROOT STATE METADATA TARGETS SECONDS LIMIT PATH..
+ *
+ * Linked with -Wl,--wrap=malloc,--wrap=realloc,--wrap=free. Prints what it finds; the status is 1 if something is not as
+ * it must be. With QUICK in the environment no memory is refused (for valgrind). */
+#include "files.h"
+
+#include <malloc.h>
+#include <pthread.h>
+
+void *__real_malloc(size_t);
+void *__real_realloc(void *, size_t);
+void __real_free(void *);
+
+static _Thread_local int counting, refused_at, calls, live;
+static _Thread_local size_t most, held;
+
+void *__wrap_malloc(size_t size)
+{
+    if (!counting)
+        return __real_malloc(size);
+    if (++calls == refused_at)
+        return NULL;
+    void *memory = __real_malloc(size);
+    live++;
+    held += malloc_usable_size(memory);
+    most = held > most ? held : most;
+    return memory;
+}
+
+void *__wrap_realloc(void *memory, size_t size)
+{
+    if (!counting)
+        return __real_realloc(memory, size);
+    if (++calls == refused_at)
+        return NULL;
+    held -= malloc_usable_size(memory);
+    memory = __real_realloc(memory, size);
+    held += malloc_usable_size(memory);
+    most = held > most ? held : most;
+    return memory;
+}
+
+void __wrap_free(void *memory)
+{
+    if (counting && memory != NULL) {
+        live--;
+        held -= malloc_usable_size(memory);
+    }
+    __real_free(memory);
+}
+
+static int failed;
+
+static void check(int holds, const char *what)
+{
+    if (!holds) {
+        printf("failed: %s\n", what);
+        failed = 1;
+    }
+}
+
+static tufcheck_job job;
+
+/* A call by which all of its room is seen: the result, and the sizes that are needed. */
+typedef struct {
+    int32_t result;
+    tufcheck_summary summary;
+    uint8_t *rooms[4];
+    size_t sizes[4];
+} seen;
+
+enum { VERIFY, LIST, NEXT };
+static const char *const NAMES[] = {"tufcheck_verify", "tufcheck_list", "tufcheck_next"};
+
+/* Calls with rooms of these sizes, filled with a pattern before. */
+static seen call(int which, const tufcheck_job *input, const size_t *sizes)
+{
+    static const size_t widths[3][4] = {{1, sizeof(tufcheck_verdict), sizeof(tufcheck_role), 1},
+                                        {1, sizeof(tufcheck_listed), 0, 1},
+                                        {0, sizeof(tufcheck_need), 0, 1}};
+    seen s = {0};
+    int was = counting;
+    counting = 0;
+    for (int i = 0; i < 4; i++) {
+        s.sizes[i] = sizes[i] * widths[which][i];
+        s.rooms[i] = malloc(s.sizes[i] + 16);
+        memset(s.rooms[i], 0x5a, s.sizes[i] + 16);
+    }
+    counting = was;
+    if (which == VERIFY) {
+        tufcheck_answer a = {s.rooms[0], sizes[0], (void *)s.rooms[1], sizes[1], (void *)s.rooms[2], sizes[2], s.rooms[3],
+                             sizes[3], {0}};
+        s.result = tufcheck_verify(input, &a);
+        s.summary = a.summary;
+    } else if (which == LIST) {
+        tufcheck_listing a = {s.rooms[0], sizes[0], (void *)s.rooms[1], sizes[1], s.rooms[3], sizes[3], {0}};
+        s.result = tufcheck_list(input, &a);
+        s.summary = a.summary;
+    } else {
+        tufcheck_needs a = {(void *)s.rooms[1], sizes[1], s.rooms[3], sizes[3], {0}};
+        s.result = tufcheck_next(input, &a);
+        s.summary = a.summary;
+    }
+    /* Nothing is written past a room, and below 0 none is written at all. */
+    for (int i = 0; i < 4; i++)
+        for (size_t k = s.result < 0 ? 0 : s.sizes[i]; k < s.sizes[i] + 16; k++)
+            check(s.rooms[i][k] == 0x5a, "a room that must be unchanged");
+    return s;
+}
+
+static void drop(seen *s)
+{
+    int was = counting;
+    counting = 0;
+    for (int i = 0; i < 4; i++)
+        free(s->rooms[i]);
+    counting = was;
+}
+
+static void needed(const seen *s, size_t *sizes)
+{
+    sizes[0] = s->summary.state_len;
+    sizes[1] = s->summary.verdict_count;
+    sizes[2] = s->summary.role_count;
+    sizes[3] = s->summary.name_len;
+}
+
+static int same(const seen *a, const seen *b)
+{
+    int equal = a->result == b->result;
+    for (int i = 0; i < 4; i++)
+        equal = equal && a->sizes[i] == b->sizes[i] && memcmp(a->rooms[i], b->rooms[i], a->sizes[i]) == 0;
+    return equal;
+}
+
+/* Refuses each allocation of the call in turn. */
+static void refuse(int which, const size_t *sizes, const seen *whole)
+{
+    int count = 0, others = 0;
+    for (int at = 0; at == 0 || at <= count; at++) {
+        counting = 1;
+        calls = live = 0;
+        held = most = 0;
+        refused_at = at;
+        seen s = call(which, &job, sizes);
+        counting = 0;
+        if (at == 0) {
+            count = calls;
+            printf("%s: %d allocations, %zu bytes at most\n", NAMES[which], count, most);
+        }
+        check(live == 0, "memory that is freed");
+        check(s.result == TUFCHECK_NO_MEMORY || same(&s, whole), "-1, or the whole answer");
+        others += s.result != TUFCHECK_NO_MEMORY;
+        drop(&s);
+    }
+    printf("  refused in turn: %d of them done without\n", others - 1);
+}
+
+/* One less in each room in turn. */
+static void cut(int which, const size_t *sizes)
+{
+    for (int i = 0; i < 4; i++) {
+        size_t less[4];
+        if (sizes[i] == 0)
+            continue;
+        memcpy(less, sizes, sizeof less);
+        less[i]--;
+        seen s = call(which, &job, less);
+        size_t again[4];
+        needed(&s, again);
+        check(s.result == TUFCHECK_NO_ROOM && memcmp(again, sizes, sizeof again) == 0, "-6 with what is needed");
+        drop(&s);
+    }
+}
+
+static void errors(int which, const size_t *sizes)
+{
+    tufcheck_bytes odd = {(const uint8_t *)"\xff", 1};
+    tufcheck_file odd_file = {odd, odd};
+    tufcheck_digests odd_digests = {odd, 0, {0}, {0}};
+    struct {
+        tufcheck_job job;
+        int32_t result;
+        const char *what;
+    } cases[] = {{job, -5, "a limit of 0"}, {job, -5, "a limit of 257"}, {job, -4, "a moment past 9999"},
+                 {job, -2, "a state that was cut"}, {job, -3, "a path that is not UTF-8"},
+                 {job, -3, "a metadata file's name that is not UTF-8"}, {job, -3, "a target file's name"},
+                 {job, -3, "a name of digests"}, {job, -2, "no state"}};
+    cases[0].job.limit = 0;
+    cases[1].job.limit = 257;
+    cases[2].job.moment = 253402300800;
+    cases[3].job.state.len--;
+    cases[4].job.wanted = &odd;
+    cases[4].job.wanted_count = 1;
+    cases[5].job.metadata = &odd_file;
+    cases[5].job.metadata_count = 1;
+    cases[6].job.targets = &odd_file;
+    cases[6].job.target_count = 1;
+    cases[7].job.digests = &odd_digests;
+    cases[7].job.digest_count = 1;
+    cases[8].job.state.len = 0;
+    for (size_t i = 0; i < sizeof cases / sizeof *cases; i++) {
+        seen s = call(which, &cases[i].job, sizes);
+        /* A listing doesn't look at target files. */
+        int unseen = which == LIST && (i == 6 || i == 7);
+        check(unseen ? s.result >= 0 : s.result == cases[i].result, cases[i].what);
+        drop(&s);
+    }
+}
+
+static size_t whole_sizes[3][4];
+static seen whole[3];
+
+static void *in_thread(void *arg)
+{
+    int *equal = arg;
+    *equal = 1;
+    for (int i = 0; i < 10; i++)
+        for (int which = VERIFY; which <= NEXT; which++) {
+            seen s = call(which, &job, whole_sizes[which]);
+            *equal = *equal && same(&s, &whole[which]);
+            drop(&s);
+        }
+    return NULL;
+}
+
+/* A thread with a stack of that size; returns the bytes of it that were written. */
+static size_t on_stack(size_t size)
+{
+    int equal = 0;
+    size_t clean = 0;
+    uint8_t *stack = aligned_alloc(4096, size);
+    memset(stack, 0xa5, size);
+    pthread_attr_t attributes;
+    pthread_t thread;
+    pthread_attr_init(&attributes);
+    pthread_attr_setstack(&attributes, stack, size);
+    pthread_create(&thread, &attributes, in_thread, &equal);
+    pthread_join(thread, NULL);
+    check(equal, "the same answers on a small stack");
+    while (clean < size && stack[clean] == 0xa5)
+        clean++;
+    free(stack);
+    return size - clean;
+}
+
+int main(int argc, char **argv)
+{
+    if (argc < 7)
+        return 3;
+    int quick = getenv("QUICK") != NULL;
+    tufcheck_bytes root = read_file(argv[1]);
+    size_t len = 0, short_len = 0;
+    uint8_t *text = malloc(2 * root.len + 64);
+    check(tufcheck_first(root.data, root.len, text, 2 * root.len + 64, &len) == 0, "a first state");
+    check(tufcheck_first(root.data, root.len, TUFCHECK_NOTHING, 0, &short_len) == -6 && short_len == len, "its length");
+    check(tufcheck_first(root.data, root.len, text, len, &short_len) == 0, "a room of its length");
+    check(tufcheck_first(root.data, root.len - 1, text, len, &short_len) == -2, "a root that was cut");
+    job = job_of(argv + 2, argc - 2);
+    for (int which = VERIFY; which <= NEXT; which++) {
+        size_t none[4] = {0};
+        seen s = call(which, &job, none);
+        needed(&s, whole_sizes[which]);
+        drop(&s);
+        whole[which] = call(which, &job, whole_sizes[which]);
+        check(whole[which].result >= 0, "an answer in the room that is needed");
+        if (!quick)
+            refuse(which, whole_sizes[which], &whole[which]);
+        cut(which, whole_sizes[which]);
+        errors(which, whole_sizes[which]);
+    }
+    pthread_t threads[4];
+    int equal[4];
+    for (int i = 0; i < 4; i++)
+        pthread_create(&threads[i], NULL, in_thread, &equal[i]);
+    for (int i = 0; i < 4; i++) {
+        pthread_join(threads[i], NULL);
+        check(equal[i], "the same answers in four threads");
+    }
+    size_t used = on_stack(256 * 1024);
+    if (!quick)
+        printf("a stack of 256 KB: %zu bytes written\n", used);
+    printf("results %d, %d, %d: %s\n", (int)whole[0].result, (int)whole[1].result, (int)whole[2].result,
+           failed ? "some failed" : "all as they must be");
+    return failed;
+}

@@ -1,0 +1,74 @@
+-- The course, the outcome and the faults of a job.
+use Rattle.std.proofs.Common.{◌≡◌, ℕ, List, Result, Ok, Err, IfOk, IfErr, IsErrAnd, inl, inr, sym, ap, ◌∙◌, subst}
+use Rattle.rolechain.specs.Text.{state_of}
+use Rattle.cycle.specs.Workflow.{Course, Outcome, State, closed_course, course}
+use Rattle.needs.specs.Needs.{Names, needs}
+use Rattle.needs.specs.declared.need.Need.{Need}
+use Rattle.embed.proofs.Targets.{are_whole}
+use Rattle.embed.specs.declared.fault.JobFault.{JobFault}
+use Rattle.embed.specs.declared.fault.JobFault.TheVariants as fault
+use Rattle.embed.specs.declared.fetching.Missing.{Missing}
+use Rattle.embed.specs.declared.job.Job.{Job}
+use Rattle.embed.specs.declared.listing.Listing.{Listing}
+use Rattle.embed.specs.Jobs.{Files, Givens, Moment, AreDigestsNamed, AreGiven, AreNamed, AreTexts, HasCause, IsNoText, course_for, files_of, givens_of, moment_at, paths_of, request_for}
+use Rattle.embed.specs.Outcomes.{EncodesCourse, EncodesNeeds, IsListing, IsNext, IsOutcome, has_name}
+
+-- the course on what the parts of the job represent
+pub course_is : (job : Job) (trusted : State) (metadata : Files) (now : Moment) (wanted : List (List ℕ)) (limit : ℕ)
+    → metadata ≡ files_of job.metadata.now → now ≡ moment_at job.moment → wanted ≡ paths_of job.wanted.now → limit ≡ job.limit
+    → course (record { trusted = trusted; moment = now; wanted = wanted; limit = limit }) metadata ≡ course (request_for job trusted) (files_of job.metadata.now)
+course_is job trusted metadata now wanted limit of_metadata of_now of_wanted of_limit =
+    ap (λ f. course (record { trusted = trusted; moment = now; wanted = wanted; limit = limit }) f) of_metadata
+    ∙ ap (λ m. course (record { trusted = trusted; moment = m; wanted = wanted; limit = limit }) (files_of job.metadata.now)) of_now
+    ∙ ap (λ w. course (record { trusted = trusted; moment = moment_at job.moment; wanted = w; limit = limit }) (files_of job.metadata.now)) of_wanted
+    ∙ ap (λ n. course (record { trusted = trusted; moment = moment_at job.moment; wanted = paths_of job.wanted.now; limit = n }) (files_of job.metadata.now)) of_limit
+
+-- the outcome of the job, where the course was closed by files that may be its own
+pub outcome_is : (job : Job) (trusted : State) (given : Givens) (c : Course) (o : Outcome)
+    → state_of job.state.now ≡ Ok trusted → c ≡ course_for job trusted → given ≡ givens_of job
+    → ((targets : Files) → AreGiven given targets → o ≡ closed_course targets c) → IsOutcome job o
+outcome_is job trusted given c o read of_course of_given closed = record {
+  trusted = trusted;
+  read = read;
+  workflow = λ targets are. closed targets (subst (λ g. AreGiven g targets) (sym of_given) are) ∙ ap (closed_course targets) of_course;
+  whole = are_whole job;
+}
+
+-- out of memory is a cause, and so is a file without a name
+pub no_text : {T are : Type 0} (job : Job) (f : JobFault) (r : Result T JobFault) → IsNoText are f → IsErrAnd r (λ g. g ≡ f)
+    → (AreNamed job.metadata.now → AreNamed job.targets.now → AreDigestsNamed job.digests.now → AreTexts job.wanted.now → are) → IfErr r (HasCause job)
+no_text job f (Ok x) said same leads = tt
+no_text job f (Err g) (inl memory) same leads = subst (HasCause job) (sym (same ∙ memory)) tt
+no_text job f (Err g) (inr name) same leads = subst (HasCause job) (sym (same ∙ name.0)) (λ m t d w. name.1 (leads m t d w))
+
+pub no_memory : {T : Type 0} (job : Job) (r : Result T JobFault) → IfErr r (λ f. f ≡ fault.Memory) → IfErr r (HasCause job)
+no_memory job (Ok x) said = tt
+no_memory job (Err f) said = subst (HasCause job) (sym said) tt
+
+-- the rows of the course are those of the job
+pub listing_is : {E : Type 0} (job : Job) (trusted : State) (c : Course) (r : Result Listing E)
+    → state_of job.state.now ≡ Ok trusted → c ≡ course_for job trusted
+    → IfOk r (λ l. EncodesCourse c l.status l.summary l.state.items l.rows.items l.names.items)
+    → IfOk r (λ l. IsListing job l.status l.summary l.state.items l.rows.items l.names.items)
+listing_is job trusted c (Err e) read is rows = tt
+listing_is job trusted c (Ok l) read is rows = record {
+  trusted = trusted;
+  read = read;
+  rows_are = subst (λ c. EncodesCourse c l.status l.summary l.state.items l.rows.items l.names.items) is rows;
+}
+
+-- the rows of the files that are needed are those of the job
+pub next_is : {E : Type 0} (job : Job) (trusted : State) (c : Course) (all : List Need) (there held : Names) (r : Result Missing E)
+    → state_of job.state.now ≡ Ok trusted → c ≡ course_for job trusted → all ≡ needs trusted.root.reading c there held
+    → there ≡ has_name (files_of job.metadata.now) → held ≡ has_name (givens_of job)
+    → IfOk r (λ m. EncodesNeeds c all m.status m.summary m.rows.items m.names.items)
+    → IfOk r (λ m. IsNext job m.status m.summary m.rows.items m.names.items)
+next_is job trusted c all there held (Err e) read is found in_files in_held rows = tt
+next_is job trusted c all there held (Ok m) read is found in_files in_held rows = record {
+  trusted = trusted;
+  read = read;
+  rows_are = subst (λ xs. EncodesNeeds (course_for job trusted) xs m.status m.summary m.rows.items m.names.items)
+      (found ∙ ap (λ c. needs trusted.root.reading c there held) is ∙ ap (λ f. needs trusted.root.reading (course_for job trusted) f held) in_files
+      ∙ ap (λ h. needs trusted.root.reading (course_for job trusted) (has_name (files_of job.metadata.now)) h) in_held)
+      (subst (λ c. EncodesNeeds c all m.status m.summary m.rows.items m.names.items) is rows);
+}

@@ -1,0 +1,186 @@
+-- An outcome and a course as rows of numbers, whose names are in one list of bytes.
+use Rattle.std.specs.Prelude.{◌≡◌, ℕ, ◌+◌, List, [], ◌∷◌, length, flat_map, replicate, Option, None, Some, option_and_then, is_some}
+use Rattle.std.specs.Option.{option_map_or, unwrap_or}
+use Rattle.meta.specs.declared.fault.Fault.{Fault}
+use Rattle.meta.specs.declared.fault.Fault.TheVariants as fault
+use Rattle.rolechain.specs.declared.end.Step.TheVariants as step
+use Rattle.rolechain.specs.declared.end.Step.{Step}
+use Rattle.deleg.specs.declared.found.Found.{Found}
+use Rattle.deleg.specs.declared.found.Found.TheVariants as found
+use Rattle.deleg.specs.declared.accepted.Search.{Search}
+use Rattle.cycle.specs.Workflow.{End, Ready, Stopped, Accepted, target_of}
+use Rattle.cycle.specs.declared.verdict.Verdict.{Verdict}
+use Rattle.cycle.specs.declared.verdict.Verdict.TheVariants.{Good, NotFound, LimitReached, RoleRefused, FileRefused, NotSearched}
+use Rattle.needs.specs.declared.need.Need.{Need}
+use Rattle.needs.specs.declared.need.Place.TheVariants as place
+use Rattle.needs.specs.declared.need.Place.{Place}
+use Rattle.embed.specs.declared.rows.ListedRow.{ListedRow}
+use Rattle.embed.specs.declared.rows.NeedRow.{NeedRow}
+use Rattle.embed.specs.declared.rows.RoleRow.{RoleRow}
+use Rattle.embed.specs.declared.rows.VerdictRow.{VerdictRow}
+
+-- # Numbers of faults and ends. None of them is 0.
+
+abbrev pub fault_number : Fault → ℕ
+fault_number fault.NotListed = 1
+fault_number fault.Missing = 2
+fault_number fault.TooLong = 3
+fault_number fault.LengthWrong = 4
+fault_number fault.HashWrong = 5
+fault_number fault.NoKnownHash = 6
+fault_number fault.Malformed = 7
+fault_number fault.Unsigned = 8
+fault_number fault.VersionWrong = 9
+fault_number fault.Rollback = 10
+fault_number fault.Expired = 11
+
+abbrev pub step_number : Step → ℕ
+step_number step.Root = 2
+step_number step.Timestamp = 3
+step_number step.Snapshot = 4
+step_number step.Targets = 5
+
+-- 1 is ready, else the step that stopped the cycle
+abbrev pub end_number : End → ℕ
+end_number Ready = 1
+end_number (Stopped step fault) = step_number step
+
+-- the fault that stopped the cycle, or 0
+abbrev pub end_fault : End → ℕ
+end_fault Ready = 0
+end_fault (Stopped step fault) = fault_number fault
+
+-- # Verdicts.
+
+abbrev pub kind_number : Verdict → ℕ
+kind_number (Good role length) = 1
+kind_number NotFound = 2
+kind_number LimitReached = 3
+kind_number (RoleRefused role fault) = 4
+kind_number (FileRefused fault) = 5
+kind_number NotSearched = 6
+
+-- the fault, if there is one, or 0
+abbrev pub verdict_fault : Verdict → ℕ
+verdict_fault (RoleRefused role fault) = fault_number fault
+verdict_fault (FileRefused fault) = fault_number fault
+verdict_fault _ = 0
+
+-- the length of an accepted file, or 0
+abbrev pub verdict_length : Verdict → ℕ
+verdict_length (Good role length) = length
+verdict_length _ = 0
+
+-- the role that lists the accepted file, or whose own file is refused; else no name
+abbrev pub verdict_role : Verdict → List ℕ
+verdict_role (Good role length) = role
+verdict_role (RoleRefused role fault) = role
+verdict_role _ = []
+
+-- a verdict whose role's name begins at `at` in the names
+abbrev pub verdict_row : ℕ → Verdict → VerdictRow
+verdict_row at v = record {
+  kind = kind_number v;
+  fault = verdict_fault v;
+  length = verdict_length v;
+  role_at = at;
+  role_len = length (verdict_role v);
+}
+
+-- one verdict after the other, and so their names
+abbrev pub verdict_rows : ℕ → List Verdict → List VerdictRow
+verdict_rows at [] = []
+verdict_rows at (v ∷ vs) = verdict_row at v ∷ verdict_rows (at + length (verdict_role v)) vs
+
+abbrev pub verdict_names : List Verdict → List ℕ
+verdict_names vs = flat_map verdict_role vs
+
+-- # Accepted roles.
+
+abbrev pub role_row : ℕ → Accepted → RoleRow
+role_row at a = record { version = a.version; name_at = at; name_len = length a.role }
+
+abbrev pub role_rows : ℕ → List Accepted → List RoleRow
+role_rows at [] = []
+role_rows at (a ∷ more) = role_row at a ∷ role_rows (at + length a.role) more
+
+abbrev pub role_names : List Accepted → List ℕ
+role_names all = flat_map (λ a. a.role) all
+
+-- # Searches, before any target file is read.
+
+abbrev pub found_kind : Found → ℕ
+found_kind (found.Listed role t visited) = 1
+found_kind found.NotFound = 2
+found_kind found.LimitReached = 3
+found_kind (found.RoleRefused role fault) = 4
+
+abbrev pub search_kind : Option Search → ℕ
+search_kind s = option_map_or (λ s. found_kind s.found) s 6
+
+abbrev pub found_fault : Found → ℕ
+found_fault (found.RoleRefused role fault) = fault_number fault
+found_fault _ = 0
+
+-- the fault, if there is one, or 0
+abbrev pub search_fault : Option Search → ℕ
+search_fault s = option_map_or (λ s. found_fault s.found) s 0
+
+abbrev pub found_role : Found → List ℕ
+found_role (found.Listed role t visited) = role
+found_role (found.RoleRefused role fault) = role
+found_role _ = []
+
+-- the role that lists the target, or whose file is refused; else no name
+abbrev pub search_role : Option Search → List ℕ
+search_role s = option_map_or (λ s. found_role s.found) s []
+
+abbrev pub listed_sha256 : Option Search → Option (List ℕ)
+listed_sha256 s = option_and_then (λ t. t.hashes.sha256) (target_of s)
+
+abbrev pub listed_sha512 : Option Search → Option (List ℕ)
+listed_sha512 s = option_and_then (λ t. t.hashes.sha512) (target_of s)
+
+-- a search whose role's name begins at `at` in the names; a digest that isn't listed is zeros
+abbrev pub listed_row : ℕ → Option Search → ListedRow
+listed_row at s = record {
+  kind = search_kind s;
+  fault = search_fault s;
+  length = option_map_or (λ t. t.length) (target_of s) 0;
+  role_at = at;
+  role_len = length (search_role s);
+  has_sha256 = is_some (listed_sha256 s);
+  has_sha512 = is_some (listed_sha512 s);
+  sha256 = unwrap_or (listed_sha256 s) (replicate 32 0);
+  sha512 = unwrap_or (listed_sha512 s) (replicate 64 0);
+}
+
+abbrev pub listed_rows : ℕ → List (Option Search) → List ListedRow
+listed_rows at [] = []
+listed_rows at (s ∷ more) = listed_row at s ∷ listed_rows (at + length (search_role s)) more
+
+abbrev pub listed_names : List (Option Search) → List ℕ
+listed_names all = flat_map search_role all
+
+-- # Files to fetch.
+
+abbrev pub place_number : Place → ℕ
+place_number place.Metadata = 1
+place_number place.Targets = 2
+
+-- a file whose name begins at `at` in the names
+abbrev pub need_row : ℕ → Need → NeedRow
+need_row at n = record {
+  place = place_number n.place;
+  optional = n.optional;
+  most = n.most;
+  name_at = at;
+  name_len = length n.name;
+}
+
+abbrev pub need_rows : ℕ → List Need → List NeedRow
+need_rows at [] = []
+need_rows at (n ∷ more) = need_row at n ∷ need_rows (at + length n.name) more
+
+abbrev pub need_names : List Need → List ℕ
+need_names all = flat_map (λ n. n.name) all

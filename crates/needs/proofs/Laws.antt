@@ -1,0 +1,175 @@
+-- What holds of the files that are listed.
+use Rattle.std.proofs.Common.{◌≡◌, ◌≢◌, ℕ, ◌+◌, Bool, true, false, not, ◌&&◌, ◌||◌, List, [], ◌∷◌, ◌++◌, codes, map, Option, Some, None, is_some, option_map, option_and_then, refl, sym, ap, ◌∙◌, subst, true≢false, if◌then◌else◌}
+use Rattle.std.specs.Bool.{⊤}
+use Rattle.std.specs.List.{All, AllByRecursion as ByRecursion, list_all, list_any}
+use Rattle.std.specs.Option.{option_map_or}
+use Rattle.std.specs.Prelude.{option_to_list}
+use Rattle.std.proofs.lemmas.Option.{none-some}
+use Rattle.std.proofs.lemmas.Bool.{and_from}
+use Rattle.std.proofs.lemmas.List.Elements.{All-from_recursion}
+use Rattle.std.proofs.lemmas.List.Folds.{list_all-append}
+use Rattle.meta.specs.Content.{root_name, Part}
+use Rattle.meta.specs.Metadata.{Root, Snapshot}
+use Rattle.meta.specs.declared.fault.Fault.{Fault}
+use Rattle.examine.specs.Checks.{Files, target_names}
+use Rattle.rolechain.specs.Advance.{State, advanced}
+use Rattle.rolechain.specs.declared.end.Step.TheVariants as step
+use Rattle.rolechain.specs.declared.end.Step.{Step}
+use Rattle.deleg.specs.declared.accepted.Search.{Search}
+use Rattle.deleg.specs.declared.found.Found.{Found}
+use Rattle.deleg.specs.declared.found.Found.TheVariants.{Listed, NotFound, LimitReached, RoleRefused}
+use Rattle.cycle.specs.Workflow.{Course, End, Ready, Request, Stopped, Target, course, searched, target_of}
+use Rattle.needs.specs.Laws.{AreAbsent, HasEnough, are_optional, has_file, is_none_of, is_one_there, is_short, is_short_end, is_short_found, names_at}
+use Rattle.needs.specs.Needs.{Names, Need, absent, each_once, end_need, file_need, first_of, found_need, is_missing, is_sought, metadata_needs, needs, next_root, role_below, role_need, root_need, search_need, step_need, target_need, target_needs}
+use Rattle.needs.specs.declared.need.Place.TheVariants as place
+use Rattle.needs.proofs.Lists.{Holds, holds-both, holds-list, holds-once, none-once, optional-none}
+use Rattle.needs.proofs.Refusing.{searched-tells}
+use Rattle.needs.proofs.Stopping.{IsGone, IsTold, advanced-tells}
+
+-- ---- a file that is told is gone
+
+-- what is told if something is short, and is nothing else
+told : (P : Need → Type 0) (files : Files) (short : Bool) (o : Option Need) → ((n : Need) → IsGone files n → P n) → (short ≡ true → IsTold files o) → (short ≡ false → o ≡ None) → Holds P o
+told P files true o p h none = let found = h refl in subst (Holds P) (sym found.1) (p found.0 found.2)
+told P files false o p h none = subst (Holds P) (sym (none refl)) tt
+
+no_end : (s : State) (e : End) → is_short_end e ≡ false → end_need s e ≡ None
+no_end s Ready h = refl
+no_end s (Stopped at fault) h = ap (λ b. if b then step_need s at else None) h
+
+no_found : (s : State) (found : Found) → is_short_found found ≡ false → found_need s found ≡ None
+no_found s (RoleRefused role fault) h = ap (λ b. if b then role_below s role else None) h
+no_found s (Listed role t visited) h = refl
+no_found s NotFound h = refl
+no_found s LimitReached h = refl
+
+no_search : (s : State) (o : Option Search) → is_short o ≡ false → search_need s o ≡ None
+no_search s None h = refl
+no_search s (Some x) h = no_found s x.found h
+
+module _ (P : Need → Type 0) (r : Request) (files : Files) (gone : (n : Need) → IsGone files n → P n) where
+  abbrev it : Course
+  it = course r files
+
+  holds-end : Holds P (end_need it.trusted it.end)
+  holds-end = told P files (is_short_end it.end) (end_need it.trusted it.end) gone (advanced-tells files r.moment r.trusted) (no_end it.trusted it.end)
+
+  holds-searches : (wanted : List (List ℕ)) → ByRecursion (Holds P) (map (search_need it.trusted) (map (searched files r.moment r.limit it.trusted it.end) wanted))
+  holds-searches [] = tt
+  holds-searches (path ∷ wanted) =
+      let o = searched files r.moment r.limit it.trusted it.end path in
+      (told P files (is_short o) (search_need it.trusted o) gone (searched-tells files r.moment path r.limit it.trusted it.end) (no_search it.trusted o), holds-searches wanted)
+
+  pub holds-metadata : ByRecursion P (metadata_needs it)
+  holds-metadata = holds-once P (end_need it.trusted it.end ∷ map (search_need it.trusted) it.searches) (holds-end, holds-searches r.wanted)
+
+-- ---- targets
+
+module _ (P : Need → Type 0) (there : Names) (consistent : Bool) (gone : (name : List ℕ) (most : ℕ) → there name ≡ false → P (absent place.Targets false name most)) where
+  holds-first : (names : List (List ℕ)) (most : ℕ) (b : Bool) → list_any there names ≡ b → Holds P (if b then None else option_map (λ name. absent place.Targets false name most) (first_of names))
+  holds-first names most true h = tt
+  holds-first [] most false h = tt
+  holds-first (name ∷ names) most false h = gone name most (neither (there name) (list_any there names) h)
+    where
+      neither : (a b : Bool) → (a || b) ≡ false → a ≡ false
+      neither true b h = absurd (true≢false h)
+      neither false b h = refl
+
+  holds-file : (o : Option Target) → Holds P (option_and_then (target_need there consistent) o)
+  holds-file None = tt
+  holds-file (Some t) = holds-first (target_names consistent t.path t.hashes.sha256 t.hashes.sha512) t.length _ refl
+
+  holds-files : (searches : List (Option Search)) → ByRecursion (Holds P) (map (file_need there consistent) searches)
+  holds-files [] = tt
+  holds-files (o ∷ searches) = (holds-file (target_of o), holds-files searches)
+
+  pub holds-targets : (searches : List (Option Search)) → ByRecursion P (each_once (map (file_need there consistent) searches))
+  holds-targets searches = holds-once P _ (holds-files searches)
+
+-- ---- the next root
+
+holds-root : (P : Need → Type 0) (there : Names) (old last : Root) → ((name : List ℕ) (most : ℕ) → there name ≡ false → P (absent place.Metadata true name most)) → Holds P (root_need there old last)
+holds-root P there old last h = if_not (is_sought old last) (there (root_name (last.header.version + 1))) (h (root_name (last.header.version + 1)) _)
+  where
+    if_not : {n : Need} (a b : Bool) → (b ≡ false → P n) → Holds P (if a && not b then Some n else None)
+    if_not true true h = tt
+    if_not true false h = h refl
+    if_not false b h = tt
+
+-- ---- the laws
+
+module _ (r : Request) (files : Files) (metadata targets : Names) (same : (name : List ℕ) → metadata name ≡ is_some (files name)) where
+  abbrev here : Course
+  here = course r files
+
+  abbrev listed : List Need
+  listed = needs r.trusted.root.reading here metadata targets
+
+  abbrev IsOut : Need → Type 0
+  IsOut n = names_at metadata targets n.place n.name ≡ false
+
+  gone-out : (n : Need) → IsGone files n → IsOut n
+  gone-out n g = ap (λ p. names_at metadata targets p n.name) g.place ∙ same n.name ∙ ap is_some g.absent
+
+  -- none of them is there
+  pub are_absent : AreAbsent metadata targets listed
+  are_absent = All-from_recursion IsOut listed
+      (holds-both IsOut (next_root r.trusted.root.reading here metadata) _
+      (holds-list IsOut _ (holds-root IsOut metadata r.trusted.root.reading here.trusted.root.reading (λ name most h. h)))
+      (holds-both IsOut (metadata_needs here) (target_needs here targets)
+      (holds-metadata IsOut r files gone-out)
+      (holds-targets IsOut targets here.trusted.root.reading.consistent (λ name most h. h) here.searches)))
+
+  -- ---- if all of them are optional
+
+  not_none : {P : Type 0} (o : Option Need) → IsTold files o → o ≡ None → P
+  not_none o t is = absurd (none-some t.0 (sym is ∙ t.1))
+
+  -- what isn't told isn't short
+  not_short : (b : Bool) (o : Option Need) → (b ≡ true → IsTold files o) → o ≡ None → b ≡ false
+  not_short true o h is = not_none o (h refl) is
+  not_short false o h is = refl
+
+  none_short : (wanted : List (List ℕ)) → ByRecursion (λ o. o ≡ None) (map (search_need here.trusted) (map (searched files r.moment r.limit here.trusted here.end) wanted))
+      → list_all (λ s. not (is_short s)) (map (searched files r.moment r.limit here.trusted here.end) wanted) ≡ true
+  none_short [] h = refl
+  none_short (path ∷ wanted) h =
+      let o = searched files r.moment r.limit here.trusted here.end path in
+      and_from (not (is_short o)) _ (ap not (not_short (is_short o) (search_need here.trusted o) (searched-tells files r.moment path r.limit here.trusted here.end) h.0)) (none_short wanted h.1)
+
+  one_there : (names : List (List ℕ)) (most : ℕ) (b : Bool) → list_any targets names ≡ b
+      → (if b then None else option_map (λ name. absent place.Targets false name most) (first_of names)) ≡ None → is_one_there targets names ≡ true
+  one_there [] most b is h = refl
+  one_there (name ∷ names) most true is h = is
+  one_there (name ∷ names) most false is h = absurd (none-some (absent place.Targets false name most) (sym h))
+
+  file_there : (consistent : Bool) (o : Option Target) → option_and_then (target_need targets consistent) o ≡ None
+      → option_map_or (λ t. is_one_there targets (target_names consistent t.path t.hashes.sha256 t.hashes.sha512)) o true ≡ true
+  file_there consistent None h = refl
+  file_there consistent (Some t) h = one_there (target_names consistent t.path t.hashes.sha256 t.hashes.sha512) t.length _ refl h
+
+  files_there : (consistent : Bool) (searches : List (Option Search)) → ByRecursion (λ o. o ≡ None) (map (file_need targets consistent) searches) → list_all (has_file targets consistent) searches ≡ true
+  files_there consistent [] h = refl
+  files_there consistent (o ∷ searches) h = and_from (has_file targets consistent o) _ (file_there consistent (target_of o) h.0) (files_there consistent searches h.1)
+
+  both_true : (a b : Bool) → (a && b) ≡ true → (a ≡ true) × (b ≡ true)
+  both_true true b h = (refl, h)
+  both_true false b h = absurd (true≢false (sym h))
+
+  split : (all more : List Need) → are_optional (all ++ more) ≡ true → (are_optional all ≡ true) × (are_optional more ≡ true)
+  split all more h = both_true (are_optional all) (are_optional more) (sym (list_all-append (λ n. n.optional) all more) ∙ h)
+
+  -- the workflow had all that it looked up
+  pub has_enough : are_optional listed ≡ true → HasEnough targets here
+  has_enough h =
+      let IsNeeded = λ (n : Need). n.optional ≡ false in
+      let rest = (split (next_root r.trusted.root.reading here metadata) _ h).1 in
+      let parts = split (metadata_needs here) (target_needs here targets) rest in
+      let consistent = here.trusted.root.reading.consistent in
+      let files_none = optional-none (target_needs here targets) parts.1 (holds-targets IsNeeded targets consistent (λ name most h. refl) here.searches) in
+      let others_none = none-once (end_need here.trusted here.end ∷ map (search_need here.trusted) here.searches) (optional-none (metadata_needs here) parts.0 (holds-metadata IsNeeded r files (λ n g. g.needed))) in
+      record {
+        end = not_short (is_short_end here.end) (end_need here.trusted here.end) (advanced-tells files r.moment r.trusted) others_none.0;
+        roles = none_short r.wanted others_none.1;
+        targets = files_there consistent here.searches (none-once (map (file_need targets consistent) here.searches) files_none);
+      }

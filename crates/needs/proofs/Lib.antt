@@ -1,0 +1,5 @@
+pub mod Lists
+pub mod Missing
+pub mod Stopping
+pub mod Refusing
+pub mod Laws

@@ -1,0 +1,2 @@
+pub use Rattle.embed.specs.Outcomes
+pub mod Answers

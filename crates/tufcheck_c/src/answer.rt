@@ -1,0 +1,81 @@
+//! The verification of a job.
+
+ghost use Rattle.std.specs.Prelude.{◌≡◌, ◌≤◌, ◌⊎◌, false, pos};
+ghost use Rattle.embed.specs.declared.fault.JobFault.{JobFault};
+ghost use Rattle.tufcheck_c.specs.Answers as spec;
+
+use crate::room::{NO_ROOM, number_of, put};
+use embed::{Job, JobFault, RoleRow, Summary, VerdictRow, Verification, verify};
+use std::alloc::Global;
+
+/// The caller's rooms for the outcome, and the summary.
+#[repr(C)]
+pub struct Answer<'a> {
+    /// Room for the text of the new state.
+    pub state: &'a mut [u8],
+    /// Room for a row for each wanted path.
+    pub verdicts: &'a mut [VerdictRow],
+    /// Room for a row for each accepted role.
+    pub roles: &'a mut [RoleRow],
+    /// Room for the names that the rows cite.
+    pub names: &'a mut [u8],
+    /// How the cycle ended, and how much is in each room.
+    pub summary: Summary,
+}
+
+/// Verifies the job: runs one cycle of the client workflow on its files, and writes the outcome to
+/// `answer`. Returns 0 if the cycle is ready and all wanted targets are accepted, 1 if it is ready
+/// and some target is refused, 2 if it stopped, or the number of an error: -1 out of memory, -2 not
+/// a state, -3 a name or path that is not UTF-8, -4 a moment past the year 9999, -5 a limit that is
+/// not 1 to 256, -6 too little room; then the summary counts how much is needed. On any error the
+/// rooms are unchanged.
+#[unsafe(no_mangle)]
+pub extern "C" fn tufcheck_verify(alloc: Global, job: &Job, answer: &mut Answer) -> i32
+    ensures verified { spec.IfStatus result (λ status. spec.IsAnswered job.now status answer.new) }
+    ensures errors { (f : JobFault) → result ≡ spec.number_of f → spec.HasCause job.now f }
+    ensures room_needed { result ≡ spec.no_room → spec.IsShort job.now answer.new }
+    ensures unchanged_on_error { spec.IfError result (spec.KeepsRooms answer.old answer.new) }
+    ensures same_rooms { spec.SameRooms answer.old answer.new }
+    ensures status_range { spec.IsResult 2 result }
+{
+    match verify(alloc, job) {
+        Ok(verification) => write(answer, &verification),
+        Err(fault) => number_of(fault),
+    }
+}
+
+/// Writes the verification to the rooms, if they are large enough.
+fn write(answer: &mut Answer, verification: &Verification) -> i32
+    requires counts { spec.AreCounted verification.now.summary verification.now.state.items
+        verification.now.verdicts.items verification.now.roles.items
+        verification.now.names.items }
+    requires range { verification.now.status ≤ 2 }
+    ensures written { spec.IfStatus result
+        (λ status. spec.IsWritten verification.now status answer.new) }
+    ensures summary { answer.new.summary ≡ verification.now.summary }
+    ensures cases { (result ≡ pos verification.now.status)
+        ⊎ ((result ≡ spec.no_room) × (spec.has_room answer.new ≡ false)) }
+    ensures unchanged { spec.IfError result (spec.KeepsRooms answer.old answer.new) }
+    ensures same_rooms { spec.SameRooms answer.old answer.new }
+{
+    answer.summary = verification.summary;
+    if !has_room(answer) {
+        return NO_ROOM;
+    }
+    put(answer.state, verification.state.as_slice());
+    put(answer.verdicts, verification.verdicts.as_slice());
+    put(answer.roles, verification.roles.as_slice());
+    put(answer.names, verification.names.as_slice());
+    i32::from(verification.status)
+}
+
+/// Returns whether there is room for as much as the summary counts.
+fn has_room(answer: &Answer) -> bool
+    ensures { result ≡ spec.has_room answer.now }
+{
+    let summary = &answer.summary;
+    summary.state_len <= answer.state.len()
+        && summary.verdict_count <= answer.verdicts.len()
+        && summary.role_count <= answer.roles.len()
+        && summary.name_len <= answer.names.len()
+}

@@ -1,0 +1,17 @@
+//! The C library that `tufcheck.h` declares. Each export calls a function of `embed` and states its
+//! clauses again, on the caller's memory. No pointer may be null, and no room may overlap another
+//! one or the input.
+#![tactic(auto)]
+
+mod answer;
+mod first;
+mod listed;
+mod needs;
+mod room;
+mod version;
+
+pub use answer::{Answer, tufcheck_verify};
+pub use first::tufcheck_first;
+pub use listed::{Listed, tufcheck_list};
+pub use needs::{Needs, tufcheck_next};
+pub use version::tufcheck_version;

@@ -1,0 +1,68 @@
+//! The files that a caller has to fetch next.
+
+ghost use Rattle.std.specs.Prelude.{◌≡◌, ◌≤◌, ◌⊎◌, false, pos};
+ghost use Rattle.embed.specs.declared.fault.JobFault.{JobFault};
+ghost use Rattle.tufcheck_c.specs.Answers as spec;
+
+use crate::room::{NO_ROOM, number_of, put};
+use embed::{Job, JobFault, Missing, NeedRow, Summary, next};
+use std::alloc::Global;
+
+/// The caller's rooms for the files to fetch, and the summary.
+#[repr(C)]
+pub struct Needs<'a> {
+    /// Room for a row for each file.
+    pub rows: &'a mut [NeedRow],
+    /// Room for the names that the rows cite.
+    pub names: &'a mut [u8],
+    /// How the cycle ended, and how much is in each room.
+    pub summary: Summary,
+}
+
+/// Does the job as [`tufcheck_verify`](crate::tufcheck_verify) does, and writes the files that it
+/// looked up and found absent to `needs`, each with the maximum number of its bytes. Returns 1 if
+/// some file isn't optional, else 2 if the cycle stopped, else 0, or the number of an error, as
+/// there. On any error the rooms are unchanged.
+#[unsafe(no_mangle)]
+pub extern "C" fn tufcheck_next(alloc: Global, job: &Job, needs: &mut Needs) -> i32
+    ensures next { spec.IfStatus result (λ status. spec.IsNeeded job.now status needs.new) }
+    ensures errors { (f : JobFault) → result ≡ spec.number_of f → spec.HasCause job.now f }
+    ensures room_needed { result ≡ spec.no_room → spec.IsNeedsShort job.now needs.new }
+    ensures unchanged_on_error { spec.IfError result (spec.KeepsNeeds needs.old needs.new) }
+    ensures same_rooms { spec.SameNeeds needs.old needs.new }
+    ensures status_range { spec.IsResult 2 result }
+{
+    match next(alloc, job) {
+        Ok(missing) => write(needs, &missing),
+        Err(fault) => number_of(fault),
+    }
+}
+
+/// Writes the files to the rooms, if they are large enough.
+fn write(needs: &mut Needs, missing: &Missing) -> i32
+    requires counts { spec.AreNeeds missing.now.summary missing.now.rows.items
+        missing.now.names.items }
+    requires range { missing.now.status ≤ 2 }
+    ensures written { spec.IfStatus result (λ status. spec.AreWritten missing.now status needs.new) }
+    ensures summary { needs.new.summary ≡ missing.now.summary }
+    ensures cases { (result ≡ pos missing.now.status)
+        ⊎ ((result ≡ spec.no_room) × (spec.has_needs_room needs.new ≡ false)) }
+    ensures unchanged { spec.IfError result (spec.KeepsNeeds needs.old needs.new) }
+    ensures same_rooms { spec.SameNeeds needs.old needs.new }
+{
+    needs.summary = missing.summary;
+    if !has_room(needs) {
+        return NO_ROOM;
+    }
+    put(needs.rows, missing.rows.as_slice());
+    put(needs.names, missing.names.as_slice());
+    i32::from(missing.status)
+}
+
+/// Returns whether there is room for as much as the summary counts.
+fn has_room(needs: &Needs) -> bool
+    ensures { result ≡ spec.has_needs_room needs.now }
+{
+    let summary = &needs.summary;
+    summary.verdict_count <= needs.rows.len() && summary.name_len <= needs.names.len()
+}
