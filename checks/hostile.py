@@ -13,7 +13,8 @@ KEY = costly.KEY
 class Mirror(NamedTuple):
     """The paths that may be wanted, and what the workflow does with them: the step at which it stops as unsigned, if
     any, and else the roles on the way to a path, the last of which lists it, the length of its file, and the fault for
-    which all of them are refused, if any. If there is a script, `tufcheck make` makes the files from it."""
+    which all of them are refused, if any. If there is a script, `tufcheck make` makes the files from it. Of a whole mirror
+    every file is wanted, and the paths are all, in byte order."""
 
     paths: list
     stop: str = ""
@@ -21,6 +22,7 @@ class Mirror(NamedTuple):
     script: str = ""
     length: Callable = len
     fault: str = ""
+    whole: bool = False
 
 
 def write(name, content):

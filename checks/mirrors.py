@@ -104,7 +104,7 @@ def prepare(program, make, sizes, counts):
     write("due.status", b"2" if mirror.stop else b"1" if mirror.fault else b"0")
     for count in counts:
         paths = mirror.paths[:: len(mirror.paths) // count][:count]
-        write(f"wanted.{count}", "\n".join(paths).encode())
+        write(f"wanted.{count}", "\n".join(["--every"] if mirror.whole else paths).encode())
         write(f"due.lines.{count}", lines_of(mirror, paths).encode())
 
 

@@ -7,10 +7,10 @@
 The programs, the rounds and the seconds after which a run is killed are those of `checks/mirrors.py`, and so are the
 columns and what is checked of each run: its lines, its status and the state that it stores. If one isn't what the
 workflow requires, it exits with status 1. The files are made in a folder below FOLDER, or else below the one for temporary
-files, and are removed after their case. At most 3.2 GB of them are there at once, if the file system keeps no room for
-holes. `--scale N` divides the sizes of the large files, and the number of targets of `many`, by N.
+files, and are removed after their case. At most 10 GB of them are there at once, if the file system keeps no room for
+holes. `--scale N` divides the sizes of the large files, and the numbers of targets of `many`, `mirror` and `holes`, by N.
 
-The files of a case are written before its runs, so their bytes are read from memory where 3.2 GB of it are free. A run
+The files of a case are written before its runs, so their bytes are read from memory where as much of it is free. A run
 itself may take 8,000,000,000 bytes. If the program of `--before` wants more, `memory` is printed instead of its seconds.
 
 All is signed, and by 0 and by 4 workers each:
@@ -19,14 +19,16 @@ All is signed, and by 0 and by 4 workers each:
   twenty     twenty wanted files of 150,000,000 bytes
   files      64 wanted files of 50,000,000 bytes
   unwanted   a wanted file of 3 bytes, and one of 20,000,000,000 bytes that is listed and that nobody wants
+  mirror     every file of a mirror, with `--every`: 20,000 of 500,000 bytes
+  holes      the same with files that have only holes
   many       20,000 targets of 1,000 bytes in 64 hash bins, of which one is wanted, and all
   longer     a wanted file that is listed with 3 bytes and has 20,000,000,000, so it is refused as `LengthWrong`
   metadata   a wanted file of 3 bytes, and in the folder of metadata one of 5,000,000,000 bytes that nobody wants: once
              with a name that ends in `.json`, and once with another
 
-The bytes of the files of `one`, `twenty` and `files` are drawn by a seed, and their digests worked out by Python. The other
-large files have only holes. In each round of these three, after the programs, `sha256sum` reads all their files,
-and must print these digests. The last two columns are the median of its seconds, and how many times as long the program
+The bytes of the files of `one`, `twenty`, `files` and `mirror` are drawn by a seed, and their digests worked out by Python.
+The other large files have only holes. In each round of these four and of `holes`, after the programs, `sha256sum` reads
+all their files, and must print these digests. The last two columns are the median of its seconds, and how many times as long the program
 took.
 
 At the end it prints of each of these, if its cases were run, whether it holds. Sometimes that can't be decided: the
@@ -76,13 +78,28 @@ def write_drawn(path, size):
     return {"hashes": {"sha256": digest.hexdigest()}, "length": size}
 
 
-def drawn(count, size):
+def mirrored(write, paths, size, **more):
     """Targets of that many bytes, and the expected lines of `sha256sum`."""
-    listed = {path: write_drawn(path, size) for path in hostile.numbered(count)}
+    listed = {path: write(path, size) for path in paths}
     hostile.write_signed(listed)
     sums = (f"{it['hashes']['sha256']}  targets/{path}\n" for path, it in listed.items())
     hostile.write("due.sums", "".join(sums).encode())
-    return hostile.Mirror(list(listed), length=lambda path: size)
+    return hostile.Mirror(list(listed), length=lambda path: size, **more)
+
+
+def drawn(count, size):
+    return mirrored(write_drawn, hostile.numbered(count), size)
+
+
+def whole(write, count, size):
+    """A mirror of which every file is wanted."""
+    return mirrored(write, sorted(hostile.numbered(count)), size, whole=True)
+
+
+def write_zeros(path, size):
+    """Writes a target of that many zeros that takes no room. Returns what lists the target."""
+    hostile.write_holes(f"targets/{path}", size)
+    return {"hashes": {"sha256": hashlib.sha256(bytes(size)).hexdigest()}, "length": size}
 
 
 def small(**others):
@@ -120,6 +137,8 @@ def cases(scale):
         "one": [("first.script", first, (), (1,)), ("one", drawn, (1, size(3_000_000_000)), (1,))],
         "twenty": [("twenty", drawn, (20, size(150_000_000)), (20,))],
         "files": [("files", drawn, (64, size(50_000_000)), (64,))],
+        "mirror": [("mirror", whole, (write_drawn, targets, 500_000), (targets,))],
+        "holes": [("holes", whole, (write_zeros, targets, 500_000), (targets,))],
         "unwanted": [("unwanted", unwanted, (size(20_000_000_000),), (1,))],
         "many": [("many", many, (targets, 6, 1_000), (1, targets))],
         "longer": [("longer", longer, (size(20_000_000_000),), (1,))],

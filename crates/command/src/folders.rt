@@ -5,7 +5,7 @@ ghost use Rattle.command.specs.Done.{IsEveryVerifiedOf, IsReplayedOf, IsVerified
 ghost use Rattle.command.specs.Done.{IsCauseOfReplay, IsCauseOfVerify};
 
 use crate::runtime::Runtime;
-use crate::subcommand::Paths;
+use crate::subcommand::FolderPaths;
 use failure::Failure;
 use folder::{Depth, Disk, path_below};
 use std::alloc::{AllocError, Global};
@@ -21,7 +21,7 @@ use update::{Folders, Host, Terms};
 pub fn verify_in<T: Threads + Wait + Sync, W: Write>(
     run: &Runtime<'_, T>,
     terms: &Terms<'_>,
-    folders: Paths<'_>,
+    folders: FolderPaths<'_>,
     out: W,
 ) -> (Result<u8, Failure>, W)
     ensures known { IfOk result.0 (λ status. status ≤ 2) }
@@ -49,7 +49,7 @@ pub fn verify_in<T: Threads + Wait + Sync, W: Write>(
 pub fn verify_every_in<T: Threads + Wait + Sync, W: Write>(
     run: &Runtime<'_, T>,
     terms: &Terms<'_>,
-    folders: Paths<'_>,
+    folders: FolderPaths<'_>,
     out: W,
 ) -> (Result<u8, Failure>, W)
     ensures known { IfOk result.0 (λ status. status ≤ 2) }
@@ -76,7 +76,7 @@ pub fn verify_every_in<T: Threads + Wait + Sync, W: Write>(
 fn two_folders<'a, R: Files>(
     rt: &'a R,
     alloc: Global,
-    folders: Paths<'_>,
+    folders: FolderPaths<'_>,
 ) -> Result<Folders<Disk<'a, R>, Disk<'a, R>>, AllocError> {
     let metadata = String::from_str(alloc, folders.metadata)?;
     let targets = String::from_str(alloc, folders.targets)?;

@@ -25,4 +25,4 @@ pub use dispatch::command;
 pub use process::run;
 pub use runtime::Runtime;
 pub use sample::sample;
-pub use subcommand::{Paths, Subcommand};
+pub use subcommand::{FolderPaths, Subcommand};

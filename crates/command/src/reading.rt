@@ -1,7 +1,7 @@
 //! Subcommands, read from the command line.
 
 use crate::listed::push_listed;
-use crate::subcommand::{Paths, Subcommand};
+use crate::subcommand::{FolderPaths, Subcommand};
 use crate::terms::{all_of, number, terms, word};
 use clap::ArgMatches;
 use failure::Failure;
@@ -64,7 +64,7 @@ fn verify_of<'a>(
     words: &ArgMatches<'a>,
 ) -> Result<Subcommand<'a>, Failure> {
     let terms = all_terms(rt, alloc, words)?;
-    let folders = Paths {
+    let folders = FolderPaths {
         metadata: word(words, "metadata")?,
         targets: word(words, "targets")?,
     };

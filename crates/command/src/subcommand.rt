@@ -4,7 +4,7 @@ use update::Terms;
 
 /// The paths of a repository's two folders.
 #[derive(Clone, Copy)]
-pub struct Paths<'a> {
+pub struct FolderPaths<'a> {
     /// The folder of metadata files.
     pub metadata: &'a str,
     /// The folder of target files.
@@ -26,14 +26,14 @@ pub enum Subcommand<'a> {
         /// What the arguments name, with the paths that a file lists.
         terms: Terms<'a>,
         /// The folders.
-        folders: Paths<'a>,
+        folders: FolderPaths<'a>,
     },
     /// Verifies every file of the folder of target files, by the paths of their names.
     VerifyEvery {
         /// What the arguments name, without wanted paths.
         terms: Terms<'a>,
         /// The folders.
-        folders: Paths<'a>,
+        folders: FolderPaths<'a>,
     },
     /// Verifies repositories, one after another.
     Replay {
