@@ -16,7 +16,8 @@
 #      of 256 KB the calls return what they must (library/stress.c); and how much of a stack nested JSON takes.
 #   6. valgrind finds nothing in 3 (C) and in 5.
 #
-# The status is 1 if something is not as it must be. With 1,000 histories it takes five minutes on four cores.
+# The status is 1 if something is not as it must be. Most of its time is that of the histories, of which each takes a few
+# times as long as in second.py.
 set -u
 export LC_ALL=C
 count=${1:-1000}

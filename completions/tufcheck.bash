@@ -3,20 +3,22 @@ _tufcheck() {
     local word=${COMP_WORDS[COMP_CWORD]} before=${COMP_WORDS[COMP_CWORD - 1]}
     case $before in
     --state | --out | --paths-from) mapfile -t COMPREPLY < <(compgen -f -- "$word"); return ;;
-    --metadata | --targets) mapfile -t COMPREPLY < <(compgen -d -- "$word"); return ;;
+    --metadata | --targets | --into) mapfile -t COMPREPLY < <(compgen -d -- "$word"); return ;;
     --now | --before | --limit | --workers | --keep) return ;;
+    --only) mapfile -t COMPREPLY < <(compgen -W "metadata targets" -- "$word"); return ;;
     esac
     if ((COMP_CWORD == 1)); then
-        mapfile -t COMPREPLY < <(compgen -W "init verify replay show make help --help -h --version -V" -- "$word")
+        mapfile -t COMPREPLY < <(compgen -W "init verify replay next show make help --help -h --version -V" -- "$word")
         return
     fi
     case ${COMP_WORDS[1]} in
     init) mapfile -t COMPREPLY < <(compgen -W "--out --help -h" -f -- "$word") ;;
-    verify) mapfile -t COMPREPLY < <(compgen -W "--state --metadata --targets --now --limit --workers --paths-from --null --every --out --help -h" -- "$word") ;;
+    verify) mapfile -t COMPREPLY < <(compgen -W "--state --metadata --targets --now --limit --workers --paths-from --null --every --into --out --help -h" -- "$word") ;;
     replay) mapfile -t COMPREPLY < <(compgen -W "--state --now --limit --workers --keep --paths-from --null --out --help -h" -d -- "$word") ;;
+    next) mapfile -t COMPREPLY < <(compgen -W "--state --metadata --targets --now --limit --paths-from --null --only --help -h" -- "$word") ;;
     show) mapfile -t COMPREPLY < <(compgen -W "--before --help -h" -f -- "$word") ;;
     make) mapfile -t COMPREPLY < <(compgen -W "--help -h" -f -- "$word") ;;
-    help) mapfile -t COMPREPLY < <(compgen -W "init verify replay show make" -- "$word") ;;
+    help) mapfile -t COMPREPLY < <(compgen -W "init verify replay next show make" -- "$word") ;;
     esac
 }
 complete -o filenames -F _tufcheck tufcheck

@@ -237,15 +237,15 @@ class Job:
             if status is not None:
                 break
             rooms = _Rooms.of(answer.summary)
-        told, text = answer.summary, names.raw
+        found, text = answer.summary, names.raw
         return Outcome(
-            status, End(told.end), _fault(told.fault), told.root_version,
-            state.raw[: told.state_len],
+            status, End(found.end), _fault(found.fault), found.root_version,
+            state.raw[: found.state_len],
             {path: Verdict(Kind(row.kind), _fault(row.fault), row.length,
                            _cut(text, row.role_at, row.role_len))
              for path, row in zip(self.wanted, verdicts)},
             {_cut(text, row.name_at, row.name_len): row.version
-             for row in roles[: told.role_count]})
+             for row in roles[: found.role_count]})
 
     def list(self) -> Listing:
         """Returns what roles list of the wanted paths, without looking at target files. Raises what
@@ -259,10 +259,10 @@ class Job:
             if status is not None:
                 break
             rooms = _Rooms.of(listing.summary)
-        told, text = listing.summary, names.raw
+        found, text = listing.summary, names.raw
         return Listing(
-            status, End(told.end), _fault(told.fault), told.root_version,
-            state.raw[: told.state_len],
+            status, End(found.end), _fault(found.fault), found.root_version,
+            state.raw[: found.state_len],
             {path: Listed(Kind(row.kind), _fault(row.fault), row.length,
                           _cut(text, row.role_at, row.role_len),
                           bytes(row.sha256) if row.has_sha256 else None,
@@ -279,12 +279,12 @@ class Job:
             if status is not None:
                 break
             rooms = _Rooms.of(needs.summary)
-        told, text = needs.summary, names.raw
+        found, text = needs.summary, names.raw
         return Needs(
-            status, End(told.end), _fault(told.fault), told.root_version,
+            status, End(found.end), _fault(found.fault), found.root_version,
             [Need(Place(row.place), _cut(text, row.name_at, row.name_len), row.most,
                   bool(row.optional))
-             for row in rows[: told.verdict_count]])
+             for row in rows[: found.verdict_count]])
 
     def _state_room(self) -> int:
         # A state has files of the job in hexadecimal, or those of the state before.

@@ -3,7 +3,8 @@
 
   compare.py PROGRAM LINES COUNT [SEED]
 
-The histories are those of second.py: three states each, most of them damaged. TUFCHECK_LIBRARY names the library, and
+The histories are those of second.py: three states each, most of them damaged. Often the paths that are accepted are the
+wanted ones, so that some repositories are good. TUFCHECK_LIBRARY names the library, and
 PYTHONPATH has its module and second.py; LINES is the program that library.sh compiles of lines.c. The lines, the status
 and the new state must be the same, and so must be
 
@@ -120,6 +121,10 @@ def lived(seed):
             second.write(f"{folder}/targets", history.targets)
             with open(f"{folder}/state", "wb") as file:
                 file.write(state)
+            every = tufcheck.Job(state, second.PATHS, SECONDS, metadata, history.targets, limit=limit).verify()
+            accepted = [path for path, row in every.verdicts.items() if row]
+            if accepted and history.chance(0.5):
+                wanted = accepted
             case = folder, state, metadata, history.targets, wanted, limit, history.draw
             differs, outcome = compared(case)
             if differs:

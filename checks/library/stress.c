@@ -13,8 +13,9 @@ void *__real_malloc(size_t);
 void *__real_realloc(void *, size_t);
 void __real_free(void *);
 
-static _Thread_local int counting, refused_at, calls, live;
-static _Thread_local size_t most, held;
+/* Volatile, since the compiler assumes that malloc reads and writes no variable of this file. */
+static _Thread_local volatile int counting, refused_at, calls, live;
+static _Thread_local volatile size_t most, held;
 
 void *__wrap_malloc(size_t size)
 {

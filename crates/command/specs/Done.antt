@@ -3,15 +3,18 @@ use Rattle.std.specs.Bool.{⊤}
 use Rattle.std.specs.Prelude.{◌≡◌, ◌⊎◌, ℕ, List, true, Option, length, option_map, [], ◌∷◌}
 use Rattle.failure.specs.declared.failure.Failure.{Failure}
 use Rattle.update.specs.Causes.{IsCauseOfFirst, IsCauseToReplay, IsCauseToVerify}
+use Rattle.update.specs.Copies.{IsCauseToVerifyInto, IsEveryVerifiedInto, IsVerifiedInto}
 use Rattle.update.specs.Cycles.{IsReplayed}
 use Rattle.update.specs.Every.{IsEveryVerified}
+use Rattle.update.specs.Fetching.{IsCauseOfNext, IsNext}
+use Rattle.update.specs.declared.fetching.Wants.{Wants}
 use Rattle.update.specs.First.{IsRefused, IsTrusted}
 use Rattle.update.specs.Runs.{IsVerified}
 use Rattle.update.specs.Shown.{IsCauseToShow, IsShown}
 use Rattle.update.specs.World.{Mirror, World}
 use Rattle.update.specs.declared.start.Terms.{Terms}
 use Rattle.command.specs.declared.subcommand.Subcommand.{Subcommand}
-use Rattle.command.specs.declared.subcommand.Subcommand.TheVariants.{Init, Verify, VerifyEvery, Replay, Show, Make}
+use Rattle.command.specs.declared.subcommand.Subcommand.TheVariants.{Init, Verify, VerifyEvery, VerifyInto, VerifyEveryInto, Replay, Next, Show, Make}
 
 -- # What a run works on.
 
@@ -57,10 +60,24 @@ abbrev pub IsEveryVerifiedOf : Terms → Option (List ℕ) → Option (List ℕ)
 IsEveryVerifiedOf terms old new status =
     OfOne (λ ms. IsEveryVerified terms (system_with ms old) (system_with ms new) status)
 
+-- the repository is verified, and copies of its good targets are stored in the folder
+abbrev pub IsVerifiedIntoOf : Terms → Option (List ℕ) → Option (List ℕ) → ℕ → Type 0
+IsVerifiedIntoOf terms old new status = OfOne (λ ms. IsVerifiedInto terms (system_with ms old)
+    (system_with ms new) (λ _ _. true) (λ _ _. true) status)
+
+abbrev pub IsEveryVerifiedIntoOf : Terms → Option (List ℕ) → Option (List ℕ) → ℕ → Type 0
+IsEveryVerifiedIntoOf terms old new status = OfOne (λ ms. IsEveryVerifiedInto terms
+    (system_with ms old) (system_with ms new) (λ _ _. true) (λ _ _. true) status)
+
 -- so many repositories are verified, one after another
 abbrev pub IsReplayedOf : Terms → ℕ → Option (List ℕ) → Option (List ℕ) → ℕ → Type 0
 IsReplayedOf terms count old new status =
     OfEach count (λ ms. IsReplayed terms (system_with ms old) (system_with ms new) status)
+
+-- the files that the repository lacks are listed, with status 0
+abbrev pub IsNextOf : Wants → Option (List ℕ) → Option (List ℕ) → ℕ → Type 0
+IsNextOf wants old new status =
+    (status ≡ 0) × OfOne (λ ms. IsNext wants (system_with ms old) (system_with ms new))
 
 -- what the subcommand does, by its run's own definition
 abbrev pub IsDone : Subcommand → Option (List ℕ) → Option (List ℕ) → ℕ → Type 0
@@ -68,8 +85,12 @@ IsDone (Init root state) old new status =
     IsFirst root.now state.now (system_with [] old) (system_with [] new) status
 IsDone (Verify terms folders) old new status = IsVerifiedOf terms old new status
 IsDone (VerifyEvery terms folders) old new status = IsEveryVerifiedOf terms old new status
+IsDone (VerifyInto terms folders into) old new status = IsVerifiedIntoOf terms old new status
+IsDone (VerifyEveryInto terms folders into) old new status =
+    IsEveryVerifiedIntoOf terms old new status
 IsDone (Replay terms keep repositories) old new status =
     IsReplayedOf terms (length repositories.items) old new status
+IsDone (Next wants folders) old new status = IsNextOf wants old new status
 IsDone (Show state before) old new status = IsShown state.now (option_map (λ t. t.now) before)
     (system_with [] old) (system_with [] new) status
 IsDone (Make script folder) old new status = (status ≡ 0) × (new ≡ old)
@@ -86,16 +107,27 @@ abbrev pub IsCauseOfVerify : Terms → Option (List ℕ) → Failure → Type 0
 IsCauseOfVerify terms old f =
     OfBoth (λ ms ns. IsCauseToVerify terms (system_with ms old) (system_with ns old) f)
 
+abbrev pub IsCauseOfVerifyInto : Terms → Option (List ℕ) → Failure → Type 0
+IsCauseOfVerifyInto terms old f =
+    OfBoth (λ ms ns. IsCauseToVerifyInto terms (system_with ms old) (system_with ns old) f)
+
 abbrev pub IsCauseOfReplay : Terms → ℕ → Option (List ℕ) → Failure → Type 0
 IsCauseOfReplay terms keep old f =
     OfBoth (λ ms ns. IsCauseToReplay terms keep (system_with ms old) (system_with ns old) f)
+
+abbrev pub IsCauseOfFetching : Wants → Option (List ℕ) → Failure → Type 0
+IsCauseOfFetching wants old f =
+    OfBoth (λ ms ns. IsCauseOfNext wants (system_with ms old) (system_with ns old) f)
 
 -- the cause by the run's own definition; of `make` none is known
 abbrev pub IsCause : Subcommand → Option (List ℕ) → Failure → Type 0
 IsCause (Init root state) old f = IsCauseOfFirst root.now (system_with [] old) f
 IsCause (Verify terms folders) old f = IsCauseOfVerify terms old f
 IsCause (VerifyEvery terms folders) old f = IsCauseOfVerify terms old f
+IsCause (VerifyInto terms folders into) old f = IsCauseOfVerifyInto terms old f
+IsCause (VerifyEveryInto terms folders into) old f = IsCauseOfVerify terms old f
 IsCause (Replay terms keep repositories) old f = IsCauseOfReplay terms keep old f
+IsCause (Next wants folders) old f = IsCauseOfFetching wants old f
 IsCause (Show state before) old f =
     IsCauseToShow state.now (option_map (λ t. t.now) before) (system_with [] old) f
 IsCause (Make script folder) old f = ⊤

@@ -2,7 +2,8 @@
 
 ghost use Rattle.std.specs.Prelude.{◌≡◌, ◌≢◌, ◌≤◌, IfErr, IfOk, length};
 ghost use Rattle.command.specs.Done.{IsEveryVerifiedOf, IsReplayedOf, IsVerifiedOf};
-ghost use Rattle.command.specs.Done.{IsCauseOfReplay, IsCauseOfVerify};
+ghost use Rattle.command.specs.Done.{IsCauseOfFetching, IsCauseOfReplay, IsCauseOfVerify};
+ghost use Rattle.command.specs.Done.{IsNextOf};
 
 use crate::runtime::Runtime;
 use crate::subcommand::FolderPaths;
@@ -14,7 +15,7 @@ use std::rt::Files;
 use std::sync::Wait;
 use std::thread::Threads;
 use system::Machine;
-use update::{Folders, Host, Terms};
+use update::{Folders, Host, Terms, Wants};
 
 /// Verifies the repository in the folders.
 #[tactic(auto, using(crate::proofs::Doing::verifying))]
@@ -72,8 +73,35 @@ pub fn verify_every_in<T: Threads + Wait + Sync, W: Write>(
     (done, host.out)
 }
 
+/// Prints the names of the files that have to be fetched next.
+#[tactic(auto, using(crate::proofs::Doing::fetching))]
+pub fn next_in<T: Threads + Wait + Sync, W: Write>(
+    run: &Runtime<'_, T>,
+    wants: &Wants<'_>,
+    folders: FolderPaths<'_>,
+    out: W,
+) -> (Result<u8, Failure>, W)
+    ensures known { IfOk result.0 (λ status. status ≡ 0) }
+    ensures listed { IfOk result.0 (IsNextOf wants.now (W.contents out) (W.contents result.1)) }
+    ensures quiet { IfErr result.0 (λ f. f ≢ Failure.Memory → f ≢ Failure.Output
+        → W.contents result.1 ≡ W.contents out) }
+    ensures cause { IfErr result.0 (IsCauseOfFetching wants.now (W.contents out)) }
+{
+    let folders = match two_folders(run.host, run.alloc, folders) {
+        Ok(folders) => folders,
+        Err(error) => return (Err(Failure::from(error)), out),
+    };
+    let mut host = Host {
+        system: Machine::new(run.host),
+        folders,
+        out,
+    };
+    let done = host.next(run.alloc, wants);
+    (done, host.out)
+}
+
 /// Returns the folders of these paths.
-fn two_folders<'a, R: Files>(
+pub(crate) fn two_folders<'a, R: Files>(
     rt: &'a R,
     alloc: Global,
     folders: FolderPaths<'_>,

@@ -10,6 +10,7 @@
 mod carrying;
 mod dispatch;
 mod folders;
+mod into;
 mod listed;
 mod made;
 mod making;

@@ -2,7 +2,7 @@
 
 use crate::listed::push_listed;
 use crate::subcommand::{FolderPaths, Subcommand};
-use crate::terms::{all_of, number, terms, word};
+use crate::terms::{all_of, number, terms, wants, word};
 use clap::ArgMatches;
 use failure::Failure;
 use std::alloc::Global;
@@ -19,6 +19,7 @@ pub fn read_subcommand<'a>(
     match name {
         "init" => init_of(words),
         "make" => make_of(words),
+        "next" => next_of(rt, alloc, words),
         "replay" => replay_of(rt, alloc, words),
         "show" => show_of(words),
         _ => verify_of(rt, alloc, words),
@@ -46,6 +47,17 @@ fn show_of<'a>(words: &ArgMatches<'a>) -> Result<Subcommand<'a>, Failure> {
     })
 }
 
+fn next_of<'a>(
+    rt: &HostRuntime,
+    alloc: Global,
+    words: &ArgMatches<'a>,
+) -> Result<Subcommand<'a>, Failure> {
+    let mut wants = wants(alloc, words)?;
+    push_listed(rt, alloc, words, &mut wants.wanted)?;
+    let folders = folder_paths(words)?;
+    Ok(Subcommand::Next { wants, folders })
+}
+
 fn replay_of<'a>(
     rt: &HostRuntime,
     alloc: Global,
@@ -64,14 +76,29 @@ fn verify_of<'a>(
     words: &ArgMatches<'a>,
 ) -> Result<Subcommand<'a>, Failure> {
     let terms = all_terms(rt, alloc, words)?;
-    let folders = FolderPaths {
+    let folders = folder_paths(words)?;
+    Ok(match (words.get_flag("every"), words.get_str("into")) {
+        (false, None) => Subcommand::Verify { terms, folders },
+        (true, None) => Subcommand::VerifyEvery { terms, folders },
+        (false, Some(into)) => Subcommand::VerifyInto {
+            terms,
+            folders,
+            into,
+        },
+        (true, Some(into)) => Subcommand::VerifyEveryInto {
+            terms,
+            folders,
+            into,
+        },
+    })
+}
+
+/// Returns the two folders of a repository.
+fn folder_paths<'a>(words: &ArgMatches<'a>) -> Result<FolderPaths<'a>, Failure> {
+    Ok(FolderPaths {
         metadata: word(words, "metadata")?,
         targets: word(words, "targets")?,
-    };
-    if words.get_flag("every") {
-        return Ok(Subcommand::VerifyEvery { terms, folders });
-    }
-    Ok(Subcommand::Verify { terms, folders })
+    })
 }
 
 /// Returns what both `verify` and `replay` name, with the paths of the file of `--paths-from`.

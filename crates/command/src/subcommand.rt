@@ -1,6 +1,6 @@
 //! The subcommands and their arguments.
 
-use update::Terms;
+use update::{Terms, Wants};
 
 /// The paths of a repository's two folders.
 #[derive(Clone, Copy)]
@@ -35,6 +35,24 @@ pub enum Subcommand<'a> {
         /// The folders.
         folders: FolderPaths<'a>,
     },
+    /// Verifies the repository of two folders, and stores copies of the good targets.
+    VerifyInto {
+        /// What the arguments name, with the paths that a file lists.
+        terms: Terms<'a>,
+        /// The folders.
+        folders: Paths<'a>,
+        /// The path of the folder for the copies.
+        into: &'a str,
+    },
+    /// Verifies every file of the folder of target files, and stores copies of the good ones.
+    VerifyEveryInto {
+        /// What the arguments name, without wanted paths.
+        terms: Terms<'a>,
+        /// The folders.
+        folders: Paths<'a>,
+        /// The path of the folder for the copies.
+        into: &'a str,
+    },
     /// Verifies repositories, one after another.
     Replay {
         /// What the arguments name, with the paths that a file lists.
@@ -43,6 +61,13 @@ pub enum Subcommand<'a> {
         keep: usize,
         /// The path of each repository, with the folders `metadata` and `targets` in it.
         repositories: Vec<String>,
+    },
+    /// Prints the names of the files that have to be fetched next.
+    Next {
+        /// What the arguments name, with the paths that a file lists.
+        wants: Wants<'a>,
+        /// The folders.
+        folders: FolderPaths<'a>,
     },
     /// Prints a trusted state.
     Show {

@@ -2,8 +2,9 @@
 
 use clap::ArgMatches;
 use failure::Failure;
+use needs::Place;
 use std::alloc::{AllocError, Global};
-use update::Terms;
+use update::{Terms, Wants};
 
 /// Returns what the arguments of `verify` and of `replay` name.
 pub fn terms<'a>(alloc: Global, matches: &ArgMatches<'a>) -> Result<Terms<'a>, Failure> {
@@ -15,6 +16,26 @@ pub fn terms<'a>(alloc: Global, matches: &ArgMatches<'a>) -> Result<Terms<'a>, F
         out: word(matches, "out")?,
         wanted: all_of(alloc, matches, "PATH")?,
     })
+}
+
+/// Returns what the arguments of `next` name.
+pub fn wants<'a>(alloc: Global, matches: &ArgMatches<'a>) -> Result<Wants<'a>, Failure> {
+    Ok(Wants {
+        state: word(matches, "state")?,
+        moment: matches.get_str("now"),
+        limit: number(matches, "limit")?,
+        wanted: all_of(alloc, matches, "PATH")?,
+        only: matches.get_str("only").map(place_of),
+    })
+}
+
+/// Returns the folder of that name.
+fn place_of(name: &str) -> Place {
+    if name == "targets" {
+        Place::Targets
+    } else {
+        Place::Metadata
+    }
 }
 
 /// Returns the argument of that name. Fails with `Words` if it is missing.

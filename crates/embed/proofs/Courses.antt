@@ -1,5 +1,5 @@
 -- The course, the outcome and the faults of a job.
-use Rattle.std.proofs.Common.{◌≡◌, ℕ, List, Result, Ok, Err, IfOk, IfErr, IsErrAnd, inl, inr, sym, ap, ◌∙◌, subst}
+use Rattle.std.proofs.Common.{◌≡◌, ◌⊎◌, ℕ, List, Result, Ok, Err, IfOk, IfErr, IsErrAnd, inl, inr, sym, ap, ◌∙◌, subst}
 use Rattle.rolechain.specs.Text.{state_of}
 use Rattle.cycle.specs.Workflow.{Course, Outcome, State, closed_course, course}
 use Rattle.needs.specs.Needs.{Names, needs}
@@ -23,7 +23,15 @@ course_is job trusted metadata now wanted limit of_metadata of_now of_wanted of_
     ∙ ap (λ w. course (record { trusted = trusted; moment = moment_at job.moment; wanted = w; limit = limit }) (files_of job.metadata.now)) of_wanted
     ∙ ap (λ n. course (record { trusted = trusted; moment = moment_at job.moment; wanted = paths_of job.wanted.now; limit = n }) (files_of job.metadata.now)) of_limit
 
--- the outcome of the job, where the course was closed by files that may be its own
+-- a run returns that course
+pub followed : {E : Type 0} (job : Job) (trusted : State) (metadata : Files) (now : Moment) (wanted : List (List ℕ)) (limit : ℕ) (r : Result Course E)
+    → metadata ≡ files_of job.metadata.now → now ≡ moment_at job.moment → wanted ≡ paths_of job.wanted.now → limit ≡ job.limit
+    → IfOk r (λ c. c ≡ course (record { trusted = trusted; moment = now; wanted = wanted; limit = limit }) metadata)
+    → IfOk r (λ c. c ≡ course_for job trusted)
+followed job trusted metadata now wanted limit (Err e) of_metadata of_now of_wanted of_limit said = tt
+followed job trusted metadata now wanted limit (Ok c) of_metadata of_now of_wanted of_limit said = said ∙ course_is job trusted metadata now wanted limit of_metadata of_now of_wanted of_limit
+
+-- the outcome of the job, if its course was closed by what is given of its targets
 pub outcome_is : (job : Job) (trusted : State) (given : Givens) (c : Course) (o : Outcome)
     → state_of job.state.now ≡ Ok trusted → c ≡ course_for job trusted → given ≡ givens_of job
     → ((targets : Files) → AreGiven given targets → o ≡ closed_course targets c) → IsOutcome job o
@@ -34,12 +42,14 @@ outcome_is job trusted given c o read of_course of_given closed = record {
   whole = are_whole job;
 }
 
--- out of memory is a cause, and so is a file without a name
-pub no_text : {T are : Type 0} (job : Job) (f : JobFault) (r : Result T JobFault) → IsNoText are f → IsErrAnd r (λ g. g ≡ f)
-    → (AreNamed job.metadata.now → AreNamed job.targets.now → AreDigestsNamed job.digests.now → AreTexts job.wanted.now → are) → IfErr r (HasCause job)
-no_text job f (Ok x) said same leads = tt
-no_text job f (Err g) (inl memory) same leads = subst (HasCause job) (sym (same ∙ memory)) tt
-no_text job f (Err g) (inr name) same leads = subst (HasCause job) (sym (same ∙ name.0)) (λ m t d w. name.1 (leads m t d w))
+-- a target file without a name is a cause, and so is being out of memory
+pub no_targets : {T : Type 0} (job : Job) (f : JobFault) (r : Result T JobFault)
+    → IsNoText (AreNamed job.targets.now) f ⊎ IsNoText (AreDigestsNamed job.digests.now) f → IsErrAnd r (λ g. g ≡ f) → IfErr r (HasCause job)
+no_targets job f (Ok x) said same = tt
+no_targets job f (Err g) (inl (inl memory)) same = subst (HasCause job) (sym (same ∙ memory)) tt
+no_targets job f (Err g) (inl (inr name)) same = subst (HasCause job) (sym (same ∙ name.0)) (λ m t d w. name.1 t)
+no_targets job f (Err g) (inr (inl memory)) same = subst (HasCause job) (sym (same ∙ memory)) tt
+no_targets job f (Err g) (inr (inr name)) same = subst (HasCause job) (sym (same ∙ name.0)) (λ m t d w. name.1 d)
 
 pub no_memory : {T : Type 0} (job : Job) (r : Result T JobFault) → IfErr r (λ f. f ≡ fault.Memory) → IfErr r (HasCause job)
 no_memory job (Ok x) said = tt

@@ -1,6 +1,9 @@
 -- What is given of target files.
 use Rattle.std.proofs.Common.{◌≡◌, ℕ, List, [], ◌∷◌, Option, None, Some, Bool, true, false, cond, bytes_eq, fold, option_map, String, Global, BTreeMap, string_bytes, refl, sym, ap, ◌∙◌, subst, Err, unwrap_or}
-use Rattle.std.specs.BTreeMap.{get_by_text, Updates}
+use Rattle.std.specs.Map.{lookup}
+use Rattle.std.specs.Cmp.Lexicographic.{slice_cmp}
+use Rattle.std.specs.Ordering.{nat_cmp}
+use Rattle.std.specs.BTreeMap.{get_by_text, is_at, Updates}
 use Rattle.std.specs.Option.{option_map_or}
 use Rattle.std.proofs.Math.Path.{fun_ext}
 use Rattle.std.proofs.lemmas.Map.Text.{btree_map_updates_text}
@@ -31,6 +34,10 @@ pub one_more : (old new : BTreeMap (String Global) Held) (name : String Global) 
 one_more old new name value own updates named = fun_ext (λ q.
     ap (option_map given_by) (btree_map_updates_text (string_bytes name) old new (Some value) updates q)
     ∙ put _ _ value (get_by_text old q) (ap (λ n. bytes_eq n q) named))
+
+-- a map without entries
+pub none_held : (all : BTreeMap (String Global) Held) → all.entries ≡ [] → held_in all ≡ nothing_given
+none_held all none = fun_ext (λ q. ap (λ (es : List (String Global × Held)). option_map given_by (lookup (is_at (λ k. slice_cmp nat_cmp q (string_bytes k))) es)) none)
 
 -- # Files that are all given by their bytes.
 

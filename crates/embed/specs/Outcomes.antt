@@ -1,5 +1,5 @@
--- What a caller gets: an outcome or a course as a status, a summary, the text of the new state, rows
--- and names.
+-- What a caller gets: an outcome or a course as a status, a summary, the text of the new state,
+-- rows and names.
 use Rattle.std.specs.Prelude.{◌≡◌, ℕ, Bool, true, false, List, [], ◌++◌, if◌then◌else◌, length, Ok, Option, is_some}
 use Rattle.std.specs.List.{list_all}
 use Rattle.rolechain.specs.Kept.{kept_of, kept_text}

@@ -31,10 +31,10 @@ pub struct Missing {
     pub names: Vec<u8>,
 }
 
-/// Does the job as [`verify`](crate::verify) does, and returns the files that it looked up and found
-/// absent, each with the maximum number of its bytes: what a caller has to fetch next. If the caller
-/// adds those files that it finds and calls this again until nothing was found, the job has each
-/// file that the workflow looks up. Fails with the first fault of the job, or with `Memory`.
+/// Does the job as [`verify`](crate::verify) does, and returns the files that it looked up and
+/// found absent, each with the maximum number of its bytes: what a caller has to fetch next. If the
+/// caller adds those files that it finds and calls this again until nothing was found, the job has
+/// each file that the workflow looks up. Fails with the first fault of the job, or with `Memory`.
 pub fn next(alloc: Global, job: &Job) -> Result<Missing, JobFault>
     ensures next { IfOk result (λ m. spec.IsNext job.now m.status m.summary m.rows.items
         m.names.items) }

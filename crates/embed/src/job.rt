@@ -62,7 +62,7 @@ pub struct Job<'a> {
     pub limit: usize,
 }
 
-/// Returns the files of the list by name. Fails with `Name` if a name isn't UTF-8, or with `Memory`.
+/// Returns the files of the list by name. Fails with `Name` if one isn't UTF-8, or with `Memory`.
 pub(crate) fn files_of(alloc: Global, files: &[File]) -> Result<BTreeMap<String, Vec<u8>>, JobFault>
     ensures files { IfOk result (λ all. file_in all ≡ spec.files_of files.now) }
     ensures errors { IfErr result (spec.IsNoText (spec.AreNamed files.now)) }
@@ -97,7 +97,7 @@ pub(crate) fn paths_of(alloc: Global, paths: &[Bytes]) -> Result<Vec<String>, Jo
     Ok(all)
 }
 
-/// Returns the text that the bytes encode. Fails with `Name` if they aren't UTF-8, or with `Memory`.
+/// Returns the text that the bytes are. Fails with `Name` if they aren't UTF-8, or with `Memory`.
 pub(crate) fn text_of(alloc: Global, bytes: &[u8]) -> Result<String, JobFault>
     ensures text { IfOk result (λ text. string_bytes text ≡ bytes.now) }
     ensures errors { IfErr result (spec.IsNoText (IsUtf8 bytes.now)) }

@@ -2,7 +2,7 @@
 //! opened, no clock read and no thread started.
 //!
 //! - [`verify`] returns the outcome of the workflow on a [`Job`].
-//! - [`list`] returns what roles list of the wanted paths, for a caller that has no target file yet.
+//! - [`list`] returns what roles list of the wanted paths, for a caller that has no target files.
 //! - [`next`] returns the files that a caller has to fetch next.
 //! - [`first_state`] returns the state of a first root, which the caller trusts.
 #![tactic(auto)]

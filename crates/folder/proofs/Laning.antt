@@ -1,14 +1,12 @@
 -- Files in lanes, and those that were measured.
-use Rattle.std.proofs.Common.{◌≡◌, ◌≢◌, ◌≤◌, ◌<◌, ◌+◌, ◌%◌, ℕ, Bool, true, false, if◌then◌else◌, List, [], ◌∷◌, ◌++◌, length, take, drop, slice_index_or, slice_set, Option, None, Some, IfSome, All, string_bytes, refl, sym, ◌∙◌, ap, subst, arith, inl, inr}
+use Rattle.std.proofs.Common.{◌≡◌, ◌≢◌, ◌<◌, ℕ, Bool, true, false, if◌then◌else◌, List, [], ◌∷◌, ◌++◌, length, slice_index_or, slice_set, Option, None, Some, IfSome, All, string_bytes, sym, ◌∙◌, ap, subst, arith, inl, inr}
 use Rattle.std.proofs.lemmas.Bool.{cases_eq}
 use Rattle.std.proofs.lemmas.List.{get_or-set_same, get_or-set_other, length-set}
 use Rattle.std.proofs.lemmas.List.Elements.{All-push, All-set}
 use Rattle.lanes.specs.Lanes.{lane}
 use Rattle.lanes.specs.Pending.{IsPending, Reaches}
 use Rattle.lanes.specs.declared.pending.Pending.{Pending}
-use Rattle.folder.specs.Measures.{measure_of}
-use Rattle.folder.specs.Streams.{AreLanes, AreMeasured, AreRooms, IsInLane, IsMeasureIn, IsOpened, IsStream, message}
-use Rattle.folder.specs.declared.job.Done.{Done}
+use Rattle.folder.specs.Streams.{AreLanes, IsInLane, IsOpened, IsStream, message}
 use Rattle.folder.specs.declared.stream.Stream.{Stream}
 use Rattle.folder.specs.declared.together.Lanes.{Lanes}
 

@@ -1,5 +1,5 @@
 -- A file in a lane: what was read of it, and the hash value of that.
-use Rattle.std.proofs.Common.{◌≡◌, ◌≤◌, ◌<◌, ◌+◌, ◌-◌, ◌%◌, ◌/◌, ◌⊎◌, ℕ, zero, suc, min, Bool, true, false, if◌then◌else◌, List, [], ◌∷◌, ◌++◌, length, take, drop, Option, None, Some, IfSome, refl, sym, ◌∙◌, ap, subst, arith, inl, inr, add-zero, length-append, length-take-le}
+use Rattle.std.proofs.Common.{◌≡◌, ◌≤◌, ◌+◌, ◌-◌, ◌%◌, ◌⊎◌, ℕ, Bool, true, false, if◌then◌else◌, List, [], ◌++◌, length, take, drop, Option, None, Some, IfSome, refl, sym, ◌∙◌, ap, subst, arith, inl, inr, add-zero, length-append, length-take-le}
 use Rattle.std.proofs.Math.Seq.{take-append-add, take-append_seam}
 use Rattle.std.proofs.lemmas.List.{take-take, take_all}
 use Rattle.std.proofs.lemmas.Slice.{take-put_mid}
@@ -9,9 +9,7 @@ use Rattle.sha2.specs.Sha256.{digest_bytes, hash_after, initial_hash_256, padded
 use Rattle.sha2.specs.Sha512.{sha512}
 use Rattle.lanes.specs.Pending.{IsAfter, Reaches}
 use Rattle.lanes.specs.declared.pending.Pending.{Pending}
-use Rattle.folder.specs.Measures.{IsMeasure, measure_of}
 use Rattle.folder.specs.Streams.{IsMeasureIn, IsOpened, IsStream, message}
-use Rattle.folder.specs.declared.measure.Measure.{Measure}
 use Rattle.folder.specs.declared.measure.Need.{Need}
 use Rattle.folder.specs.declared.stream.Stream.{Stream}
 use Rattle.folder.proofs.Taking.{joined, kept, known_of, starts, whole}

@@ -123,7 +123,7 @@ counted_all s t had has more new =
     let len : length {A = ℕ} (take s.need.up_to []) ≡ min s.need.up_to 0 = length-take s.need.up_to [] in
     omega (arith, more.counted, new.length, len)
 
-within : (s t : Measuring) (had has : Option (List ℕ)) (more : TakesMore s t had has) → HasTaken s [] → length more.piece ≤ t.need.up_to
+pub within : (s t : Measuring) (had has : Option (List ℕ)) (more : TakesMore s t had has) → HasTaken s [] → length more.piece ≤ t.need.up_to
 within s t had has more new =
     let all : t.length ≡ length more.piece = counted_all s t had has more new in
     let some : t.length ≡ length (take t.need.up_to more.piece) = (more.taken [] new).length in

@@ -1,5 +1,5 @@
 -- Files that are measured side by side.
-use Rattle.std.specs.Prelude.{ℕ, ◌≡◌, ◌≤◌, ◌<◌, ◌%◌, ◌⊎◌, Bool, true, false, if◌then◌else◌, Option, Some, IfSome, List, length, slice_index_or, All, string_bytes}
+use Rattle.std.specs.Prelude.{ℕ, ◌≡◌, ◌≤◌, ◌<◌, ◌%◌, ◌⊎◌, true, false, if◌then◌else◌, Option, Some, IfSome, List, length, slice_index_or, All, string_bytes}
 use Rattle.std.specs.Io.KnownBytes.{Consumes, IsAtEnd}
 use Rattle.sha2.specs.Sha256.{padded_message}
 use Rattle.lanes.specs.Lanes.{lane}

@@ -5,10 +5,12 @@ ghost use Rattle.std.specs.Prelude.{length, string_bytes};
 ghost use Rattle.std.specs.IoError.{error_kind};
 ghost use Rattle.folder.specs.Folders as spec;
 ghost use Rattle.folder.specs.Measures.{IsMeasure};
+ghost use Rattle.folder.specs.Passing.{IsPassedOn};
 
 use crate::files::{Folder, LoadFault};
 use crate::job::{Done, Job};
 use crate::measure::{Measure, Need};
+use crate::sink::{Sink, measure_and_pass};
 use crate::start::start_of_reader;
 use crate::stream::Opener;
 use crate::together::measure_jobs;
@@ -111,6 +113,23 @@ impl<'a, R: Files + AllocGlobal + Clone + Drop> Folder for Disk<'a, R> {
         }
     }
 
+    fn measure_into<K: Sink>(
+        &mut self,
+        alloc: Global,
+        name: &str,
+        need: Need,
+        sink: &mut K,
+    ) -> Result<Measure, LoadFault> {
+        let path = path_below(alloc, self.path.as_str(), name)?;
+        match pass_file(self.rt, alloc, path.as_str(), need, sink) {
+            Ok(measure) => Ok(measure),
+            Err(error) => {
+                self.faults = self.faults.saturating_add(1);
+                Err(fault_of(&error))
+            }
+        }
+    }
+
     fn measure_shared(&self, alloc: Global, name: &str, need: Need) -> Option<Measure> {
         let path = path_below(alloc, self.path.as_str(), name).ok()?;
         measure_file(self.rt, alloc, path.as_str(), need).ok()
@@ -150,6 +169,21 @@ fn measure_file<R: Files>(rt: &R, alloc: Global, path: &str, need: Need) -> io::
 {
     let mut file = fs::open(rt, path)?;
     Measure::of_reader(alloc, need, &mut file)
+}
+
+/// Measures the file of that path, and passes its bytes on.
+fn pass_file<R: Files, K: Sink>(
+    rt: &R,
+    alloc: Global,
+    path: &str,
+    need: Need,
+    sink: &mut K,
+) -> io::Result<Measure>
+    ensures passed { IfOk result
+        (IsPassedOn need (λ _. true) (K.took sink.old) (K.took sink.new)) }
+{
+    let mut file = fs::open(rt, path)?;
+    measure_and_pass(alloc, need, &mut file, sink)
 }
 
 fn fault_of(error: &io::Error) -> LoadFault

@@ -4,12 +4,14 @@ ghost use Rattle.std.specs.Prelude.{◌≡◌, ◌≤◌, ◌<◌, ◌⊎◌, �
 ghost use Rattle.std.specs.Prelude.{All, IfOk, IfErr, IfSome, OnOk, map, string_bytes};
 ghost use Rattle.folder.specs.Folders.{AddsFile, HasFailed, IsLoaded};
 ghost use Rattle.folder.specs.Measures.{IsMeasureOf};
+ghost use Rattle.folder.specs.Passing.{IsPassedOn};
 ghost use Rattle.folder.specs.Seen.{IsStartOf};
 ghost use Rattle.folder.specs.Starts.{AddsStart, AreStarts};
 ghost use Rattle.folder.specs.declared.files.LoadFault.TheVariants as fault;
 
 use crate::job::{Done, Job};
 use crate::measure::{Measure, Need};
+use crate::sink::Sink;
 use crate::start::cut;
 use std::alloc::{AllocError, AllocFailed, Global};
 use std::collections::BTreeMap;
@@ -104,6 +106,28 @@ pub trait Folder {
         Ok(Measure::of(need, bytes.as_slice()))
     }
 
+    /// Measures the file in the same way, and passes all bytes that are measured to the sink. If it
+    /// fails, the sink may have taken some of them.
+    fn measure_into<K: Sink>(
+        &mut self,
+        alloc: Global,
+        name: &str,
+        need: Need,
+        sink: &mut K,
+    ) -> Result<Measure, LoadFault>
+        ensures given { IfOk result (IsPassedOn need (holds self.old name.now)
+            (K.took sink.old) (K.took sink.new)) }
+        ensures failed { IfErr result
+            (λ e. e ≡ fault.Folder → HasFailed (failures self.old) (failures self.new)) }
+        ensures counts { failures self.old ≤ failures self.new }
+        ensures same_lists { lists self.new ≡ lists self.old }
+        ensures same_bytes { holds self.new ≡ holds self.old }
+    {
+        let bytes = self.read_start(alloc, name, need.up_to)?;
+        sink.take(bytes.as_slice());
+        Ok(Measure::of(need, bytes.as_slice()))
+    }
+
     /// Measures the file in the same way for a thread that shares the folder with others. Returns
     /// None if a shared folder can't be read or the call fails, and doesn't count a failure.
     fn measure_shared(&self, alloc: Global, name: &str, need: Need) -> Option<Measure>
@@ -173,6 +197,16 @@ impl<F: Folder> Folder for &mut F {
 
     fn measure(&mut self, alloc: Global, name: &str, need: Need) -> Result<Measure, LoadFault> {
         (**self).measure(alloc, name, need)
+    }
+
+    fn measure_into<K: Sink>(
+        &mut self,
+        alloc: Global,
+        name: &str,
+        need: Need,
+        sink: &mut K,
+    ) -> Result<Measure, LoadFault> {
+        (**self).measure_into(alloc, name, need, sink)
     }
 
     fn measure_shared(&self, alloc: Global, name: &str, need: Need) -> Option<Measure> {

@@ -2,7 +2,8 @@
 //!
 //! - [`Folder`] is what may be listed and read. [`load`] reads all of it, and [`load_starts`] the
 //!   first bytes of the files whose names have one ending.
-//! - [`Measure`] is the length and the digests of a file that isn't read into memory.
+//! - [`Measure`] is the length and the digests of a file that isn't read into memory. A [`Sink`] may
+//!   take its bytes meanwhile.
 //! - [`Disk`] is a folder of the file system.
 #![tactic(auto)]
 
@@ -10,6 +11,7 @@ mod disk;
 mod files;
 mod job;
 mod measure;
+mod sink;
 mod start;
 mod stream;
 mod together;
@@ -18,3 +20,4 @@ pub use disk::{Depth, Disk, path_below};
 pub use files::{Folder, LoadFault, load, load_starts};
 pub use job::{Done, Job};
 pub use measure::{Measure, Measuring, Need};
+pub use sink::Sink;

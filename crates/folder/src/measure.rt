@@ -10,7 +10,7 @@ use std::alloc::Global;
 use std::io::{self, ErrorKind, Read};
 
 /// Number of bytes that are read at once.
-const CHUNK: usize = 65_536;
+pub(crate) const CHUNK: usize = 65_536;
 
 /// What is wanted of a file.
 #[derive(Clone, Copy, Debug, PartialEq, Eq)]
@@ -115,7 +115,7 @@ impl Measuring {
     }
 
     /// Returns how many of `len` bytes are still wanted.
-    fn most(&self, len: usize) -> usize
+    pub(crate) fn most(&self, len: usize) -> usize
         ensures count { result ≡ min len (self.now.need.up_to - self.now.length) }
         ensures fits { self.now.length + result < 2 ^ 64 }
     {

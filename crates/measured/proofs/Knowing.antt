@@ -1,11 +1,15 @@
 -- Names and measures that are stored one after the other.
-use Rattle.std.proofs.Common.{◌≡◌, ℕ, List, [], ◌∷◌, ◌++◌, Bool, true, false, ◌||◌, Option, None, Some, is_some, IfSome, String, string_bytes, map, refl, sym, ◌∙◌, ap, subst}
+use Rattle.std.proofs.Common.{◌≡◌, List, [], ◌∷◌, ◌++◌, Bool, true, false, ◌||◌, Option, None, Some, is_some, IfSome, ◌<◌, ◌+◌, ℕ, suc, length, slice_index_or, slice_set, inl, inr, All, Result, Ok, Err, OnOk, OnErr, String, string_bytes, map, refl, sym, ◌∙◌, ap, subst, arith}
 use Rattle.std.specs.BTreeMap.{get_by_text}
 use Rattle.std.specs.Str.{bytes_eq}
 use Rattle.std.proofs.lemmas.Slice.Eq.{bytes_eq-Decides}
-use Rattle.std.proofs.lemmas.List.{map-append}
+use Rattle.std.proofs.lemmas.Bool.{cases_eq}
+use Rattle.std.proofs.lemmas.List.{get_or-set_same, get_or-set_other, map-append}
 use Rattle.std.proofs.lemmas.List.Folds.{list_any-append}
-use Rattle.measured.specs.Known.{IsKnown, IsSame, IsWanted, Puts}
+use Rattle.folder.specs.Measures.{IsMeasureOf}
+use Rattle.folder.specs.declared.job.Done.{Done}
+use Rattle.measured.specs.Known.{AreDone, IsKnown, IsSame, IsWanted, Puts}
+use Rattle.measured.specs.declared.early.Share.{Share}
 use Rattle.measured.specs.declared.known.Known.{Known}
 use Rattle.measured.specs.declared.known.Wanted.{Wanted}
 
@@ -80,3 +84,36 @@ same_known names holds found old new known same = record {
 pub was_found : (names : List (List ℕ)) (holds : List ℕ → List ℕ → Bool) (found : List ℕ → Bool) (k : Known) (name : List ℕ) (w : Wanted)
     → IsKnown names holds found k → get_by_text k.files name ≡ Some (Some w) → found name ≡ true
 was_found names holds found k name w known is = (subst (λ o. IfSome o (λ v. IfSome v (IsWanted (found name) (holds name)))) is (known.wanted name)).is_found
+
+-- ---- measures that were taken early
+
+-- the next measure, and those after it
+pub first_done : (holds : List ℕ → List ℕ → Bool) (all rest : List Done) (d : Done) → all ≡ d ∷ rest → AreDone holds all → IsMeasureOf d.need (holds (string_bytes d.name)) d.measure
+first_done holds all rest d is done = (subst (AreDone holds) is done).each 0 d (omega arith)
+
+pub rest_done : (holds : List ℕ → List ℕ → Bool) (all rest : List Done) (d : Done) → all ≡ d ∷ rest → AreDone holds all → AreDone holds rest
+rest_done holds all rest d is done = let now = subst (AreDone holds) is done in record { each = λ k e lt. now.each (suc k) e (omega (arith, lt)) }
+
+-- the next share, and those after it
+pub first_share : (holds : List ℕ → List ℕ → Bool) (all rest : List Share) (s : Share) → all ≡ s ∷ rest → All (λ (s : Share). AreDone holds s.done.items) all → AreDone holds s.done.items
+first_share holds all rest s is done = subst (All (λ (s : Share). AreDone holds s.done.items)) is done 0 s (omega arith)
+
+pub rest_share : (holds : List ℕ → List ℕ → Bool) (all rest : List Share) (s : Share) → all ≡ s ∷ rest → All (λ (s : Share). AreDone holds s.done.items) all → All (λ (s : Share). AreDone holds s.done.items) rest
+rest_share holds all rest s is done = λ k e lt. subst (All (λ (s : Share). AreDone holds s.done.items)) is done (suc k) e (omega (arith, lt))
+
+-- one share more
+pub one_share : (holds : List ℕ → List ℕ → Bool) (shares : List Share) (at : ℕ) (new : Share) → at < length shares → AreDone holds new.done.items
+    → ((i : ℕ) (d : Share) → i < at → AreDone holds (slice_index_or shares i d).done.items)
+    → (i : ℕ) (d : Share) → i < at + 1 → AreDone holds (slice_index_or (slice_set shares at new) i d).done.items
+one_share holds shares at new in' done before i d lt = elim (cases_eq i at) [
+  | inl same ↦ rw same (subst (λ (s : Share). AreDone holds s.done.items) (sym (get_or-set_same shares at new d in')) done)
+  | inr other ↦ subst (λ (s : Share). AreDone holds s.done.items) (sym (get_or-set_other shares at i new d other)) (before i d (omega (arith, lt, other)))
+]
+
+-- a measure that is stored, or not for want of memory
+pub kept : {A E : Type 0} (names : List (List ℕ)) (holds : List ℕ → List ℕ → Bool) (found : List ℕ → Bool) (name : List ℕ) (was w : Wanted) (old new : Known) (r : Result A E)
+    → get_by_text old.files name ≡ Some (Some was) → IfSome w.measure (IsMeasureOf w.need (holds name)) → OnOk r (Puts name (Some w) old new) → OnErr r (IsSame old new)
+    → IsKnown names holds found old → IsKnown names holds found new
+kept names holds found name was w old new (Ok x) is good puts same known =
+    wanted_more names holds found name w old new known puts (ap is_some is) (record { is_found = was_found names holds found old name was known is; measure = good })
+kept names holds found name was w old new (Err e) is good puts same known = same_known names holds found old new known same

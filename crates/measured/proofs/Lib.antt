@@ -1,4 +1,5 @@
 pub mod Knowing
 pub mod Covering
 pub mod Checking
+pub mod Fitted
 pub mod SeenFiles

@@ -97,8 +97,8 @@ pub record IsKnown (names : List (List ℕ)) (holds : List ℕ → List ℕ → 
       (λ o. IfSome o (IsWanted (found name) (holds name)))
 
 -- measures of files, each of bytes that may be read for its name
-abbrev pub AreDone : (List ℕ → List ℕ → Bool) → List Done → Type 0
-AreDone holds done = All (λ d. IsMeasureOf d.need (holds (string_bytes d.name)) d.measure) done
+pub record AreDone (holds : List ℕ → List ℕ → Bool) (done : List Done) : Type 0 where
+  pub each : All (λ d. IsMeasureOf d.need (holds (string_bytes d.name)) d.measure) done
 
 -- what was so known stays so
 abbrev pub StaysKnown : List (List ℕ) → (List ℕ → List ℕ → Bool) → (List ℕ → Bool)

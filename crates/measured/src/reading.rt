@@ -73,7 +73,7 @@ fn note(
 }
 
 /// Returns what has been needed of the file so far.
-fn need_of(entry: Option<Option<Wanted>>) -> Need
+pub(crate) fn need_of(entry: Option<Option<Wanted>>) -> Need
     ensures { (t : Target)
         → option_map_or (λ o. spec.is_measured o t) entry false ≡ true
         → spec.covers result t ≡ true }
@@ -172,7 +172,7 @@ fn read_file<F: Folder>(
 }
 
 /// Returns whether the file was measured as far as the target needs it.
-fn is_measured(entry: Option<Option<Wanted>>, target: &Target) -> bool
+pub(crate) fn is_measured(entry: Option<Option<Wanted>>, target: &Target) -> bool
     ensures { result ≡ option_map_or (λ o. spec.is_measured o target.now) entry false }
 {
     match entry {

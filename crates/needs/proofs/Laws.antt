@@ -1,26 +1,21 @@
 -- What holds of the files that are listed.
-use Rattle.std.proofs.Common.{◌≡◌, ◌≢◌, ℕ, ◌+◌, Bool, true, false, not, ◌&&◌, ◌||◌, List, [], ◌∷◌, ◌++◌, codes, map, Option, Some, None, is_some, option_map, option_and_then, refl, sym, ap, ◌∙◌, subst, true≢false, if◌then◌else◌}
-use Rattle.std.specs.Bool.{⊤}
-use Rattle.std.specs.List.{All, AllByRecursion as ByRecursion, list_all, list_any}
+use Rattle.std.proofs.Common.{◌≡◌, ℕ, ◌+◌, Bool, true, false, not, ◌&&◌, ◌||◌, List, [], ◌∷◌, ◌++◌, map, Option, Some, None, is_some, option_map, option_and_then, refl, sym, ap, ◌∙◌, subst, true≢false, if◌then◌else◌}
+use Rattle.std.specs.List.{AllByRecursion as ByRecursion, list_all, list_any}
 use Rattle.std.specs.Option.{option_map_or}
-use Rattle.std.specs.Prelude.{option_to_list}
 use Rattle.std.proofs.lemmas.Option.{none-some}
 use Rattle.std.proofs.lemmas.Bool.{and_from}
 use Rattle.std.proofs.lemmas.List.Elements.{All-from_recursion}
 use Rattle.std.proofs.lemmas.List.Folds.{list_all-append}
-use Rattle.meta.specs.Content.{root_name, Part}
-use Rattle.meta.specs.Metadata.{Root, Snapshot}
-use Rattle.meta.specs.declared.fault.Fault.{Fault}
+use Rattle.meta.specs.Content.{root_name}
+use Rattle.meta.specs.Metadata.{Root}
 use Rattle.examine.specs.Checks.{Files, target_names}
-use Rattle.rolechain.specs.Advance.{State, advanced}
-use Rattle.rolechain.specs.declared.end.Step.TheVariants as step
-use Rattle.rolechain.specs.declared.end.Step.{Step}
+use Rattle.rolechain.specs.Advance.{State}
 use Rattle.deleg.specs.declared.accepted.Search.{Search}
 use Rattle.deleg.specs.declared.found.Found.{Found}
 use Rattle.deleg.specs.declared.found.Found.TheVariants.{Listed, NotFound, LimitReached, RoleRefused}
 use Rattle.cycle.specs.Workflow.{Course, End, Ready, Request, Stopped, Target, course, searched, target_of}
-use Rattle.needs.specs.Laws.{AreAbsent, HasEnough, are_optional, has_file, is_none_of, is_one_there, is_short, is_short_end, is_short_found, names_at}
-use Rattle.needs.specs.Needs.{Names, Need, absent, each_once, end_need, file_need, first_of, found_need, is_missing, is_sought, metadata_needs, needs, next_root, role_below, role_need, root_need, search_need, step_need, target_need, target_needs}
+use Rattle.needs.specs.Laws.{AreAbsent, HasEnough, are_optional, has_file, is_one_there, is_short, is_short_end, is_short_found, names_at}
+use Rattle.needs.specs.Needs.{Names, Need, absent, each_once, end_need, file_need, first_of, found_need, is_sought, metadata_needs, needs, next_root, role_below, root_need, search_need, step_need, target_need, target_needs}
 use Rattle.needs.specs.declared.need.Place.TheVariants as place
 use Rattle.needs.proofs.Lists.{Holds, holds-both, holds-list, holds-once, none-once, optional-none}
 use Rattle.needs.proofs.Refusing.{searched-tells}

@@ -1,11 +1,12 @@
 -- Files that are listed, each name once.
-use Rattle.std.proofs.Common.{◌≡◌, ℕ, List, [], ◌∷◌, ◌++◌, Bool, true, false, ◌&&◌, ◌||◌, if◌then◌else◌, Option, Some, None, fold, true≢false, String, Global, map, refl, sym, ◌∙◌, ap, subst}
+use Rattle.std.proofs.Common.{◌≡◌, ℕ, List, [], ◌∷◌, ◌++◌, Bool, true, false, ◌&&◌, ◌||◌, if◌then◌else◌, Option, Some, None, fold, true≢false, String, string_bytes, Global, map, refl, sym, ◌∙◌, ap, subst}
 use Rattle.std.specs.BTreeMap.{BTreeMap}
 use Rattle.std.specs.Bool.{⊤}
 use Rattle.std.specs.List.{AllByRecursion as ByRecursion, list_all, list_any}
 use Rattle.std.specs.Prelude.{option_to_list}
 use Rattle.std.specs.Str.{bytes_eq}
 use Rattle.std.proofs.lemmas.Slice.Eq.{bytes_eq-Decides}
+use Rattle.std.proofs.lemmas.List.{map-append}
 use Rattle.std.proofs.lemmas.List.Folds.{list_any-append}
 use Rattle.needs.specs.Glue.{IsOnce, Puts}
 use Rattle.needs.specs.Needs.{Need, each_once, is_in, is_needed, noted}
@@ -25,6 +26,21 @@ or_true : (b : Bool) → (b || true) ≡ true
 or_true true = refl
 or_true false = refl
 
+-- a name is there if it is the one added, or was there before
+is_there : (name q : List ℕ) (old names : BTreeMap (String Global) ⊤) (was : Bool) (b : Bool) → bytes_eq name q ≡ b → is_in old q ≡ was → Puts name old names → is_in names q ≡ (was || (b || false))
+is_there name q old names was true same is puts =
+    subst (λ m. is_in names m ≡ true) ((bytes_eq-Decides name q).0 same) puts.there ∙ sym (or_true was)
+is_there name q old names was false other is puts = puts.others q other ∙ is ∙ sym (or_false was)
+
+-- one name more
+pub one_more_name : {Y : Type 0} (yielded : List (String Y)) (name : String Y) (old new : BTreeMap (String Global) ⊤)
+    → ((q : List ℕ) → is_in old q ≡ list_any (λ other. bytes_eq other q) (map string_bytes yielded)) → Puts (string_bytes name) old new
+    → (q : List ℕ) → is_in new q ≡ list_any (λ other. bytes_eq other q) (map string_bytes (yielded ++ name ∷ []))
+one_more_name yielded name old new named puts q =
+    is_there (string_bytes name) q old new _ (bytes_eq (string_bytes name) q) refl (named q) puts
+    ∙ sym (list_any-append (λ other. bytes_eq other q) (map string_bytes yielded) (string_bytes name ∷ []))
+    ∙ ap (list_any (λ other. bytes_eq other q)) (sym (map-append string_bytes yielded (name ∷ [])))
+
 module _ (o : Once) (n : Need) (once : IsOnce o) where
   -- one of its name is there
   pub stays : is_in o.names n.name ≡ true → o.needs.items ≡ noted o.needs.items (Some n)
@@ -34,15 +50,9 @@ module _ (o : Once) (n : Need) (once : IsOnce o) where
   pub grows : is_in o.names n.name ≡ false → o.needs.items ++ n ∷ [] ≡ noted o.needs.items (Some n)
   grows absent = ap (λ b. if b then o.needs.items else o.needs.items ++ n ∷ []) (sym absent ∙ once n.name)
 
-  -- a name is there if it is the file's, or was there before
-  is_there : (q : List ℕ) (names : BTreeMap (String Global) ⊤) (b : Bool) → bytes_eq n.name q ≡ b → Puts n.name o.names names → is_in names q ≡ (is_needed o.needs.items q || (b || false))
-  is_there q names true same puts =
-      subst (λ m. is_in names m ≡ true) ((bytes_eq-Decides n.name q).0 same) puts.there ∙ sym (or_true (is_needed o.needs.items q))
-  is_there q names false other puts = puts.others q other ∙ once q ∙ sym (or_false (is_needed o.needs.items q))
-
   pub one_more : (names : BTreeMap (String Global) ⊤) → Puts n.name o.names names → (q : List ℕ) → is_in names q ≡ is_needed (o.needs.items ++ n ∷ []) q
   one_more names puts q =
-      is_there q names (bytes_eq n.name q) refl puts ∙ sym (list_any-append (λ m. bytes_eq m.name q) o.needs.items (n ∷ []))
+      is_there n.name q o.names names (is_needed o.needs.items q) (bytes_eq n.name q) refl (once q) puts ∙ sym (list_any-append (λ m. bytes_eq m.name q) o.needs.items (n ∷ []))
 
 -- ---- what holds of all of them
 

@@ -1,20 +1,17 @@
 -- A step or a search that ends because a file is missing: which file that is.
-use Rattle.std.proofs.Common.{◌≡◌, ℕ, zero, suc, ◌+◌, Bool, true, false, not, ◌&&◌, nat_le, cond, List, [], ◌∷◌, codes, length, Option, Some, None, is_none, option_map, option_and_then, Result, Ok, Err, refl, sym, ap, ◌∙◌, subst, true≢false, if◌then◌else◌}
-use Rattle.std.specs.Bool.{⊤}
+use Rattle.std.proofs.Common.{◌≡◌, ℕ, Bool, true, false, not, ◌&&◌, List, Option, Some, None, is_none, Result, Ok, Err, refl, sym, ◌∙◌, true≢false, if◌then◌else◌}
 use Rattle.std.specs.Option.{option_map_or}
-use Rattle.std.specs.Prelude.{unwrap_or}
 use Rattle.cjson.specs.Document.{Document, document, ◌>>=◌, refuse_if, or_refuse}
-use Rattle.cjson.specs.Form.{greatest}
 use Rattle.cjson.specs.declared.fault.DocFault.{DocFault}
-use Rattle.moment.specs.Moment.{Moment}
-use Rattle.meta.specs.Content.{content, has_no_known_hash, is_hash_wrong, is_length_wrong, is_too_long, document_of, formed, or_malformed, root_limit, root_name, snapshot_limit, targets_limit, timestamp_limit, Part}
+use Rattle.meta.specs.Metadata.{Moment}
+use Rattle.meta.specs.Content.{content, has_no_known_hash, is_hash_wrong, is_length_wrong, is_too_long, document_of, formed, or_malformed, root_limit, snapshot_limit, targets_limit, timestamp_limit}
 use Rattle.meta.specs.Metadata.{Key, RoleKeys, Form, Root, Timestamp, Snapshot, Targets}
 use Rattle.meta.specs.Metadata as form
 use Rattle.meta.specs.declared.fault.Fault.{Fault}
 use Rattle.meta.specs.declared.fault.Fault.TheVariants.{NotListed, Missing, TooLong, LengthWrong, HashWrong, NoKnownHash, Malformed, Unsigned, VersionWrong, Rollback, Expired}
 use Rattle.meta.specs.declared.hashes.Hashes.{Hashes}
 use Rattle.meta.specs.declared.header.Header.{Header}
-use Rattle.examine.specs.Checks.{Files, Expectation, Candidate, is_absent, listed_bytes, listed_length, listed_hashes, listed_version, read_candidate, candidate, signed_candidate, is_earlier, is_expired, is_signed, is_version_wrong, lists_less, root_checks, expiry_check, is_newer, is_again, later_timestamp, snapshot_checks, targets_checks, root_part, first_timestamp, next_timestamp, snapshot_part, targets_part}
+use Rattle.examine.specs.Checks.{Files, Expectation, Part, is_absent, listed_length, listed_hashes, listed_version, read_candidate, signed_candidate, in_order, is_earlier, is_expired, is_version_wrong, lists_less, expiry_check, is_again, later_timestamp, root_part, first_timestamp, next_timestamp, snapshot_part, targets_part}
 use Rattle.needs.specs.Needs.{is_missing}
 
 -- ---- results that miss a file
@@ -48,12 +45,6 @@ either true r q h k = h
 either false r q h k = k
 
 -- ---- checks in order
-
-two : (a b : Bool) (e f : Fault) → is_missing e ≡ false → is_missing f ≡ false → is_miss (refuse_if a e >>= λ _. refuse_if b f) ≡ false
-unfolding is_miss
-two true b e f h k = h
-two false true e f h k = k
-two false false e f h k = refl
 
 two_then : {A : Type 0} (a b : Bool) (e f : Fault) (x : A) → is_missing e ≡ false → is_missing f ≡ false → is_miss (refuse_if a e >>= λ _. refuse_if b f >>= λ _. Ok x) ≡ false
 unfolding is_miss
@@ -110,11 +101,12 @@ gone true file h = absurd (true≢false (sym h))
 gone false None h = refl
 gone false (Some bytes) h = absurd (true≢false (sym h))
 
-listed-miss : (b : Bool) (file : Option (List ℕ)) → is_miss (refuse_if b NotListed >>= λ _. or_refuse file Missing) ≡ (not b && is_none file)
+listed-miss : {A : Type 0} (b : Bool) (file : Option (List ℕ)) (k : List ℕ → Result A Fault) → ((bytes : List ℕ) → is_miss (k bytes) ≡ false)
+    → is_miss (refuse_if b NotListed >>= λ _. or_refuse file Missing >>= k) ≡ (not b && is_none file)
 unfolding is_miss
-listed-miss true file = refl
-listed-miss false None = refl
-listed-miss false (Some bytes) = refl
+listed-miss true file k h = refl
+listed-miss false None k h = refl
+listed-miss false (Some bytes) k h = h bytes
 
 module _ (files : Files) where
   module _ (A : Type 0) (form : Form A) (limit : ℕ) (e : Expectation) where
@@ -123,61 +115,50 @@ module _ (files : Files) where
         sure (document_of bytes) _ (sound (document bytes))
         (λ doc. sure (formed form doc) _ (needed (form doc.signed) Malformed refl) (λ _. passes _))
 
-    candidate-miss : is_miss (candidate form limit e files) ≡ lacks files e
-    candidate-miss =
-        still (listed_bytes e files) _
-        (λ bytes. sure (content (Some limit) (listed_length e.listed) (listed_hashes e.listed) bytes) _
-        (content-sure (Some limit) (listed_length e.listed) (listed_hashes e.listed) bytes) (λ _. read-sure bytes))
-        ∙ listed-miss (is_absent e.listed) (files e.name)
-
     signed-miss : is_miss (signed_candidate form limit e files) ≡ lacks files e
     signed-miss =
-        still (candidate form limit e files) _ (λ c. sure (refuse_if _ Unsigned) _ (refused _ Unsigned refl) (λ _. passes _)) ∙ candidate-miss
+        listed-miss (is_absent e.listed) (files e.name) _
+        (λ bytes. sure (content (Some limit) (listed_length e.listed) (listed_hashes e.listed) bytes) _
+        (content-sure (Some limit) (listed_length e.listed) (listed_hashes e.listed) bytes)
+        (λ _. sure (read_candidate form bytes) _ (read-sure bytes) (λ c. sure (refuse_if _ Unsigned) _ (refused _ Unsigned refl) (λ _. passes _))))
 
   -- ---- the files of each kind
 
-  root_checks-sure : (own : Bool) (due : ℕ) (h : Header) → is_miss (root_checks own due h) ≡ false
-  root_checks-sure own due h = two (not own) (is_version_wrong (Some due) h) Unsigned VersionWrong refl refl
+  order-sure : (due : Option ℕ) (is_below : Bool) (h : Header) (now : Moment) → is_miss (in_order due is_below h now) ≡ false
+  order-sure due is_below h now = three (is_version_wrong due h) is_below (is_expired h now) VersionWrong Rollback Expired refl refl refl
 
   pub expiry-sure : (h : Header) (now : Moment) → is_miss (expiry_check h now) ≡ false
   expiry-sure h now = refused (is_expired h now) Expired refl
 
-  later-sure : (old new : Timestamp) (now : Moment) → is_miss (later_timestamp old new now) ≡ false
-  later-sure old new now = two_then (is_earlier old new) (is_expired new.header now) Rollback Expired true refl refl
-
-  newer-sure : (old new : Timestamp) (now : Moment) → is_miss (is_newer old new now) ≡ false
-  newer-sure old new now = either (is_again old new) (Ok false) (later_timestamp old new now) (passes false) (later-sure old new now)
-
-  snapshot_checks-sure : (due : Option ℕ) (old : Option Snapshot) (new : Snapshot) (now : Moment) → is_miss (snapshot_checks due old new now) ≡ false
-  snapshot_checks-sure due old new now =
-      three (is_version_wrong due new.header) (option_map_or (λ s. lists_less s new) old false) (is_expired new.header now) VersionWrong Rollback Expired refl refl refl
-
-  targets_checks-sure : (due : Option ℕ) (h : Header) (now : Moment) → is_miss (targets_checks due h now) ≡ false
-  targets_checks-sure due h now = two (is_version_wrong due h) (is_expired h now) VersionWrong Expired refl refl
+  later-sure : (old : Timestamp) (p : Part Timestamp) (now : Moment) → is_miss (later_timestamp old p now) ≡ false
+  later-sure old p now =
+      either (is_again old p.reading) (Ok None) _ (passes None)
+      (sure (in_order None (is_earlier old p.reading) p.reading.header now) _ (order-sure None (is_earlier old p.reading) p.reading.header now) (λ _. passes _))
 
   pub root_part-miss : (e : Expectation) (due : ℕ) → is_miss (root_part e due files) ≡ lacks files e
   root_part-miss e due =
-      still (signed_candidate form.root root_limit e files) _ (λ c. sure (root_checks _ due c.part.reading.header) _ (root_checks-sure _ due c.part.reading.header) (λ _. passes _))
+      still (signed_candidate form.root root_limit e files) _ (λ c. two_then _ (is_version_wrong (Some due) c.part.reading.header) Unsigned VersionWrong c.part refl refl)
       ∙ signed-miss Root form.root root_limit e
 
   pub first_timestamp-miss : (e : Expectation) (now : Moment) → is_miss (first_timestamp e files now) ≡ lacks files e
   first_timestamp-miss e now =
-      still (signed_candidate form.timestamp timestamp_limit e files) _ (λ c. sure (expiry_check c.part.reading.header now) _ (expiry-sure c.part.reading.header now) (λ _. passes _))
+      still (signed_candidate form.timestamp timestamp_limit e files) _ (λ c. sure (in_order None false c.part.reading.header now) _ (order-sure None false c.part.reading.header now) (λ _. passes _))
       ∙ signed-miss Timestamp form.timestamp timestamp_limit e
 
   pub next_timestamp-miss : (e : Expectation) (old : Timestamp) (now : Moment) → is_miss (next_timestamp e old files now) ≡ lacks files e
   next_timestamp-miss e old now =
-      still (signed_candidate form.timestamp timestamp_limit e files) _ (λ c. sure (is_newer old c.part.reading now) _ (newer-sure old c.part.reading now) (λ _. passes _))
+      still (signed_candidate form.timestamp timestamp_limit e files) _ (λ c. later-sure old c.part now)
       ∙ signed-miss Timestamp form.timestamp timestamp_limit e
 
   pub snapshot_part-miss : (e : Expectation) (old : Option Snapshot) (now : Moment) → is_miss (snapshot_part e old files now) ≡ lacks files e
   snapshot_part-miss e old now =
       still (signed_candidate form.snapshot snapshot_limit e files) _
-      (λ c. sure (snapshot_checks (listed_version e.listed) old c.part.reading now) _ (snapshot_checks-sure (listed_version e.listed) old c.part.reading now) (λ _. passes _))
+      (λ c. sure (in_order (listed_version e.listed) (option_map_or (λ s. lists_less s c.part.reading) old false) c.part.reading.header now) _
+      (order-sure (listed_version e.listed) (option_map_or (λ s. lists_less s c.part.reading) old false) c.part.reading.header now) (λ _. passes _))
       ∙ signed-miss Snapshot form.snapshot snapshot_limit e
 
   pub targets_part-miss : (e : Expectation) (now : Moment) → is_miss (targets_part e files now) ≡ lacks files e
   targets_part-miss e now =
       still (signed_candidate form.targets targets_limit e files) _
-      (λ c. sure (targets_checks (listed_version e.listed) c.part.reading.header now) _ (targets_checks-sure (listed_version e.listed) c.part.reading.header now) (λ _. passes _))
+      (λ c. sure (in_order (listed_version e.listed) false c.part.reading.header now) _ (order-sure (listed_version e.listed) false c.part.reading.header now) (λ _. passes _))
       ∙ signed-miss Targets form.targets targets_limit e

@@ -1,9 +1,9 @@
 -- A search that is refused because a file is missing is refused for the file that is listed.
-use Rattle.std.proofs.Common.{◌≡◌, ℕ, zero, suc, ◌+◌, Bool, true, false, not, ◌&&◌, nat_le, cond, List, [], ◌∷◌, codes, length, map, Option, Some, None, is_none, option_map, option_and_then, Result, Ok, Err, refl, sym, ap, ◌∙◌, subst, true≢false, if◌then◌else◌}
+use Rattle.std.proofs.Common.{◌≡◌, ℕ, zero, suc, ◌+◌, Bool, true, false, nat_le, cond, List, [], ◌∷◌, codes, length, Option, Some, None, option_map, option_and_then, Result, Ok, Err, refl, sym, ap, ◌∙◌, true≢false, if◌then◌else◌}
 use Rattle.std.specs.Bool.{⊤}
 use Rattle.std.specs.Option.{option_map_or}
 use Rattle.std.specs.Prelude.{unwrap_or}
-use Rattle.moment.specs.Moment.{Moment}
+use Rattle.meta.specs.Metadata.{Moment}
 use Rattle.meta.specs.Content.{Part}
 use Rattle.meta.specs.Metadata.{Root, Snapshot, Targets}
 use Rattle.meta.specs.declared.fault.Fault.{Fault}
@@ -12,12 +12,11 @@ use Rattle.rolechain.specs.Advance.{State, due_targets, listing_of}
 use Rattle.deleg.specs.Search.{Edge, Visited, Visits, done, go_on, and_then, walk_by, in_file, accepting, entered, examined, from_top, visit, search_from, search_in, settled, target_of, is_visited}
 use Rattle.deleg.specs.Search as paths
 use Rattle.deleg.specs.declared.accepted.Accepted.{Accepted}
-use Rattle.deleg.specs.declared.accepted.Search.{Search}
 use Rattle.deleg.specs.declared.found.Found.{Found}
 use Rattle.deleg.specs.declared.found.Found.TheVariants.{Listed, NotFound, LimitReached, RoleRefused}
 use Rattle.cycle.specs.Workflow.{End, Ready, Stopped, searched}
 use Rattle.needs.specs.Laws.{is_short, is_short_found}
-use Rattle.needs.specs.Needs.{Need, found_need, is_missing, role_need, search_need}
+use Rattle.needs.specs.Needs.{found_need, is_missing, role_need, search_need}
 use Rattle.needs.proofs.Missing.{is_miss, gone, targets_part-miss}
 use Rattle.needs.proofs.Stopping.{IsTold}
 

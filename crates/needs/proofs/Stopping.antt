@@ -1,9 +1,9 @@
 -- A cycle that stops because a file is missing stops for the file that is listed.
-use Rattle.std.proofs.Common.{◌≡◌, ℕ, zero, suc, ◌+◌, Bool, true, false, not, ◌&&◌, nat_le, List, [], ◌∷◌, codes, Option, Some, None, is_none, is_some, option_map, Result, Ok, Err, refl, sym, ap, ◌∙◌, subst, true≢false, if◌then◌else◌}
+use Rattle.std.proofs.Common.{◌≡◌, ℕ, zero, suc, ◌+◌, Bool, true, false, not, ◌&&◌, nat_le, List, codes, Option, Some, None, is_none, is_some, option_map, Result, Ok, Err, refl, sym, ap, ◌∙◌, true≢false, if◌then◌else◌}
 use Rattle.std.specs.Option.{option_map_or}
 use Rattle.cjson.specs.Document.{◌>>=◌, or_refuse}
 use Rattle.cjson.specs.Form.{greatest}
-use Rattle.moment.specs.Moment.{Moment}
+use Rattle.meta.specs.Metadata.{Moment}
 use Rattle.meta.specs.Content.{root_name, Part}
 use Rattle.meta.specs.Metadata.{Root, Timestamp, Snapshot, Targets}
 use Rattle.meta.specs.declared.fault.Fault.{Fault}
@@ -11,9 +11,9 @@ use Rattle.meta.specs.declared.fault.Fault.TheVariants.{NotListed, Expired}
 use Rattle.examine.specs.Checks.{Files, is_absent, is_expired, expiry_check, root_part, first_timestamp, next_timestamp, snapshot_part, targets_part}
 use Rattle.rolechain.specs.declared.end.Step.TheVariants as step
 use Rattle.rolechain.specs.declared.end.Step.{Step}
-use Rattle.rolechain.specs.Advance.{State, Advanced, or_stop, with_root, with_newer, with_snapshot, with_targets, listing_of, reading_in, due_root, due_timestamp, due_snapshot, top_targets, following, successor, followed, most_roots, unexpired, root_step, renewed, newer_timestamp, timestamp_step, listed_snapshot, snapshot_step, listed_targets, targets_step, steps, ended, advanced}
+use Rattle.rolechain.specs.Advance.{State, Advanced, or_stop, with_root, with_newer, with_snapshot, with_targets, listing_of, reading_in, due_root, due_timestamp, due_snapshot, top_targets, following, successor, followed, most_roots, unexpired, root_step, newer_timestamp, timestamp_step, listed_snapshot, snapshot_step, listed_targets, targets_step, steps, ended, advanced}
 use Rattle.needs.specs.Laws.{is_short_end}
-use Rattle.needs.specs.Needs.{Need, end_need, is_missing, role_need, snapshot_need, step_need, timestamp_need}
+use Rattle.needs.specs.Needs.{Need, end_need, role_need, snapshot_need, step_need, timestamp_need}
 use Rattle.needs.specs.declared.need.Place.TheVariants.{Metadata}
 use Rattle.needs.proofs.Missing.{is_miss, denied, still, gone, one_then, lacks, passes, expiry-sure, root_part-miss, first_timestamp-miss, next_timestamp-miss, snapshot_part-miss, targets_part-miss}
 
@@ -91,7 +91,7 @@ module _ (files : Files) where
 
     -- ---- the timestamp
 
-    newer-miss : (r : Root) (old : Option (Part Timestamp)) → is_miss (newer_timestamp files now r old) ≡ lacks files (due_timestamp r)
+    pub newer-miss : (r : Root) (old : Option (Part Timestamp)) → is_miss (newer_timestamp files now r old) ≡ lacks files (due_timestamp r)
     newer-miss r None = still (first_timestamp (due_timestamp r) files now) _ (λ p. passes _) ∙ first_timestamp-miss files (due_timestamp r) now
     newer-miss r (Some old) =
         still (next_timestamp (due_timestamp r) old.reading files now) _ (λ newer. one_then (not (is_some newer) && is_expired old.reading.header now) Expired newer refl)
@@ -100,22 +100,30 @@ module _ (files : Files) where
     timestamp_step-tells : (s : State) → Tells files (timestamp_step files now s)
     timestamp_step-tells s =
         tells-step s step.Timestamp (newer_timestamp files now s.root.reading s.timestamp) (with_newer s)
-        (λ miss. (timestamp_need, refl, record {
-          place = refl;
-          needed = refl;
-          absent = gone false (files (codes "timestamp.json")) (sym (newer-miss s.root.reading s.timestamp) ∙ miss);
-        }))
+        (λ miss. (
+          timestamp_need,
+          refl,
+          record {
+            place = refl;
+            needed = refl;
+            absent = gone false (files (codes "timestamp.json")) (sym (newer-miss s.root.reading s.timestamp) ∙ miss);
+          },
+        ))
 
     -- ---- the snapshot
 
     snapshot-tells : (r : Root) (old : Option Snapshot) (t : Option (Part Timestamp)) → is_miss (or_refuse (reading_in t) NotListed >>= λ t. snapshot_part (due_snapshot r t.snapshot) old files now) ≡ true
         → IsTold files (option_map (λ t. snapshot_need r t.reading.snapshot) t)
     snapshot-tells r old None miss = never _ (denied (Part Snapshot) NotListed refl) miss
-    snapshot-tells r old (Some t) miss = (snapshot_need r t.reading.snapshot, refl, record {
-      place = refl;
-      needed = refl;
-      absent = gone false _ (sym (snapshot_part-miss files (due_snapshot r t.reading.snapshot) old now) ∙ miss);
-    })
+    snapshot-tells r old (Some t) miss = (
+      snapshot_need r t.reading.snapshot,
+      refl,
+      record {
+        place = refl;
+        needed = refl;
+        absent = gone false _ (sym (snapshot_part-miss files (due_snapshot r t.reading.snapshot) old now) ∙ miss);
+      },
+    )
 
     snapshot_step-tells : (s : State) → Tells files (snapshot_step files now s)
     snapshot_step-tells s = tells-step s step.Snapshot (listed_snapshot files now s) (with_snapshot s) (snapshot-tells s.root.reading (reading_in s.snapshot) s.timestamp)
@@ -125,11 +133,15 @@ module _ (files : Files) where
     targets-tells : (r : Root) (n : Option (Part Snapshot)) → is_miss (or_refuse (reading_in n) NotListed >>= λ n. targets_part (top_targets r n) files now) ≡ true
         → IsTold files (option_map (λ n. role_need r n.reading (codes "targets")) n)
     targets-tells r None miss = never _ (denied (Part Targets) NotListed refl) miss
-    targets-tells r (Some n) miss = (role_need r n.reading (codes "targets"), refl, record {
-      place = refl;
-      needed = refl;
-      absent = gone (is_absent (listing_of (codes "targets") n.reading)) _ (sym (targets_part-miss files (top_targets r n.reading) now) ∙ miss);
-    })
+    targets-tells r (Some n) miss = (
+      role_need r n.reading (codes "targets"),
+      refl,
+      record {
+        place = refl;
+        needed = refl;
+        absent = gone (is_absent (listing_of (codes "targets") n.reading)) _ (sym (targets_part-miss files (top_targets r n.reading) now) ∙ miss);
+      },
+    )
 
     targets_step-tells : (s : State) → Tells files (targets_step files now s)
     targets_step-tells s = tells-step s step.Targets (listed_targets files now s) (with_targets s) (targets-tells s.root.reading s.snapshot)

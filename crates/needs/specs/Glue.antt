@@ -1,5 +1,5 @@
 -- Names that are collected, for the contracts of private functions.
-use Rattle.std.specs.Prelude.{◌≡◌, ℕ, List, Bool, true, false, bytes_eq, ⊤, String}
+use Rattle.std.specs.Prelude.{◌≡◌, ℕ, List, true, false, bytes_eq, ⊤, String}
 use Rattle.std.specs.BTreeMap.{BTreeMap}
 use Rattle.std.specs.declared.alloc.Global.{Global}
 use Rattle.needs.specs.Needs.{is_in, is_needed}

@@ -6,7 +6,7 @@ use Rattle.examine.specs.Checks.{target_names}
 use Rattle.deleg.specs.declared.accepted.Search.{Search}
 use Rattle.deleg.specs.declared.found.Found.TheVariants.{RoleRefused}
 use Rattle.deleg.specs.declared.found.Found.{Found}
-use Rattle.needs.specs.Needs.{Course, End, Files, Names, Need, Ready, Request, Stopped, Target, course, is_missing, target_of}
+use Rattle.needs.specs.Needs.{Course, End, Files, Names, Need, Ready, Request, State, Stopped, course, is_missing, target_of}
 use Rattle.needs.specs.declared.need.Place.TheVariants.{Metadata, Targets}
 use Rattle.needs.specs.declared.need.Place.{Place}
 
@@ -71,3 +71,10 @@ pub record IsMore (some : Files) (all : List Need) (more : Files) : Type 0 where
 -- no other files can change the course
 abbrev pub IsSettled : Request → Files → List Need → Type 0
 IsSettled r some all = (more : Files) → IsMore some all more → course r more ≡ course r some
+
+-- # What a course began with.
+
+-- the course of the request, from this state and on these files
+pub record IsCourseOf (r : Request) (before : State) (c : Course) (files : Files) : Type 0 where
+  pub begun : before ≡ r.trusted
+  pub same : c ≡ course r files

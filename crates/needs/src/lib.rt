@@ -2,13 +2,16 @@
 //! (TUF 1.0 sections 5.3 to 5.7).
 //!
 //! - [`needs`] returns them, each a [`Need`], in the order in which the workflow looks them up.
+//! - [`names_of`] makes a map of the names of target files.
 #![tactic(auto)]
 
 mod list;
+mod names;
 mod need;
 mod once;
 mod searches;
 mod steps;
 
 pub use list::needs;
+pub use names::names_of;
 pub use need::{Need, Place};

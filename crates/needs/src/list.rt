@@ -1,7 +1,9 @@
 //! All files that are absent.
 
-ghost use Rattle.std.specs.Prelude.{◌≡◌, IfOk, OnOk, fold, map};
+ghost use Rattle.std.specs.Prelude.{◌≡◌, IfOk, IsTrue, OnOk, fold, map};
+ghost use Rattle.examine.specs.Checks.{file_in};
 ghost use Rattle.needs.specs.Glue.{IsOnce};
+ghost use Rattle.needs.specs.Laws.{AreAbsent, HasEnough, IsCourseOf, IsSettled, are_optional};
 ghost use Rattle.needs.specs.Needs as spec;
 ghost use Rattle.needs.specs.Needs.{is_in};
 
@@ -23,6 +25,10 @@ use std::collections::BTreeMap;
 /// - The file of each role that a search was refused.
 /// - The file of each target that a search found, under the first of its names, if none is there.
 ///
+/// If all of them are optional, no step and no search ended because a file is missing, and each
+/// target that was found has its file, unless it has no name to look for. If the metadata files
+/// among them are missing for good, no other files can change the course.
+///
 /// Fails only if out of memory.
 pub fn needs<V>(
     alloc: Global,
@@ -32,6 +38,29 @@ pub fn needs<V>(
     targets: &BTreeMap<String, V>,
 ) -> Result<Vec<Need>, NoMemory>
     ensures needs { IfOk result (λ all. all.items ≡ spec.needs before.now.root.reading course.now
+        (is_in metadata.now) (is_in targets.now)) }
+    ensures absent { (r : spec.Request)
+        → IsCourseOf r before.now course.now (file_in metadata.now) → IfOk result (λ all.
+        AreAbsent (is_in metadata.now) (is_in targets.now) all.items) }
+    ensures enough { (r : spec.Request)
+        → IsCourseOf r before.now course.now (file_in metadata.now) → IfOk result (λ all.
+        IsTrue (are_optional all.items) → HasEnough (is_in targets.now) course.now) }
+    ensures settled { (r : spec.Request)
+        → IsCourseOf r before.now course.now (file_in metadata.now) → IfOk result (λ all.
+        IsSettled r (file_in metadata.now) all.items) }
+{
+    listed(alloc, before, course, metadata, targets)
+}
+
+/// Returns them: the next root, the other metadata files, and the files of targets.
+fn listed<V>(
+    alloc: Global,
+    before: &Trusted,
+    course: &Course,
+    metadata: &BTreeMap<String, Vec<u8>>,
+    targets: &BTreeMap<String, V>,
+) -> Result<Vec<Need>, NoMemory>
+    ensures { IfOk result (λ all. all.items ≡ spec.needs before.now.root.reading course.now
         (is_in metadata.now) (is_in targets.now)) }
 {
     let mut all = next_root(alloc, before, course, metadata)?;

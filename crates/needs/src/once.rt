@@ -1,13 +1,14 @@
 //! Files in the order in which they were looked up, each name once.
 
-ghost use Rattle.std.specs.Prelude.{◌≡◌, [], OnOk, Some, string_bytes};
-ghost use Rattle.needs.specs.Glue.{IsOnce, Puts};
+ghost use Rattle.std.specs.Prelude.{◌≡◌, [], OnOk, Some};
+ghost use Rattle.needs.specs.Glue.{IsOnce};
 ghost use Rattle.needs.specs.Needs as spec;
 ghost use Rattle.needs.specs.Needs.{is_in};
 
+use crate::names::put;
 use crate::need::Need;
 use cjson::NoMemory;
-use std::alloc::{AllocError, Global};
+use std::alloc::Global;
 use std::collections::BTreeMap;
 
 /// The files so far, and their names.
@@ -52,14 +53,5 @@ fn note_need(alloc: Global, once: &mut Once, need: Need) -> Result<(), NoMemory>
     }
     put(&mut once.names, String::from_str(alloc, name)?)?;
     once.needs.push(need)?;
-    Ok(())
-}
-
-/// Adds a name.
-#[tactic(auto, using(std::proofs::lemmas::Map::Text::text_keys))]
-fn put(names: &mut BTreeMap<String, ()>, name: String) -> Result<(), AllocError>
-    ensures { OnOk result (Puts (string_bytes name) names.old names.new) }
-{
-    names.insert(name, ())?;
     Ok(())
 }

@@ -15,7 +15,7 @@ use Rattle.embed.specs.declared.rows.VerdictRow.{VerdictRow}
 use Rattle.embed.specs.declared.verifying.Verification.{Verification}
 use Rattle.tufcheck_c.specs.declared.answer.Answer.{Answer}
 use Rattle.tufcheck_c.specs.declared.listed.Listed.{Listed}
-use Rattle.tufcheck_c.specs.declared.needs.Needs.{Needs}
+use Rattle.tufcheck_c.specs.declared.fetching.Needs.{Needs}
 
 -- # The result of a call.
 

@@ -4,14 +4,14 @@
 #![tactic(auto)]
 
 mod answer;
+mod fetching;
 mod first;
 mod listed;
-mod needs;
 mod room;
 mod version;
 
 pub use answer::{Answer, tufcheck_verify};
+pub use fetching::{Needs, tufcheck_next};
 pub use first::tufcheck_first;
 pub use listed::{Listed, tufcheck_list};
-pub use needs::{Needs, tufcheck_next};
 pub use version::tufcheck_version;

@@ -86,7 +86,7 @@ impl<S: System, M: Folder, T: Folder + Sync, W: Write> Host<S, Folders<M, T>, W>
 }
 
 /// The same start with these wanted paths.
-fn wanting<'a>(start: Start<'a>, wanted: &'a [String]) -> Start<'a>
+pub(crate) fn wanting<'a>(start: Start<'a>, wanted: &'a [String]) -> Start<'a>
     ensures trusted { result.trusted ≡ start.entry.trusted }
     ensures moment { result.moment ≡ start.entry.moment }
     ensures wanted { result.wanted.now ≡ wanted.now }
@@ -100,7 +100,7 @@ fn wanting<'a>(start: Start<'a>, wanted: &'a [String]) -> Start<'a>
 /// The paths of these names, which are consistent if the root says so that is trusted once the
 /// metadata was examined. That is done without wanted paths here, and again with them after it,
 /// with the same result.
-fn wanted_of<R: Threads + Wait + Sync>(
+pub(crate) fn wanted_of<R: Threads + Wait + Sync>(
     rt: &R,
     alloc: Global,
     start: &Start<'_>,

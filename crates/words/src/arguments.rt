@@ -4,6 +4,9 @@ use clap::builder::ValueParser;
 use clap::{Arg, ArgAction};
 use std::alloc::{AllocError, Global};
 
+/// The values of `--only`.
+const FOLDERS: &[&str] = &["metadata", "targets"];
+
 /// Returns a required argument.
 pub fn file<'a>(alloc: Global, name: &'a str, help: &'a str) -> Arg<'a> {
     Arg::new(alloc, name).required(true).help(help)
@@ -55,6 +58,22 @@ pub fn every_option<'a>(alloc: Global) -> Result<Arg<'a>, AllocError> {
         .conflicts_with("paths-from")?
         .conflicts_with("null")?
         .conflicts_with("PATH")
+}
+
+/// Returns the option `--into`.
+pub fn into_option<'a>(alloc: Global) -> Arg<'a> {
+    Arg::new(alloc, "into").long("into").value_name("DIR").help(
+        "The folder below which each accepted target is copied, under its path",
+    )
+}
+
+/// Returns the option `--only`.
+pub fn only_option<'a>(alloc: Global) -> Arg<'a> {
+    Arg::new(alloc, "only")
+        .long("only")
+        .value_name("FOLDER")
+        .value_parser(FOLDERS)
+        .help("Print the files of that folder alone")
 }
 
 /// Returns the option `--limit`.

@@ -1,11 +1,11 @@
 //! The commands.
 
 use crate::arguments::{
-    before_option, every_option, file, keep_option, limit_option, now_option, null_option, option,
-    paths_from_option, several, workers_option,
+    before_option, every_option, file, into_option, keep_option, limit_option, now_option,
+    null_option, only_option, option, paths_from_option, several, workers_option,
 };
 use crate::texts::{
-    HELP_END, INIT_END, MAKE_END, METADATA, REPLAY_END, SHOW_END, TARGETS, VERIFY_END,
+    HELP_END, INIT_END, MAKE_END, METADATA, NEXT_END, REPLAY_END, SHOW_END, TARGETS, VERIFY_END,
 };
 use crate::version::VERSION;
 use clap::{Arg, ArgMatches, Command, Error};
@@ -27,6 +27,7 @@ fn tufcheck<'a>(alloc: Global) -> Result<Command<'a>, AllocError> {
         .subcommand(init_command(alloc)?)?
         .subcommand(verify_command(alloc)?)?
         .subcommand(replay_command(alloc)?)?
+        .subcommand(next_command(alloc)?)?
         .subcommand(show_command(alloc)?)?
         .subcommand(make_command(alloc)?)
 }
@@ -53,6 +54,7 @@ fn verify_command<'a>(alloc: Global) -> Result<Command<'a>, AllocError> {
         paths_from_option(alloc),
         null_option(alloc)?,
         every_option(alloc)?,
+        into_option(alloc),
         option(alloc, "out", "STATE", "Where the new state is written"),
         several(alloc, "PATH", "The wanted targets").num_args(0..),
     ]?;
@@ -75,6 +77,24 @@ fn replay_command<'a>(alloc: Global) -> Result<Command<'a>, AllocError> {
         option(alloc, "out", "STATE", "Where the last state is written"),
         file(alloc, "PATH", "The wanted target"),
         repositories.required(true).num_args(1..),
+    ]?;
+    command.args(arguments)
+}
+
+fn next_command<'a>(alloc: Global) -> Result<Command<'a>, AllocError> {
+    let command = Command::new(alloc, "next")
+        .about("Prints the names of the files that have to be fetched next")
+        .after_help(NEXT_END);
+    let arguments = vec![in alloc;
+        option(alloc, "state", "STATE", "The trusted state"),
+        option(alloc, "metadata", "DIR", METADATA),
+        option(alloc, "targets", "DIR", TARGETS),
+        now_option(alloc),
+        limit_option(alloc),
+        paths_from_option(alloc),
+        null_option(alloc)?,
+        only_option(alloc),
+        several(alloc, "PATH", "The wanted targets").num_args(0..),
     ]?;
     command.args(arguments)
 }

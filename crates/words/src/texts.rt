@@ -11,6 +11,7 @@ pub const HELP_END: &str = "\
 EXAMPLES:
   tufcheck init 1.root.json --out state
   tufcheck verify --state state --metadata repo/metadata --targets repo/targets --out state abc.txt
+  tufcheck next --state state --metadata repo/metadata --targets repo/targets abc.txt
   tufcheck show state
   tufcheck make first.script repo
 
@@ -48,6 +49,10 @@ there is --null; after the last one it may be missing. A path that is empty or i
 error.
 With --every each file of the targets folder is wanted, and PATH and --paths-from may not be given:
 each path once, in byte order. Where names are consistent, a path is the name without `HASH.`.
+With --into each accepted target is copied below DIR, under its path, from the very bytes that were
+checked. A copy takes its place in one step, after the state was written and before the lines are
+printed. A wanted path that is empty or absolute, or has an empty part, `.` or `..`, is then an
+error.
 Workers check signatures in advance, and then digest the target files. For them at most 4 MB of
 metadata are read twice. Lines, state and status are the same for any number of workers.
 
@@ -56,6 +61,7 @@ EXAMPLES:
   tufcheck verify --state old --metadata m --targets t --now 2026-01-01T00:00:00Z --out new -- -c
   tufcheck verify --state old --metadata m --targets t --paths-from list --out new
   tufcheck verify --state old --metadata m --targets t --every --out new
+  tufcheck verify --state state --metadata m --targets t --into new --out state abc.txt
 
 EXIT STATUS:
   0  all wanted targets were accepted
@@ -82,6 +88,24 @@ EXIT STATUS:
   0  the wanted target was accepted
   1  the wanted target was refused
   2  the last update stopped
+  3  the command line, a listed path, the moment or the state file was refused
+  4  the file of paths, a folder, the clock, the output or memory failed";
+
+/// The end of the help of `next`.
+pub const NEXT_END: &str = "\
+It prints, in the order of `verify`, a line for each file that `verify` would look up and not find,
+  maybe NAME MOST         the next root, which may be absent for good
+  need NAME MOST          any other file
+with the most bytes that the file may have. Names of metadata files come first, and then those of
+target files. Each name comes once. It stores nothing, and reads no target file.
+Fetch the files of new lines, and run it again, until no line is new. Then run `verify`.
+
+EXAMPLES:
+  tufcheck next --state state --metadata m --targets t abc.txt
+  tufcheck next --state state --metadata m --targets t --only targets --paths-from list
+
+EXIT STATUS:
+  0  the lines were printed, or there are none
   3  the command line, a listed path, the moment or the state file was refused
   4  the file of paths, a folder, the clock, the output or memory failed";
 

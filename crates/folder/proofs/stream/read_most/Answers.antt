@@ -1,5 +1,4 @@
-use Rattle.std.proofs.Common.{arith, sym, subst, take, length}
-use Rattle.std.specs.Io.KnownBytes.{Consumes}
+use Rattle.std.proofs.Common.{arith}
 use Rattle.folder.proofs.Streaming.{none_read, one_read}
 use Rattle.folder.proofs.stream.read_most.Goals as goal
 use Rattle.folder.proofs.stream.read_most.Goals.{in-Ok, in-Err+else-ne}

@@ -1,8 +1,8 @@
-use Rattle.std.proofs.Common.{◌≡◌, ◌∙◌, Option, Some, arith, refl, sym, subst, string_bytes, slice_index_or, slice_set, length}
+use Rattle.std.proofs.Common.{◌∙◌, arith, refl, sym, subst, string_bytes, slice_set}
 use Rattle.std.proofs.lemmas.List.{get_or-set_same, get_or-set_other, length-set}
 use Rattle.lanes.specs.Lanes.{lane}
 use Rattle.lanes.specs.declared.pending.Pending.{Pending}
-use Rattle.folder.specs.Streams.{AreLanes, IsStream}
+use Rattle.folder.specs.Streams.{IsStream}
 use Rattle.folder.proofs.Laning.{in_lane, lane_set}
 use Rattle.folder.proofs.together.go_on.Goals as goal
 

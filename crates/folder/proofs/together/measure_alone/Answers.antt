@@ -1,4 +1,4 @@
-use Rattle.std.proofs.Common.{◌≡◌, string_bytes, ap, sym, subst}
+use Rattle.std.proofs.Common.{◌≡◌, string_bytes, subst}
 use Rattle.folder.specs.Measures.{measure_of}
 use Rattle.folder.specs.Streams.{IsOpened}
 use Rattle.folder.proofs.Laning.{known_by}

@@ -1,4 +1,4 @@
-use Rattle.std.proofs.Common.{All, subst, sym}
+use Rattle.std.proofs.Common.{subst, sym}
 use Rattle.std.proofs.lemmas.List.Elements.{All-nil}
 use Rattle.folder.specs.Streams.{AreMeasured}
 use Rattle.folder.proofs.together.measure_jobs.Goals as goal

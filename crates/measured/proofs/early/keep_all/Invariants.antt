@@ -1,4 +1,4 @@
-use Rattle.std.proofs.Common.{ℕ, List, Bool, All}
+use Rattle.std.proofs.Common.{ℕ, List, Bool}
 use Rattle.std.specs.Vec.Iter.{into_iter_items}
 use Rattle.measured.specs.Known.{AreDone, IsKnown}
 use Rattle.measured.proofs.early.keep_all.Given as goal

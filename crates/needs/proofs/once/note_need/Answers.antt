@@ -1,5 +1,4 @@
-use Rattle.needs.proofs.Laws.{are_absent}
-use Rattle.std.proofs.Common.{◌≡◌, ap, sym, ◌∙◌, subst}
+use Rattle.std.proofs.Common.{ap, sym, ◌∙◌, subst}
 use Rattle.needs.specs.Glue.{Puts}
 use Rattle.needs.specs.Needs.{is_in, is_needed}
 use Rattle.needs.proofs.Lists.{grows, one_more, stays}

@@ -43,7 +43,8 @@ fn write(needs: &mut Needs, missing: &Missing) -> i32
     requires counts { spec.AreNeeds missing.now.summary missing.now.rows.items
         missing.now.names.items }
     requires range { missing.now.status ≤ 2 }
-    ensures written { spec.IfStatus result (λ status. spec.AreWritten missing.now status needs.new) }
+    ensures written { spec.IfStatus result
+        (λ status. spec.AreWritten missing.now status needs.new) }
     ensures summary { needs.new.summary ≡ missing.now.summary }
     ensures cases { (result ≡ pos missing.now.status)
         ⊎ ((result ≡ spec.no_room) × (spec.has_needs_room needs.new ≡ false)) }

@@ -1,0 +1,248 @@
+//! The end of a course, with copies of the files that its searches found.
+
+ghost use Rattle.std.specs.Prelude.{◌≡◌, ◌≤◌, ◌⊎◌, true, List, ℕ, Bool, All, IfErr, IfOk, IfSome};
+ghost use Rattle.std.specs.Prelude.{OnOk, is_some, map, string_bytes};
+ghost use Rattle.std.specs.BTreeMap.{get_by_text};
+ghost use Rattle.folder.specs.Folders.{HasFailed};
+ghost use Rattle.measured.specs.Closed.{IsClosed, is_found, is_found_by};
+ghost use Rattle.measured.specs.Copied.{AreCopiesFor, HasContentOf, IsCopyFor, IsMeasuredInto};
+ghost use Rattle.measured.specs.Known.{IsCovered, IsKnown, StaysKnown};
+
+use crate::fitting::fits;
+use crate::known::{Known, Wanted, entry_of, named, place, put};
+use crate::need::widened;
+use crate::reading::{is_measured, need_of, note_all, read_all, target_of};
+use crate::store::Measured;
+use copies::Destination;
+use cycle::{Course, Outcome, Search, Target};
+use failure::{Failure, of_io};
+use folder::{Folder, Measure, Need};
+use std::alloc::Global;
+
+/// An outcome, and for each wanted path, by position, a temporary file with the bytes of its
+/// target. There is none if the target isn't good, or if an earlier path has it.
+#[derive(Drop)]
+pub struct Copied<K> {
+    pub outcome: Outcome,
+    pub copies: Vec<Option<K>>,
+}
+
+/// Ends a course as [`close`](crate::close) does, on one thread, and copies each file that a search
+/// found to a temporary file of `to` while it is read. A copy is left only if it has the length and
+/// the digests of the target that the search found.
+///
+/// Fails if the folder fails, with `Output` if a copy can't be written, or if out of memory.
+pub fn close_into<F: Folder, D: Destination>(
+    alloc: Global,
+    course: Course,
+    folder: &mut F,
+    names: Vec<String>,
+    to: &mut D,
+) -> Result<Copied<D::Temporary>, Failure>
+    requires listed { F.lists folder.old (map string_bytes names.items) ≡ true }
+    ensures outcome { IfOk result
+        (λ c. IsClosed (F.lists folder.old) (F.holds folder.old) course c.outcome) }
+    ensures state { IfOk result (λ c. c.outcome.trusted ≡ course.trusted) }
+    ensures copies { IfOk result
+        (λ c. AreCopiesFor D.Temporary.took c.copies.items course.searches) }
+    ensures failed { IfErr result (λ f. f ≡ Failure.Folder
+        → HasFailed (F.failures folder.old) (F.failures folder.new)) }
+    ensures refused { IfErr result
+        (λ f. (f ≡ Failure.Memory) ⊎ (f ≡ Failure.Folder) ⊎ (f ≡ Failure.Output)) }
+    ensures counts { F.failures folder.old ≤ F.failures folder.new }
+    ensures same_lists { F.lists folder.new ≡ F.lists folder.old }
+    ensures same_bytes { F.holds folder.new ≡ F.holds folder.old }
+    ensures kept { D.keeps to.new ≡ D.keeps to.old }
+{
+    let (known, copies) = measured_into(alloc, &course, folder, names, to)?;
+    let store = Measured {
+        alloc,
+        known: &known,
+    };
+    let outcome = course.close(alloc, &store)?;
+    Ok(Copied { outcome, copies })
+}
+
+/// Measures and copies the files that the searches of the course found.
+fn measured_into<F: Folder, D: Destination>(
+    alloc: Global,
+    course: &Course,
+    folder: &mut F,
+    names: Vec<String>,
+    to: &mut D,
+) -> Result<(Known, Vec<Option<D::Temporary>>), Failure>
+    ensures known { IfOk result (λ x. IsKnown (map string_bytes names.items)
+        (F.holds folder.old)
+        (is_found course.now.trusted.root.reading.consistent course.now.searches) x.0) }
+    ensures covered { IfOk result (λ x. All
+        (IsCovered x.0 course.now.trusted.root.reading.consistent) course.now.searches) }
+    ensures copies { IfOk result
+        (λ x. AreCopiesFor D.Temporary.took x.1.items course.now.searches) }
+    ensures failed { IfErr result (λ f. f ≡ Failure.Folder
+        → HasFailed (F.failures folder.old) (F.failures folder.new)) }
+    ensures refused { IfErr result
+        (λ f. (f ≡ Failure.Memory) ⊎ (f ≡ Failure.Folder) ⊎ (f ≡ Failure.Output)) }
+    ensures counts { F.failures folder.old ≤ F.failures folder.new }
+    ensures same_lists { F.lists folder.new ≡ F.lists folder.old }
+    ensures same_bytes { F.holds folder.new ≡ F.holds folder.old }
+    ensures kept { D.keeps to.new ≡ D.keeps to.old }
+{
+    let consistent = course.has_consistent_names();
+    let searches = course.searches();
+    let mut known = named(alloc, names)?;
+    note_all(alloc, searches, consistent, &mut known)?;
+    let copies = copy_all(alloc, folder, searches, consistent, &mut known, to)?;
+    // What is needed was read by now.
+    read_all(alloc, folder, searches, consistent, &mut known)?;
+    Ok((known, copies))
+}
+
+/// Reads each file that a search found, once, and copies it. Returns a copy for each search, by
+/// position, if its file is the target that it found and wasn't read before.
+fn copy_all<F: Folder, D: Destination>(
+    alloc: Global,
+    folder: &mut F,
+    searches: &[Option<Search>],
+    consistent: bool,
+    known: &mut Known,
+    to: &mut D,
+) -> Result<Vec<Option<D::Temporary>>, Failure>
+    ensures known { OnOk result ((names : List (List ℕ))
+        → StaysKnown names (F.holds folder.old) (is_found consistent searches.now)
+        known.old known.new) }
+    ensures copies { IfOk result
+        (λ copies. AreCopiesFor D.Temporary.took copies.items searches.now) }
+    ensures failed { IfErr result (λ f. f ≡ Failure.Folder
+        → HasFailed (F.failures folder.old) (F.failures folder.new)) }
+    ensures refused { IfErr result
+        (λ f. (f ≡ Failure.Memory) ⊎ (f ≡ Failure.Folder) ⊎ (f ≡ Failure.Output)) }
+    ensures counts { F.failures folder.old ≤ F.failures folder.new }
+    ensures same_lists { F.lists folder.new ≡ F.lists folder.old }
+    ensures same_bytes { F.holds folder.new ≡ F.holds folder.old }
+    ensures kept { D.keeps to.new ≡ D.keeps to.old }
+{
+    let mut copies = Vec::new(alloc);
+    for search in searches {
+        let copy = copy_one(alloc, folder, search, consistent, known, to)?;
+        copies.push(copy)?;
+    }
+    Ok(copies)
+}
+
+/// Reads and copies the file that the search found, if it found one that is there and wasn't read.
+fn copy_one<F: Folder, D: Destination>(
+    alloc: Global,
+    folder: &mut F,
+    search: &Option<Search>,
+    consistent: bool,
+    known: &mut Known,
+    to: &mut D,
+) -> Result<Option<D::Temporary>, Failure>
+    ensures known { (names : List (List ℕ)) (found : List ℕ → Bool)
+        → ((name : List ℕ) → is_found_by consistent name search.now ≡ true → found name ≡ true)
+        → StaysKnown names (F.holds folder.old) found known.old known.new }
+    ensures copy { IfOk result (λ copy. IsCopyFor D.Temporary.took copy search.now) }
+    ensures failed { IfErr result (λ f. f ≡ Failure.Folder
+        → HasFailed (F.failures folder.old) (F.failures folder.new)) }
+    ensures refused { IfErr result
+        (λ f. (f ≡ Failure.Memory) ⊎ (f ≡ Failure.Folder) ⊎ (f ≡ Failure.Output)) }
+    ensures counts { F.failures folder.old ≤ F.failures folder.new }
+    ensures same_lists { F.lists folder.new ≡ F.lists folder.old }
+    ensures same_bytes { F.holds folder.new ≡ F.holds folder.old }
+    ensures kept { D.keeps to.new ≡ D.keeps to.old }
+{
+    let Some(target) = target_of(search) else {
+        return Ok(None);
+    };
+    let Some(name) = place(alloc, known, consistent, target)? else {
+        return Ok(None);
+    };
+    copy_file(alloc, folder, name, target, known, to)
+}
+
+/// Reads and copies the file of that name, which is there, unless it was read as far as the target
+/// needs it.
+fn copy_file<F: Folder, D: Destination>(
+    alloc: Global,
+    folder: &mut F,
+    name: String,
+    target: &Target,
+    known: &mut Known,
+    to: &mut D,
+) -> Result<Option<D::Temporary>, Failure>
+    requires there { is_some (get_by_text known.old.files (string_bytes name)) ≡ true }
+    ensures known { (names : List (List ℕ)) (found : List ℕ → Bool)
+        → found (string_bytes name) ≡ true
+        → StaysKnown names (F.holds folder.old) found known.old known.new }
+    ensures copy { IfOk result (λ copy. IfSome copy
+        (λ file. HasContentOf (D.Temporary.took file) target.now)) }
+    ensures failed { IfErr result (λ f. f ≡ Failure.Folder
+        → HasFailed (F.failures folder.old) (F.failures folder.new)) }
+    ensures refused { IfErr result
+        (λ f. (f ≡ Failure.Memory) ⊎ (f ≡ Failure.Folder) ⊎ (f ≡ Failure.Output)) }
+    ensures counts { F.failures folder.old ≤ F.failures folder.new }
+    ensures same_lists { F.lists folder.new ≡ F.lists folder.old }
+    ensures same_bytes { F.holds folder.new ≡ F.holds folder.old }
+    ensures kept { D.keeps to.new ≡ D.keeps to.old }
+{
+    let entry = entry_of(known, name.as_str());
+    if is_measured(entry, target) {
+        return Ok(None);
+    }
+    let need = widened(need_of(entry), target);
+    let (measure, file) = measure_file(alloc, folder, name.as_str(), need, to)?;
+    let wanted = Wanted {
+        need,
+        measure: Some(measure),
+    };
+    put(known, name, Some(wanted))?;
+    kept_if(fits(target, need, &measure), to, file)
+}
+
+/// Measures the file of that name, and copies the bytes that are measured to a temporary file.
+fn measure_file<F: Folder, D: Destination>(
+    alloc: Global,
+    folder: &mut F,
+    name: &str,
+    need: Need,
+    to: &mut D,
+) -> Result<(Measure, D::Temporary), Failure>
+    ensures given { IfOk result (λ x.
+        IsMeasuredInto need (F.holds folder.old name.now) (D.Temporary.took x.1) x.0) }
+    ensures failed { IfErr result (λ f. f ≡ Failure.Folder
+        → HasFailed (F.failures folder.old) (F.failures folder.new)) }
+    ensures refused { IfErr result
+        (λ f. (f ≡ Failure.Memory) ⊎ (f ≡ Failure.Folder) ⊎ (f ≡ Failure.Output)) }
+    ensures counts { F.failures folder.old ≤ F.failures folder.new }
+    ensures same_lists { F.lists folder.new ≡ F.lists folder.old }
+    ensures same_bytes { F.holds folder.new ≡ F.holds folder.old }
+    ensures kept { D.keeps to.new ≡ D.keeps to.old }
+{
+    let mut file = match to.begin(alloc) {
+        Ok(file) => file,
+        Err(error) => return Err(of_io(&error, Failure::Output)),
+    };
+    let measure = folder.measure_into(alloc, name, need, &mut file)?;
+    Ok((measure, file))
+}
+
+/// Ends the writing of the temporary file and returns it, or removes it if it isn't to be kept.
+fn kept_if<D: Destination>(
+    is_kept: bool,
+    to: &mut D,
+    mut file: D::Temporary,
+) -> Result<Option<D::Temporary>, Failure>
+    ensures file { IfOk result (λ copy. IfSome copy (λ left. (is_kept ≡ true)
+        × (D.Temporary.took left ≡ D.Temporary.took file))) }
+    ensures refused { IfErr result (λ f. (f ≡ Failure.Memory) ⊎ (f ≡ Failure.Output)) }
+    ensures kept { D.keeps to.new ≡ D.keeps to.old }
+{
+    if !is_kept {
+        to.discard(file);
+        return Ok(None);
+    }
+    match to.finish(&mut file) {
+        Ok(()) => Ok(Some(file)),
+        Err(error) => Err(of_io(&error, Failure::Output)),
+    }
+}

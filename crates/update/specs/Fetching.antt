@@ -1,0 +1,88 @@
+-- The files that have to be fetched next, printed.
+use Rattle.std.specs.Bool.{⊤}
+use Rattle.std.specs.Io.KnownBytes.{Appends}
+use Rattle.std.specs.Prelude.{◌≡◌, ◌⊎◌, ℕ, List, [], ◌∷◌, Bool, true, Option, is_some, option_map}
+use Rattle.examine.specs.Checks.{file_in}
+use Rattle.failure.specs.declared.failure.Failure.{Failure}
+use Rattle.failure.specs.declared.failure.Failure.TheVariants.{Now, State, Clock, Memory}
+use Rattle.folder.specs.Seen.{is_named}
+use Rattle.needs.specs.Needs.{needs}
+use Rattle.needs.specs.declared.need.Need.{Need}
+use Rattle.needs.specs.declared.need.Place.{Place}
+use Rattle.report.specs.Fetching.{needs_text}
+use Rattle.rolechain.specs.Advance as chain
+use Rattle.update.specs.Causes.{AreWrong, IsCauseFrom, IsNoState}
+use Rattle.update.specs.Moments.{IsMomentOf, IsNoMoment, Moment}
+use Rattle.update.specs.Runs.{AreMetadata, Files, IsRead, Loaded, Request, course, request}
+pub use Rattle.update.specs.World.{Mirror, World}
+use Rattle.update.specs.declared.fetching.Wants.{Wants}
+
+-- # What it begins with.
+
+abbrev pub text_of : Wants → Option (List ℕ)
+text_of w = option_map (λ t. t.now) w.moment
+
+-- what the words request, as a verification has it, with a state and a moment that were read
+abbrev pub request_of : Wants → chain.State → Moment → Request
+request_of w trusted moment = request trusted moment w.wanted.items w.limit
+
+-- The moment and the trusted state that the words name were read, whether or not another run has
+-- locked the state, and more follows from them.
+pub record Starts (w : Wants) (old : World) (follows : chain.State → Moment → Type 0) : Type 0 where
+  pub trusted : chain.State
+  pub moment : Moment
+  pub read : IsRead (old.gives w.state.now) trusted
+  pub of_moment : IsMomentOf old.shows (text_of w) moment
+  pub then : follows trusted moment
+
+-- # What it prints.
+
+-- the files that the course of the request looked up and found absent, if these are the metadata
+-- files, and the names of the target files
+abbrev pub needs_on : Request → Files → List (List ℕ) → List Need
+needs_on r metadata names =
+    needs r.trusted.root.reading (course r metadata) (λ name. is_some (metadata name))
+    (is_named names)
+
+-- their lines were printed, by the folders of a repository
+pub record IsListedOn (mirror : Mirror) (r : Request) (only : Option Place)
+    (old new : Option (List ℕ)) : Type 0 where
+  pub metadata : Loaded
+  pub in_metadata : AreMetadata mirror.metadata.lists mirror.metadata.holds metadata
+  pub names : List (List ℕ)
+  pub listed : mirror.targets.lists names ≡ true
+  pub lines : Appends old new (needs_text only (needs_on r (file_in metadata) names))
+
+-- the same on the only repository
+abbrev pub IsListed : List Mirror → Request → Option Place → Option (List ℕ) → Option (List ℕ)
+    → Type 0
+IsListed (m ∷ []) r only old new = IsListedOn m r only old new
+IsListed _ r only old new = ⊥
+
+abbrev pub IsNext : Wants → World → World → Type 0
+IsNext w old new = Starts w old (λ trusted moment.
+    IsListed old.mirrors (request_of w trusted moment) w.only old.printed new.printed)
+
+-- # Why it fails.
+
+-- the moment was read, and the state can't be
+pub record HasNoState (w : Wants) (old : World) : Type 0 where
+  pub moment : Moment
+  pub of_moment : IsMomentOf old.shows (text_of w) moment
+  pub no_state : IsNoState (old.gives w.state.now) (old.refuses w.state.now)
+
+abbrev pub IsCauseToStart : Wants → World → Failure → Type 0
+IsCauseToStart w old Now = IsNoMoment (text_of w) Now
+IsCauseToStart w old Clock = IsNoMoment (text_of w) Clock
+IsCauseToStart w old State = HasNoState w old
+IsCauseToStart w old Memory = ⊤
+IsCauseToStart w old _ = ⊥
+
+-- the number of roles is out of its range, a folder failed, or there is no memory or no output
+abbrev pub IsCauseToList : ℕ → List Mirror → List Mirror → Failure → Type 0
+IsCauseToList limit = IsCauseFrom (AreWrong limit 0)
+
+abbrev pub IsCauseOfNext : Wants → World → World → Failure → Type 0
+IsCauseOfNext w old new f =
+    IsCauseToStart w old f
+    ⊎ Starts w old (λ _ _. IsCauseToList w.limit old.mirrors new.mirrors f)

@@ -1,0 +1,42 @@
+# The loop of an updater, for the scripts beside it. They define a function
+#   fetch FOLDER NAME MOST
+# which writes at most MOST bytes of the file of that name to standard output, where FOLDER is
+# `metadata` or `targets`, and fails if there is no such file.
+
+# update STATE DIR PATH..: fetches what a verification looks up into the folders DIR/metadata and
+# DIR/targets, and verifies it. The status is that of `tufcheck verify`.
+update() {
+    state=$1 dir=$2
+    shift 2
+    mkdir -p "$dir/metadata" "$dir/targets"
+    work=$(mktemp -d) || return 4
+    : >"$work/tried"
+    for folder in metadata targets; do
+        while tufcheck next --state "$state" --metadata "$dir/metadata" \
+            --targets "$dir/targets" --only "$folder" -- "$@" >"$work/lines" &&
+            grep -vxFf "$work/tried" "$work/lines" >"$work/new"; do
+            cat "$work/new" >>"$work/tried"
+            while read -r word rest; do
+                put "$word" "${rest% *}" "${rest##* }"
+            done <"$work/new"
+        done
+    done
+    rm -rf "$work"
+    tufcheck verify --state "$state" --metadata "$dir/metadata" --targets "$dir/targets" \
+        --out "$state" -- "$@"
+}
+
+# put WORD QUOTED MOST: fetches a file to its place. A name that isn't one of a file below the
+# folder is left out, and so is one with bytes that are escaped.
+put() {
+    name=${2#\"} name=${name%\"}
+    case "/$name/" in
+        *'\'* | *//* | */./* | */../*) echo "left out: $2" >&2 && return ;;
+    esac
+    if fetch "$folder" "$name" "$3" >"$work/file"; then
+        mkdir -p "$(dirname "$dir/$folder/$name")"
+        mv "$work/file" "$dir/$folder/$name"
+    elif [ "$1" = need ]; then
+        echo "not there: $2" >&2
+    fi
+}
