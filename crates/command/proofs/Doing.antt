@@ -35,12 +35,12 @@ every_verified_of (Err f) terms m ns old new is = tt
 
 pub verified_into_of : (r : Result ℕ Failure) (terms : Terms) (m : Mirror) (ns : List Mirror) (old new : Option (List ℕ))
     → IfOk r (IsVerifiedInto terms (system_with (m ∷ []) old) (system_with ns new) (λ _ _. true) (λ _ _. true)) → IfOk r (IsVerifiedIntoOf terms old new)
-verified_into_of (Ok status) terms m ns old new is = record { mirror = m; then = is }
+verified_into_of (Ok status) terms m ns old new is = record { mirror = m; afterwards = ns; then = is }
 verified_into_of (Err f) terms m ns old new is = tt
 
 pub every_verified_into_of : (r : Result ℕ Failure) (terms : Terms) (m : Mirror) (ns : List Mirror) (old new : Option (List ℕ))
     → IfOk r (IsEveryVerifiedInto terms (system_with (m ∷ []) old) (system_with ns new) (λ _ _. true) (λ _ _. true)) → IfOk r (IsEveryVerifiedIntoOf terms old new)
-every_verified_into_of (Ok status) terms m ns old new is = record { mirror = m; then = is }
+every_verified_into_of (Ok status) terms m ns old new is = record { mirror = m; afterwards = ns; then = is }
 every_verified_into_of (Err f) terms m ns old new is = tt
 
 pub replayed_of : (r : Result ℕ Failure) (terms : Terms) (count : ℕ) (ms ns : List Mirror) (old new : Option (List ℕ)) → length ms ≡ count

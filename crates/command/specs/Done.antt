@@ -37,6 +37,12 @@ pub record OfOne (follows : List Mirror → Type 0) : Type 0 where
   pub mirror : Mirror
   pub then : follows (mirror ∷ [])
 
+-- the folders of a repository, and folders afterwards, of which more holds
+pub record OfOneAfter (follows : List Mirror → List Mirror → Type 0) : Type 0 where
+  pub mirror : Mirror
+  pub afterwards : List Mirror
+  pub then : follows (mirror ∷ []) afterwards
+
 -- the folders of so many repositories, of which more holds
 pub record OfEach (count : ℕ) (follows : List Mirror → Type 0) : Type 0 where
   pub mirrors : List Mirror
@@ -62,12 +68,12 @@ IsEveryVerifiedOf terms old new status =
 
 -- the repository is verified, and copies of its good targets are stored in the folder
 abbrev pub IsVerifiedIntoOf : Terms → Option (List ℕ) → Option (List ℕ) → ℕ → Type 0
-IsVerifiedIntoOf terms old new status = OfOne (λ ms. IsVerifiedInto terms (system_with ms old)
-    (system_with ms new) (λ _ _. true) (λ _ _. true) status)
+IsVerifiedIntoOf terms old new status = OfOneAfter (λ ms ns. IsVerifiedInto terms
+    (system_with ms old) (system_with ns new) (λ _ _. true) (λ _ _. true) status)
 
 abbrev pub IsEveryVerifiedIntoOf : Terms → Option (List ℕ) → Option (List ℕ) → ℕ → Type 0
-IsEveryVerifiedIntoOf terms old new status = OfOne (λ ms. IsEveryVerifiedInto terms
-    (system_with ms old) (system_with ms new) (λ _ _. true) (λ _ _. true) status)
+IsEveryVerifiedIntoOf terms old new status = OfOneAfter (λ ms ns. IsEveryVerifiedInto terms
+    (system_with ms old) (system_with ns new) (λ _ _. true) (λ _ _. true) status)
 
 -- so many repositories are verified, one after another
 abbrev pub IsReplayedOf : Terms → ℕ → Option (List ℕ) → Option (List ℕ) → ℕ → Type 0

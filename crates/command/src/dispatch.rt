@@ -6,7 +6,7 @@ ghost use Rattle.failure.specs.Failures.{is_callers};
 use crate::carrying::carry_out;
 use crate::reading::read_subcommand;
 use crate::runtime::Runtime;
-use crate::sample::sample;
+use crate::sampling::sample;
 use clap::error::ErrorKind;
 use failure::{Failure, tell_failure};
 use report::put;

@@ -17,7 +17,7 @@ mod making;
 mod process;
 mod reading;
 mod runtime;
-mod sample;
+mod sampling;
 mod subcommand;
 mod terms;
 
@@ -25,5 +25,5 @@ pub use carrying::carry_out;
 pub use dispatch::command;
 pub use process::run;
 pub use runtime::Runtime;
-pub use sample::sample;
+pub use sampling::sample;
 pub use subcommand::{FolderPaths, Subcommand};

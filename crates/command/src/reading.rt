@@ -77,7 +77,7 @@ fn verify_of<'a>(
 ) -> Result<Subcommand<'a>, Failure> {
     let terms = all_terms(rt, alloc, words)?;
     let folders = folder_paths(words)?;
-    Ok(match (words.get_flag("every"), words.get_str("into")) {
+    Ok(match (words.get_flag("every"), into_of(words)?) {
         (false, None) => Subcommand::Verify { terms, folders },
         (true, None) => Subcommand::VerifyEvery { terms, folders },
         (false, Some(into)) => Subcommand::VerifyInto {
@@ -99,6 +99,14 @@ fn folder_paths<'a>(words: &ArgMatches<'a>) -> Result<FolderPaths<'a>, Failure> 
         metadata: word(words, "metadata")?,
         targets: word(words, "targets")?,
     })
+}
+
+/// Returns the folder for copies, if there is one. Fails with `Words` if its path is empty.
+fn into_of<'a>(words: &ArgMatches<'a>) -> Result<Option<&'a str>, Failure> {
+    match words.get_str("into") {
+        Some("") => Err(Failure::Words),
+        into => Ok(into),
+    }
 }
 
 /// Returns what both `verify` and `replay` name, with the paths of the file of `--paths-from`.

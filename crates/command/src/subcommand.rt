@@ -40,7 +40,7 @@ pub enum Subcommand<'a> {
         /// What the arguments name, with the paths that a file lists.
         terms: Terms<'a>,
         /// The folders.
-        folders: Paths<'a>,
+        folders: FolderPaths<'a>,
         /// The path of the folder for the copies.
         into: &'a str,
     },
@@ -49,7 +49,7 @@ pub enum Subcommand<'a> {
         /// What the arguments name, without wanted paths.
         terms: Terms<'a>,
         /// The folders.
-        folders: Paths<'a>,
+        folders: FolderPaths<'a>,
         /// The path of the folder for the copies.
         into: &'a str,
     },

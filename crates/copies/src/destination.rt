@@ -27,9 +27,9 @@ pub trait Destination {
         ensures same { Self.Temporary.took file.new ≡ Self.Temporary.took file.old }
         ensures kept { keeps self.new ≡ keeps self.old };
 
-    /// Stores a temporary file that is finished for the path, in one step, in place of what the path
-    /// had. Makes the folders of the path. On error nothing that was stored changes, and nothing for
-    /// other paths ever does.
+    /// Stores a temporary file that is finished for the path, in one step, in place of what the
+    /// path had. Makes the folders of the path. On error nothing that was stored changes, and
+    /// nothing for other paths ever does.
     fn take_over(&mut self, alloc: Global, file: &Self::Temporary, path: &str) -> io::Result<()>
         requires below { is_below path.now ≡ true }
         ensures stored { OnOk result ((bytes : List ℕ)

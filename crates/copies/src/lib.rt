@@ -1,9 +1,9 @@
 //! Copies of files below a folder, each stored in one step.
 //!
-//! - [`Destination`] is what copies are stored in. A copy is written to a temporary file, which then
-//!   takes its path or is removed.
-//! - [`is_below`] is whether a copy may have a path, and [`are_below`] whether copies may have all of
-//!   a list.
+//! - [`Destination`] is what copies are stored in. A copy is written to a temporary file, which
+//!   then takes its path or is removed.
+//! - [`is_below`] is whether a copy may have a path, and [`are_below`] whether copies may have all
+//!   of a list.
 //! - [`Below`] is a folder of the file system.
 #![tactic(auto)]
 

@@ -136,11 +136,11 @@ pub trait Folder {
         None
     }
 
-    /// Measures the files of these jobs in the same way, as `measure_shared` would each, the last job
-    /// first. Returns those that were measured.
+    /// Measures the files of these jobs in the same way, as `measure_shared` would each, the last
+    /// job first. Returns those that were measured.
     fn measure_many(&self, alloc: Global, jobs: Vec<Job>) -> Vec<Done>
-        ensures given { All (λ d. IsMeasureOf d.need (holds self.now (string_bytes d.name)) d.measure)
-            result.items }
+        ensures given { All (λ d.
+            IsMeasureOf d.need (holds self.now (string_bytes d.name)) d.measure) result.items }
     {
         let mut jobs = jobs;
         let mut done = Vec::new(alloc);

@@ -2,8 +2,8 @@
 //!
 //! - [`Folder`] is what may be listed and read. [`load`] reads all of it, and [`load_starts`] the
 //!   first bytes of the files whose names have one ending.
-//! - [`Measure`] is the length and the digests of a file that isn't read into memory. A [`Sink`] may
-//!   take its bytes meanwhile.
+//! - [`Measure`] is the length and the digests of a file that isn't read into memory. A [`Sink`]
+//!   may take its bytes meanwhile.
 //! - [`Disk`] is a folder of the file system.
 #![tactic(auto)]
 

@@ -12,7 +12,8 @@ pub trait Sink {
     /// Whether it may have taken the bytes.
     ghost took: { Self → List ℕ → Bool };
 
-    /// Takes the next piece. Doesn't fail: a sink that can't keep the piece has to know that itself.
+    /// Takes the next piece. Doesn't fail: a sink that can't keep the piece has to know that
+    /// itself.
     fn take(&mut self, piece: &[u8])
         ensures taken { (bytes : List ℕ) → took self.old bytes ≡ true
             → took self.new (bytes ++ piece.now) ≡ true };

@@ -167,7 +167,7 @@ impl<S: System, M: Folder, T: Folder, W: Write> Host<S, Folders<M, T>, W> {
             (⟦<Self as HasWorld>⟧.world self.old) (⟦<Self as HasWorld>⟧.world self.new)) }
     {
         let opened = self.folders.open(alloc)?;
-        let wanted = wanted_of(rt, alloc, &start, &opened.repo, opened.names.as_slice())?;
+        let wanted = wanted_of(rt, alloc, &start, &opened)?;
         let start = wanting(start, wanted.as_slice());
         let done = self.end_into(rt, alloc, &start, opened, to);
         to.clear(alloc);

@@ -87,6 +87,7 @@ An old file is replaced, and with it a link, but not the file to which it leads.
   [1]
 
 A folder of temporary files that another run left is not used, and stays.
+  $ folder twice/.tufcheck.1.new
   $ put twice/.tufcheck.1.new/1
   > left
   $ verify one two --into twice b
@@ -147,13 +148,12 @@ A path that is empty or absolute, or has an empty part, `.` or `..`, is a usage 
   [1]
   $ has two
   [1]
-  $ verify one two .. /abc.txt "" ...
+  $ verify one two .. /abc.txt ""
   root 1
   end ready
   no ".." NotFound
   no "/abc.txt" NotFound
   no "" NotFound
-  no "..." NotFound
   [1]
 
 A copy that can't be written ends the run before anything is stored.
@@ -171,9 +171,6 @@ A copy that can't be written ends the run before anything is stored.
   ! tufcheck: output
   [4]
   $ verify one two --into file/below abc.txt
-  ! tufcheck: output
-  [4]
-  $ verify one two --into "" abc.txt
   ! tufcheck: output
   [4]
   $ has two
@@ -263,7 +260,10 @@ With them a name may stand for a path that no copy may have. It has its line, an
   ok "r" 1 "targets"
   [1]
 
-Arguments.
+Arguments. An empty folder is none.
+  $ verify one two --into "" abc.txt
+  ! tufcheck: words
+  [3]
   $ verify one two --into
   ! error: ...
   ...

@@ -147,13 +147,13 @@ The files of delegated roles, each once, as far as the searches come; then the f
   > @keys
   > key 5 5 4
   > delegate targets a 1 5 go paths a*
-  > delegate targets e/b 1 5 go paths b*
+  > delegate targets b.c 1 5 go paths b*
   > target targets t 74 sha256
   > target a a1 61 sha256
   > target a a2 62 sha256
-  > target e/b b 62 sha256
+  > target b.c b 62 sha256
   > write a 1 5
-  > write e/b 1 5
+  > write b.c 1 5
   > write root 1 1
   > @files
   $ init state
@@ -165,13 +165,13 @@ The files of delegated roles, each once, as far as the searches come; then the f
   $ copy metadata/targets.json m/targets.json
   $ tufcheck next --state state --metadata m --targets t --now 2026-01-01T00:00:00Z t b1 a2 a1
   maybe "2.root.json" 512000
-  need "e/b.json" ...
+  need "b.c.json" ...
   need "a.json" ...
   need "t" 1
   $ copy metadata/a.json m/a.json
   $ tufcheck next --state state --metadata m --targets t --now 2026-01-01T00:00:00Z t b1 a2 a1
   maybe "2.root.json" 512000
-  need "e/b.json" ...
+  need "b.c.json" ...
   need "t" 1
   need "a2" 1
   need "a1" 1

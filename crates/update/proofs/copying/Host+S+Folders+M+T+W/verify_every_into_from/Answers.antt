@@ -34,8 +34,8 @@ returns-clause-verified g c =
     let old = (world c.args.self.now.system (mirror c.args.self.now.folders.metadata c.args.self.now.folders.targets) c.args.self.now.out) in
     let mid = world c.args.self.now.system n c.args.self.now.out in
     let new = (world c.end_into-done.new.self.system (mirror c.end_into-done.new.self.folders.metadata c.end_into-done.new.self.folders.targets) c.end_into-done.new.self.out) in
-    let paths = paths_as (advanced (file_in files) p.moment p.trusted).state.root.reading.consistent c.as_slice.result.now c.in_ok-opened.opened.names.items c.as_slice-2.result.now
-    c.in_ok-wanted.wanted.items q.wanted.now c.as_slice.ensures.value c.as_slice-2.ensures.value c.wanting-start.ensures.wanted c.in_ok-wanted.ensures.paths in
+    let paths = paths_as (advanced (file_in files) p.moment p.trusted).state.root.reading.consistent c.in_ok-opened.opened.names.items c.in_ok-opened.opened.names.items c.as_slice.result.now
+    c.in_ok-wanted.wanted.items q.wanted.now refl c.as_slice.ensures.value c.wanting-start.ensures.wanted c.in_ok-wanted.ensures.paths in
     let at = g.S.System.keeps c.end_into-done.new.self.system in
     subst (λ k. IfOk c.end_into-done.result (λ status. IsEveryKeptOn m p.trusted p.moment p.limit (at k) (IsToldInto old new before later status))) c.wanting-start.ensures.state
     (map_ok (λ status. IsEnded n (start_of q) (file_in files) (at q.state.now) (IsToldInto mid new before a status (start_of q) (file_in files)))
@@ -62,8 +62,8 @@ returns-clause-order g c =
     let old = (world c.args.self.now.system (mirror c.args.self.now.folders.metadata c.args.self.now.folders.targets) c.args.self.now.out) in
     let mid = world c.args.self.now.system n c.args.self.now.out in
     let new = (world c.end_into-done.new.self.system (mirror c.end_into-done.new.self.folders.metadata c.end_into-done.new.self.folders.targets) c.end_into-done.new.self.out) in
-    let paths = paths_as (advanced (file_in files) p.moment p.trusted).state.root.reading.consistent c.as_slice.result.now c.in_ok-opened.opened.names.items c.as_slice-2.result.now
-    c.in_ok-wanted.wanted.items q.wanted.now c.as_slice.ensures.value c.as_slice-2.ensures.value c.wanting-start.ensures.wanted c.in_ok-wanted.ensures.paths in
+    let paths = paths_as (advanced (file_in files) p.moment p.trusted).state.root.reading.consistent c.in_ok-opened.opened.names.items c.in_ok-opened.opened.names.items c.as_slice.result.now
+    c.in_ok-wanted.wanted.items q.wanted.now refl c.as_slice.ensures.value c.wanting-start.ensures.wanted c.in_ok-wanted.ensures.paths in
     let at = g.S.System.keeps c.end_into-done.new.self.system in
     subst (λ k. OnErr c.end_into-done.result (IsUntouchedInto old new before later ⊎ IsEveryKeptOn m p.trusted p.moment p.limit (at k) (AreBegun before later))) c.wanting-start.ensures.state
     (map_err (IsUntouchedInto mid new before a ⊎ IsEnded n (start_of q) (file_in files) (at q.state.now) (AreBegun before a (start_of q) (file_in files)))

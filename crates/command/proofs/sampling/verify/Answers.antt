@@ -1,7 +1,7 @@
 use Rattle.std.proofs.Common.{refl}
 use Rattle.cycle.specs.Workflow.{request}
 use Rattle.command.proofs.Sampled.{sampled}
-use Rattle.command.proofs.sample.verify.Goals as goal
+use Rattle.command.proofs.sampling.verify.Goals as goal
 
 pub returns-clause-sampled : goal.returns-clause-sampled
 returns-clause-sampled g c =
