@@ -3,8 +3,8 @@
 #
 #   bindings/link.sh FOLDER [BUILT [KIT]]
 #
-# FOLDER is made. BUILT is crates/tufcheck_c/out/libtufcheck_c.a unless given, and KIT the folder of the Rattle kit,
-# /opt/rattle unless given. The built library calls the kit's allocator, three functions over malloc, realloc and free in
+# FOLDER is made. BUILT is crates/tufcheck_c/out/libtufcheck_c.a unless given, and KIT the folder of the kit's first page
+# (`rt doc`) unless given. The built library calls the kit's allocator, three functions over malloc, realloc and free in
 # heap.pic.o of KIT/c/liblibc_c.a: both become one object that shows only the calls of the header. With ALLOCATOR=none in
 # the environment they stay out: only libtufcheck.a is made, and its users link KIT/c/liblibc_c.a behind it.
 #
@@ -16,7 +16,7 @@ top=$(cd "$(dirname "$0")/.." && pwd)
 mkdir -p "$1"
 folder=$(cd "$1" && pwd)
 built=$(realpath "${2:-$top/crates/tufcheck_c/out/libtufcheck_c.a}")
-kit=${3:-/opt/rattle}
+kit=${3:-$(dirname "$(rt doc)")}
 version=$(sed -n 's/^#define TUFCHECK_VERSION_TEXT "\(.*\)"$/\1/p' "$top/bindings/c/tufcheck.h")
 work=$(mktemp -d)
 trap 'rm -rf "$work"' EXIT
