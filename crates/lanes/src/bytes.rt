@@ -5,7 +5,7 @@ ghost use Rattle.std.specs.Prelude.{slice_index, slice_index_or};
 ghost use Rattle.sha2.specs.Sha256.{digest_bytes, word_at};
 ghost use Rattle.lanes.specs.Lanes.{IsDigest, IsPrefix, IsRow, lane};
 
-use crate::arrays::{eight, six};
+use crate::arrays::{eight, four, six, three};
 use std::simd::prelude::*;
 
 #[inline(always)]
@@ -74,14 +74,18 @@ pub fn digest_words<const N: usize>(digests: &[[u8; 32]; N]) -> [Simd<u32, N>; 8
         → digest_bytes (lane i result) 8 ≡ slice_index_or digests.now i [] }
 {
     eight(
-        digest_column(digests, 0),
-        digest_column(digests, 1),
-        digest_column(digests, 2),
-        digest_column(digests, 3),
-        digest_column(digests, 4),
-        digest_column(digests, 5),
-        digest_column(digests, 6),
-        digest_column(digests, 7),
+        four(
+            digest_column(digests, 0),
+            digest_column(digests, 1),
+            digest_column(digests, 2),
+            digest_column(digests, 3),
+        ),
+        four(
+            digest_column(digests, 4),
+            digest_column(digests, 5),
+            digest_column(digests, 6),
+            digest_column(digests, 7),
+        ),
     )
 }
 
@@ -93,12 +97,16 @@ pub fn prefix_words<const N: usize>(texts: &[[u8; 22]; N]) -> [Simd<u32, N>; 6]
         → IsPrefix (lane i result) (slice_index_or texts.now i []) }
 {
     six(
-        prefix_column(texts, 0),
-        prefix_column(texts, 1),
-        prefix_column(texts, 2),
-        prefix_column(texts, 3),
-        prefix_column(texts, 4),
-        prefix_column(texts, 5),
+        three(
+            prefix_column(texts, 0),
+            prefix_column(texts, 1),
+            prefix_column(texts, 2),
+        ),
+        three(
+            prefix_column(texts, 3),
+            prefix_column(texts, 4),
+            prefix_column(texts, 5),
+        ),
     )
 }
 

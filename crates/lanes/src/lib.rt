@@ -1,13 +1,14 @@
-//! SHA-256 of several messages at once (FIPS 180-4), for messages of one block.
+//! SHA-256 of several messages at once (FIPS 180-4).
 //!
-//! - [`compress`] is the compression of several blocks.
+//! - [`compress`] is the compression of a block of each message.
 //! - [`chain_step`] is the digest of messages of 55 bytes: a prefix, a counter and a digest.
+//! - [`begin`], [`Pending`] and [`take_blocks`] hash messages of any length, block by block.
 //! - [`prefix_words`], [`put_prefix`], [`digest_words`], [`put_digest`] and [`digest`] convert
 //!   between bytes and rows of vectors.
 //!
 //! A vector has `N` lanes, one for each message, and a row is an array of vectors. The caller
-//! chooses `N`; which one is fastest depends on the processor that the program is built for. No
-//! function allocates.
+//! chooses `N`; which one is fastest depends on the processor that the program is built for. Only
+//! [`Pending::new`] allocates.
 #![tactic(auto)]
 
 mod arrays;

@@ -1,6 +1,7 @@
 //! Several messages, block after block.
 
-ghost use Rattle.std.specs.Prelude.{◌≡◌, ◌≢◌, ◌≤◌, ◌<◌, ◌+◌, ◌-◌, ◌*◌, ◌%◌, ◌^◌, ℕ, List, ◌++◌, ◌∷◌, All};
+ghost use Rattle.std.specs.Prelude.{◌≡◌, ◌≢◌, ◌≤◌, ◌<◌, ◌+◌, ◌-◌, ◌*◌, ◌%◌, ◌^◌, ◌++◌, ◌∷◌};
+ghost use Rattle.std.specs.Prelude.{ℕ, List, All};
 ghost use Rattle.std.specs.Prelude.{IfOk, length, take, drop, slice_index, slice_index_or, vec_len};
 ghost use Rattle.std.specs.Prelude.{replicate};
 ghost use Rattle.std.specs.Int.{w64, to_be_bytes};
@@ -8,7 +9,7 @@ ghost use Rattle.sha2.specs.Sha256.{hash_after, initial_hash_256, padded_message
 ghost use Rattle.lanes.specs.Lanes.{IsBlock, IsRow, lane};
 ghost use Rattle.lanes.specs.Pending.{IsAfter, IsPending, Reaches};
 
-use crate::arrays::sixteen;
+use crate::arrays::{eight, four, sixteen};
 use crate::block::compress;
 use crate::bytes::{with_lane, word};
 use crate::consts::H256_256;
@@ -72,8 +73,8 @@ impl Pending {
         self.left = PIECE / 64;
     }
 
-    /// Makes the first `used` bytes of the room, with the padding of a message of `total` bytes that
-    /// ends there, the next blocks.
+    /// Makes the first `used` bytes of the room, with the padding of a message of `total` bytes
+    /// that ends there, the next blocks.
     pub fn put_end(&mut self, used: usize, total: u64)
         requires pending { IsPending self.old }
         requires used { used < PIECE }
@@ -145,22 +146,34 @@ fn block_words<const N: usize>(pending: &[Pending], offset: usize) -> [Simd<u32,
         IsBlock (lane i result) (take 64 (drop (p.at + offset) p.bytes.items)) }
 {
     sixteen(
-        block_column(pending, offset, 0),
-        block_column(pending, offset, 1),
-        block_column(pending, offset, 2),
-        block_column(pending, offset, 3),
-        block_column(pending, offset, 4),
-        block_column(pending, offset, 5),
-        block_column(pending, offset, 6),
-        block_column(pending, offset, 7),
-        block_column(pending, offset, 8),
-        block_column(pending, offset, 9),
-        block_column(pending, offset, 10),
-        block_column(pending, offset, 11),
-        block_column(pending, offset, 12),
-        block_column(pending, offset, 13),
-        block_column(pending, offset, 14),
-        block_column(pending, offset, 15),
+        eight(
+            four(
+                block_column(pending, offset, 0),
+                block_column(pending, offset, 1),
+                block_column(pending, offset, 2),
+                block_column(pending, offset, 3),
+            ),
+            four(
+                block_column(pending, offset, 4),
+                block_column(pending, offset, 5),
+                block_column(pending, offset, 6),
+                block_column(pending, offset, 7),
+            ),
+        ),
+        eight(
+            four(
+                block_column(pending, offset, 8),
+                block_column(pending, offset, 9),
+                block_column(pending, offset, 10),
+                block_column(pending, offset, 11),
+            ),
+            four(
+                block_column(pending, offset, 12),
+                block_column(pending, offset, 13),
+                block_column(pending, offset, 14),
+                block_column(pending, offset, 15),
+            ),
+        ),
     )
 }
 

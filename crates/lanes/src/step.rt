@@ -6,7 +6,7 @@ ghost use Rattle.std.specs.Int.{w32, to_be_bytes};
 ghost use Rattle.sha2.specs.Sha256.{digest_bytes, initial_hash_256, padded_message, sha256};
 ghost use Rattle.lanes.specs.Lanes.{IsAt, IsBlock, IsPrefix, IsRow, joined, lane};
 
-use crate::arrays::{eight, sixteen};
+use crate::arrays::{eight, four, sixteen};
 use crate::block::compress;
 use crate::consts::H256_256;
 use std::simd::prelude::*;
@@ -56,22 +56,29 @@ fn block_words<const N: usize>(
         (padded_message (p ++ slice_index j.entry i ∷ digest_bytes (lane i value.now) 8)) }
 {
     sixteen(
-        prefix[0],
-        prefix[1],
-        prefix[2],
-        prefix[3],
-        prefix[4],
-        counter_word(prefix[5], j, value[0]),
-        join_words(value[0], value[1]),
-        join_words(value[1], value[2]),
-        join_words(value[2], value[3]),
-        join_words(value[3], value[4]),
-        join_words(value[4], value[5]),
-        join_words(value[5], value[6]),
-        join_words(value[6], value[7]),
-        join_words(value[7], Simd::splat(END)),
-        Simd::splat(0),
-        Simd::splat(LENGTH),
+        eight(
+            four(prefix[0], prefix[1], prefix[2], prefix[3]),
+            four(
+                prefix[4],
+                counter_word(prefix[5], j, value[0]),
+                join_words(value[0], value[1]),
+                join_words(value[1], value[2]),
+            ),
+        ),
+        eight(
+            four(
+                join_words(value[2], value[3]),
+                join_words(value[3], value[4]),
+                join_words(value[4], value[5]),
+                join_words(value[5], value[6]),
+            ),
+            four(
+                join_words(value[6], value[7]),
+                join_words(value[7], Simd::splat(END)),
+                Simd::splat(0),
+                Simd::splat(LENGTH),
+            ),
+        ),
     )
 }
 
@@ -81,14 +88,18 @@ pub(crate) fn initial<const N: usize>() -> [Simd<u32, N>; 8]
     ensures lanes { (i : ℕ) → i < N → lane i result ≡ initial_hash_256 }
 {
     eight(
-        Simd::splat(H256_256[0]),
-        Simd::splat(H256_256[1]),
-        Simd::splat(H256_256[2]),
-        Simd::splat(H256_256[3]),
-        Simd::splat(H256_256[4]),
-        Simd::splat(H256_256[5]),
-        Simd::splat(H256_256[6]),
-        Simd::splat(H256_256[7]),
+        four(
+            Simd::splat(H256_256[0]),
+            Simd::splat(H256_256[1]),
+            Simd::splat(H256_256[2]),
+            Simd::splat(H256_256[3]),
+        ),
+        four(
+            Simd::splat(H256_256[4]),
+            Simd::splat(H256_256[5]),
+            Simd::splat(H256_256[6]),
+            Simd::splat(H256_256[7]),
+        ),
     )
 }
 

@@ -53,22 +53,19 @@ pub(crate) fn small_sigma1<const N: usize>(x: Simd<u32, N>) -> Simd<u32, N>
     (((((x >> 2) ^ x) >> 7) ^ x) >> 10) ^ (((x << 2) ^ x) << 13)
 }
 
-/// T 1 of a round (6.2.2, step 3).
+/// The part of T 1 of a round that depends on the state alone (6.2.2, step 3).
 #[inline(always)]
-pub(crate) fn temp1<const N: usize>(
+pub(crate) fn mixed<const N: usize>(
     e: Simd<u32, N>,
     f: Simd<u32, N>,
     g: Simd<u32, N>,
     h: Simd<u32, N>,
-    k: u32,
-    word: Simd<u32, N>,
 ) -> Simd<u32, N>
-    ensures { (i : ℕ) → IsAt N i result (add32 (add32 (add32 (add32
-        (slice_index h.entry i) (big_sigma1 (slice_index e.entry i)))
-        (ch (slice_index e.entry i) (slice_index f.entry i) (slice_index g.entry i))) k)
-        (slice_index word.entry i)) }
+    ensures { (i : ℕ) → IsAt N i result (add32
+        (add32 (slice_index h.entry i) (big_sigma1 (slice_index e.entry i)))
+        (ch (slice_index e.entry i) (slice_index f.entry i) (slice_index g.entry i))) }
 {
-    h + big_sigma1(e) + ch(e, f, g) + Simd::splat(k) + word
+    h + big_sigma1(e) + ch(e, f, g)
 }
 
 /// T 2 of a round.
