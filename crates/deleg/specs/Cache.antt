@@ -34,7 +34,8 @@ IsCacheIn files now s cache = (snapshot : Part Snapshot) → s.snapshot ≡ Some
 
 -- the examination of a search
 abbrev pub examination_in : Query → Examination
-examination_in q = examination (file_in q.context.files.now) q.context.moment q.root.now q.snapshot.now
+examination_in q =
+    examination (file_in q.context.files.now) q.context.moment q.root.now q.snapshot.now
 
 -- two delegations require one file: to a role of one name, by the same of the same keys
 pub record RequireTheSame (a b : Edge) : Type 0 where

@@ -40,8 +40,8 @@ past_one (d ∷ ds) = if d == 47 then None else Some ds
 -- the outcome of the search, if these delegations are pending and these roles were accepted
 unfoldable pub outlook : Query → List Edge → List Accepted → Search
 outlook q es seen =
-    settled (walk (file_in q.context.files.now) q.context.moment q.root.now q.snapshot.now q.path.now q.limit
-    es seen)
+    settled (walk (file_in q.context.files.now) q.context.moment q.root.now q.snapshot.now
+    q.path.now q.limit es seen)
 
 -- the pending delegations of each file, the last file's first
 abbrev pub pending : List ℕ → List (List Edge) → List Edge

@@ -25,7 +25,8 @@ pub(crate) fn examine_once<J: Judge>(
     requires first { Some (spec.edge_of edge.now) ≡ slice_get frame.now 0 }
     requires cache { IsCacheOf (examination_in query.now) cache.old }
     ensures answer { Answers (spec.examined (file_in query.now.context.files.now)
-        query.now.context.moment query.now.root.now query.now.snapshot.now (spec.edge_of edge.now)) result (λ e. e.file) }
+        query.now.context.moment query.now.root.now query.now.snapshot.now
+        (spec.edge_of edge.now)) result (λ e. e.file) }
     ensures cache { IsCacheOf (examination_in query.now) cache.new }
 {
     if let Some(outcome) = cache.find(edge) {
@@ -55,7 +56,8 @@ fn remember(
 ) -> bool
     requires first { Some (spec.edge_of edge.now) ≡ slice_get frame.now 0 }
     requires answer { Answers (spec.examined (file_in query.now.context.files.now)
-        query.now.context.moment query.now.root.now query.now.snapshot.now (spec.edge_of edge.now)) examined.now (λ p. p) }
+        query.now.context.moment query.now.root.now query.now.snapshot.now
+        (spec.edge_of edge.now)) examined.now (λ p. p) }
     requires cache { IsCacheOf (examination_in query.now) cache.old }
     ensures cache { IsCacheOf (examination_in query.now) cache.new }
 {

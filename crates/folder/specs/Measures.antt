@@ -1,9 +1,10 @@
 -- The length and the digests of a file.
-use Rattle.std.specs.Prelude.{ℕ, Bool, true, Option, Some, None, if◌then◌else◌, is_some, IfSome, List, ◌++◌, ◌≡◌, ◌≤◌, ◌+◌, ◌⊎◌, length, take, drop}
+use Rattle.std.specs.Prelude.{ℕ, Bool, true, Option, Some, None, if◌then◌else◌, is_some, IfSome, List, ◌++◌, ◌≡◌, ◌≤◌, ◌+◌, ◌⊎◌, length, take, drop, string_bytes}
 use Rattle.std.specs.Io.KnownBytes.{Consumes, IsAtEnd}
 use Rattle.sha2.specs.Sha256.{sha256}
 use Rattle.sha2.specs.Sha512.{sha512}
 use Rattle.sha2.specs.Hashers.{Holds256, Holds512}
+use Rattle.folder.specs.declared.job.Done.{Done}
 use Rattle.folder.specs.declared.measure.Measure.{Measure}
 use Rattle.folder.specs.declared.measure.Measuring.{Measuring}
 use Rattle.folder.specs.declared.measure.Need.{Need}
@@ -23,6 +24,10 @@ IsMeasure need m = (bytes : List ℕ) × (m ≡ measure_of need bytes)
 -- the measure is that of bytes which pass the test
 abbrev pub IsMeasureOf : Need → (List ℕ → Bool) → Measure → Type 0
 IsMeasureOf need test m = (bytes : List ℕ) × (test bytes ≡ true) × (m ≡ measure_of need bytes)
+
+-- a file of the folder was measured, as far as its job says
+abbrev pub IsMeasuredIn : (List ℕ → List ℕ → Bool) → Done → Type 0
+IsMeasuredIn holds d = IsMeasureOf d.need (holds (string_bytes d.name)) d.measure
 
 -- the first bytes of these were taken, as many as are wanted
 pub record HasTaken (s : Measuring) (bytes : List ℕ) : Type 0 where

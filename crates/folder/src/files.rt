@@ -3,7 +3,7 @@
 ghost use Rattle.std.specs.Prelude.{◌≡◌, ◌≤◌, ◌<◌, ◌⊎◌, ◌^◌, ◌-◌, List, ℕ, Bool, IsTrue, true};
 ghost use Rattle.std.specs.Prelude.{All, IfOk, IfErr, IfSome, OnOk, map, string_bytes};
 ghost use Rattle.folder.specs.Folders.{AddsFile, HasFailed, IsLoaded};
-ghost use Rattle.folder.specs.Measures.{IsMeasureOf};
+ghost use Rattle.folder.specs.Measures.{IsMeasureOf, IsMeasuredIn};
 ghost use Rattle.folder.specs.Passing.{IsPassedOn};
 ghost use Rattle.folder.specs.Seen.{IsStartOf};
 ghost use Rattle.folder.specs.Starts.{AddsStart, AreStarts};
@@ -139,8 +139,7 @@ pub trait Folder {
     /// Measures the files of these jobs in the same way, as `measure_shared` would each, the last
     /// job first. Returns those that were measured.
     fn measure_many(&self, alloc: Global, jobs: Vec<Job>) -> Vec<Done>
-        ensures given { All (λ d.
-            IsMeasureOf d.need (holds self.now (string_bytes d.name)) d.measure) result.items }
+        ensures given { All (IsMeasuredIn (holds self.now)) result.items }
     {
         let mut jobs = jobs;
         let mut done = Vec::new(alloc);
@@ -167,10 +166,8 @@ pub trait Folder {
 
 /// Adds a file that was measured, unless out of memory.
 fn add(all: &mut Vec<Done>, done: Done)
-    ensures { (holds : List ℕ → List ℕ → Bool)
-        → IsMeasureOf done.need (holds (string_bytes done.name)) done.measure
-        → All (λ d. IsMeasureOf d.need (holds (string_bytes d.name)) d.measure) all.old.items
-        → All (λ d. IsMeasureOf d.need (holds (string_bytes d.name)) d.measure) all.new.items }
+    ensures { (holds : List ℕ → List ℕ → Bool) → IsMeasuredIn holds done
+        → All (IsMeasuredIn holds) all.old.items → All (IsMeasuredIn holds) all.new.items }
 {
     all.push(done).ok();
 }

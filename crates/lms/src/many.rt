@@ -87,10 +87,9 @@ fn steps<const N: usize>(
     requires prefix { IsRow N 6 prefix.now }
     requires start { IsRow N 8 start }
     ensures row { IsRow N 8 result }
-    ensures chains { (k : ℕ) (id : List ℕ) (q i : ℕ) → k < N
-        → slice_index from.entry k + count ≤ 255
-        → IsPrefix (lane k prefix.now) (id ++ u32str q ++ u16str i)
-        → digest_bytes (lane k result) 8 ≡ chain id q i (slice_index from.entry k) count
+    ensures chains { (k : ℕ) (id : List ℕ) (q i : ℕ) → k < N → let j = slice_index from.entry k in
+        j + count ≤ 255 → IsPrefix (lane k prefix.now) (id ++ u32str q ++ u16str i)
+        → digest_bytes (lane k result) 8 ≡ chain id q i j count
         (digest_bytes (lane k start.entry) 8) }
 {
     let mut value = start;

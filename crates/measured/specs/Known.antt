@@ -1,5 +1,5 @@
 -- What is known of the files of a folder, each of which is measured at most once.
-use Rattle.std.specs.Prelude.{ℕ, ◌+◌, ◌==◌, ⊤, Result, List, Bool, true, false, ◌&&◌, ◌||◌, not, max, nat_lt, ◌≡◌, Option, None, Some, IfSome, is_some, find, option_map, bytes_eq, All, string_bytes}
+use Rattle.std.specs.Prelude.{ℕ, ◌+◌, ◌==◌, ⊤, Result, List, Bool, true, false, ◌&&◌, ◌||◌, not, max, nat_lt, ◌≡◌, Option, None, Some, IfSome, is_some, find, option_map, bytes_eq, All}
 use Rattle.std.specs.BTreeMap.{get_by_text}
 use Rattle.std.specs.Option.{option_map_or}
 use Rattle.cjson.specs.Document.{◌>>=◌, refuse_if}
@@ -10,7 +10,7 @@ use Rattle.examine.specs.Checks.{Fault, target_names}
 use Rattle.deleg.specs.declared.accepted.Search.{Search}
 use Rattle.cycle.specs.Workflow.{Files, Target, target_of}
 use Rattle.folder.specs.Seen.{is_named}
-use Rattle.folder.specs.Measures.{IsMeasureOf, measure_of}
+use Rattle.folder.specs.Measures.{IsMeasureOf, IsMeasuredIn, measure_of}
 use Rattle.folder.specs.declared.job.Done.{Done}
 use Rattle.folder.specs.declared.measure.Measure.{Measure}
 use Rattle.folder.specs.declared.measure.Need.{Need}
@@ -98,7 +98,7 @@ pub record IsKnown (names : List (List ℕ)) (holds : List ℕ → List ℕ → 
 
 -- measures of files, each of bytes that may be read for its name
 pub record AreDone (holds : List ℕ → List ℕ → Bool) (done : List Done) : Type 0 where
-  pub each : All (λ d. IsMeasureOf d.need (holds (string_bytes d.name)) d.measure) done
+  pub each : All (IsMeasuredIn holds) done
 
 -- what was so known stays so
 abbrev pub StaysKnown : List (List ℕ) → (List ℕ → List ℕ → Bool) → (List ℕ → Bool)

@@ -55,7 +55,8 @@ has_file there consistent s = option_map_or
     (λ t. is_one_there there (target_names consistent t.path t.hashes.sha256 t.hashes.sha512))
     (target_of s) true
 
--- no step and no search ended because a file is missing, and each target that was found has its file
+-- no step and no search ended because a file is missing, and each target that was found has its
+-- file
 pub record HasEnough (there : Names) (c : Course) : Type 0 where
   pub end : is_short_end c.end ≡ false
   pub roles : list_all (λ s. not (is_short s)) c.searches ≡ true

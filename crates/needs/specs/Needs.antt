@@ -115,7 +115,8 @@ target_need there consistent t =
 
 -- the file of the target that a search found
 abbrev pub file_need : Names → Bool → Option Search → Option Need
-file_need there consistent search = option_and_then (target_need there consistent) (target_of search)
+file_need there consistent search =
+    option_and_then (target_need there consistent) (target_of search)
 
 -- # All of them.
 
@@ -142,7 +143,8 @@ metadata_needs c = each_once (end_need c.trusted c.end ∷ map (search_need c.tr
 
 -- the files of the targets that the searches found
 abbrev pub target_needs : Course → Names → List Need
-target_needs c there = each_once (map (file_need there c.trusted.root.reading.consistent) c.searches)
+target_needs c there =
+    each_once (map (file_need there c.trusted.root.reading.consistent) c.searches)
 
 -- the next root, the other metadata files, and the files of targets, which are looked up after all
 -- searches

@@ -23,7 +23,8 @@ pub(crate) fn timestamp_step<J: Judge>(
     state: &mut Trusted,
     judge: &mut J,
 ) -> Result<(), Halt>
-    ensures { Leaves (spec.timestamp_step (file_in context.now.files.now) context.now.moment state.old)
+    ensures { Leaves
+        (spec.timestamp_step (file_in context.now.files.now) context.now.moment state.old)
         result state.new }
 {
     let newer = or_halt(Step::Timestamp, newer_timestamp(context, state, judge))?;
@@ -39,7 +40,8 @@ pub(crate) fn snapshot_step<J: Judge>(
     state: &mut Trusted,
     judge: &mut J,
 ) -> Result<(), Halt>
-    ensures { Leaves (spec.snapshot_step (file_in context.now.files.now) context.now.moment state.old)
+    ensures { Leaves
+        (spec.snapshot_step (file_in context.now.files.now) context.now.moment state.old)
         result state.new }
 {
     let part = or_halt(Step::Snapshot, listed_snapshot(context, state, judge))?;
@@ -53,7 +55,8 @@ pub(crate) fn targets_step<J: Judge>(
     state: &mut Trusted,
     judge: &mut J,
 ) -> Result<(), Halt>
-    ensures { Leaves (spec.targets_step (file_in context.now.files.now) context.now.moment state.old)
+    ensures { Leaves
+        (spec.targets_step (file_in context.now.files.now) context.now.moment state.old)
         result state.new }
 {
     let part = or_halt(Step::Targets, listed_targets(context, state, judge))?;
