@@ -5,7 +5,7 @@ ghost use Rattle.command.specs.Done.{IsEveryVerifiedOf, IsReplayedOf, IsVerified
 ghost use Rattle.command.specs.Done.{IsCauseOfFetching, IsCauseOfReplay, IsCauseOfVerify};
 ghost use Rattle.command.specs.Done.{IsNextOf};
 
-use crate::runtime::Runtime;
+use crate::runtime::{Runtime, threading};
 use crate::subcommand::FolderPaths;
 use failure::Failure;
 use folder::{Depth, Disk, path_below};
@@ -41,7 +41,7 @@ pub fn verify_in<T: Threads + Wait + Sync, W: Write>(
         folders,
         out,
     };
-    let done = host.verify(run.threads, run.alloc, terms);
+    let done = host.verify(&threading(run), run.alloc, terms);
     (done, host.out)
 }
 
@@ -69,7 +69,7 @@ pub fn verify_every_in<T: Threads + Wait + Sync, W: Write>(
         folders,
         out,
     };
-    let done = host.verify_every(run.threads, run.alloc, terms);
+    let done = host.verify_every(&threading(run), run.alloc, terms);
     (done, host.out)
 }
 
@@ -136,7 +136,7 @@ pub fn replay_in<T: Threads + Wait + Sync, W: Write>(
         folders,
         out,
     };
-    let done = host.replay(run.threads, run.alloc, terms, keep);
+    let done = host.replay(&threading(run), run.alloc, terms, keep);
     (done, host.out)
 }
 

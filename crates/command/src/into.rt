@@ -5,7 +5,7 @@ ghost use Rattle.command.specs.Done.{IsCauseOfVerify, IsCauseOfVerifyInto};
 ghost use Rattle.command.specs.Done.{IsEveryVerifiedIntoOf, IsVerifiedIntoOf};
 
 use crate::folders::two_folders;
-use crate::runtime::Runtime;
+use crate::runtime::{Runtime, threading};
 use crate::subcommand::FolderPaths;
 use copies::Below;
 use failure::Failure;
@@ -43,7 +43,7 @@ pub fn verify_into_in<T: Threads + Wait + Sync, W: Write>(
         folders,
         out,
     };
-    let done = host.verify_into(run.threads, run.alloc, terms, &mut to);
+    let done = host.verify_into(&threading(run), run.alloc, terms, &mut to);
     (done, host.out)
 }
 
@@ -73,7 +73,7 @@ pub fn verify_every_into_in<T: Threads + Wait + Sync, W: Write>(
         folders,
         out,
     };
-    let done = host.verify_every_into(run.threads, run.alloc, terms, &mut to);
+    let done = host.verify_every_into(&threading(run), run.alloc, terms, &mut to);
     (done, host.out)
 }
 

@@ -1,5 +1,6 @@
 //! What subcommands run on.
 
+use cycle::{Open, Threading};
 use std::alloc::Global;
 
 /// The system, the starter of threads and the allocator of a run.
@@ -11,4 +12,12 @@ pub struct Runtime<'a, T> {
     pub threads: &'a T,
     /// The allocator.
     pub alloc: Global,
+}
+
+/// Returns what starts the threads of a run. Nothing watches its checks.
+pub(crate) fn threading<'a, T>(run: &Runtime<'a, T>) -> Threading<'a, T, Open> {
+    Threading {
+        rt: run.threads,
+        watch: &Open,
+    }
 }

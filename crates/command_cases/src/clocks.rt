@@ -5,7 +5,7 @@ ghost use Rattle.folder.specs.Folders.{HasFailed};
 
 use crate::shell::{NOW, Shell};
 use anyhow::{Context, Result};
-use cycle::{Moment, Trusted};
+use cycle::{Moment, Open, Threading, Trusted};
 use failure::{Failure, tell_failure};
 use folder::{Depth, Disk, Folder, LoadFault};
 use sessions::{Output, Step};
@@ -176,6 +176,7 @@ impl<'a> Folder for FailingFolder<'a> {
 pub fn failing<T: Threads + Wait + Sync>(shell: &Shell<'_, T>, step: &Step) -> Result<Output> {
     let root = fs::read(shell.rt, "metadata/1.root.json")?;
     let start = Start {
+        alloc: shell.alloc,
         trusted: Trusted::from_root(shell.alloc, root.as_slice())?,
         moment: Moment::read(NOW).context("no moment")?,
         wanted: step.words_behind(3),
@@ -234,5 +235,9 @@ fn verify<'a, T: Threads + Wait + Sync>(
         folders,
         out,
     };
-    host.verify_from(shell.threads, shell.alloc, start)
+    let threading = Threading {
+        rt: shell.threads,
+        watch: &Open,
+    };
+    host.verify_from(&threading, start)
 }

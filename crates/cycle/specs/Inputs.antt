@@ -1,6 +1,6 @@
--- What the program's input of a run stands for. Only clauses of private functions use this.
+-- The request and the repository that the input of a cycle stands for.
 use Rattle.cycle.specs.Workflow.{Repository, Request, repository, request}
-use Rattle.cycle.specs.declared.order.Cycle.{Cycle}
+use Rattle.cycle.specs.declared.round.Cycle.{Cycle}
 
 abbrev pub request_of : Cycle → Request
 request_of c = request c.trusted.now c.round.now c.round.wanted.now c.limits.roles

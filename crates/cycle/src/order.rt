@@ -10,7 +10,7 @@ use crate::course::Course;
 use crate::limits::Limits;
 use crate::outcome::Outcome;
 use crate::roles::gather_roles;
-use crate::round::Round;
+use crate::round::{Cycle, Round};
 use crate::store::{InMemory, Store};
 use crate::target::verdicts_of;
 use cjson::NoMemory;
@@ -31,20 +31,7 @@ pub(crate) trait Ordered {
         ensures { IfOk result (λ o. o ≡ gives self.now) };
 }
 
-/// The input of a run. Its own work is the workflow up to the searches, which looks at no target
-/// file.
-#[derive(Clone, Copy)]
-pub(crate) struct Cycle<'a> {
-    /// The allocator.
-    pub alloc: Global,
-    /// The trusted state at the start.
-    pub trusted: &'a Trusted,
-    /// The repository, the moment and the wanted paths.
-    pub round: Round<'a>,
-    /// The limits.
-    pub limits: Limits,
-}
-
+/// Its own work is the workflow up to the searches, which looks at no target file.
 impl Ordered for Cycle<'_> {
     type Gives = Course;
 

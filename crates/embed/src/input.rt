@@ -9,7 +9,7 @@ ghost use Rattle.embed.specs.declared.job.Job.{Job};
 use crate::fault::JobFault;
 use crate::job::{Job, files_of, paths_of};
 use cjson::NoMemory;
-use cycle::{Course, Limits, Moment, Repo, Trusted, follow_alone};
+use cycle::{Course, Cycle, Limits, Moment, Repo, Round, Trusted, follow_alone};
 use std::alloc::Global;
 use std::collections::BTreeMap;
 
@@ -69,14 +69,17 @@ pub(crate) fn follow(alloc: Global, input: &Input) -> Result<Course, NoMemory>
     ensures { (job : Job) → IsInput job input.now
         → IfOk result (λ c. c ≡ spec.course_for job input.now.trusted) }
 {
-    let Input {
-        trusted,
-        repo,
-        moment,
-        wanted,
-        limits,
-    } = input;
-    follow_alone(alloc, trusted, repo, *moment, wanted.as_slice(), limits)
+    let round = Round {
+        repo: &input.repo,
+        now: input.moment,
+        wanted: input.wanted.as_slice(),
+    };
+    follow_alone(&Cycle {
+        alloc,
+        trusted: &input.trusted,
+        round,
+        limits: input.limits,
+    })
 }
 
 /// Returns the moment that many seconds after 1970-01-01T00:00:00Z. Fails with `Moment` past the

@@ -91,7 +91,7 @@ fn measured_into<F: Folder, D: Destination>(
     let searches = course.searches();
     let mut known = named(alloc, names)?;
     note_all(alloc, searches, consistent, &mut known)?;
-    let copies = copy_all(alloc, folder, searches, consistent, &mut known, to)?;
+    let copies = copy_all(alloc, course, folder, &mut known, to)?;
     // What is needed was read by now.
     read_all(alloc, folder, searches, consistent, &mut known)?;
     Ok((known, copies))
@@ -101,17 +101,16 @@ fn measured_into<F: Folder, D: Destination>(
 /// position, if its file is the target that it found and wasn't read before.
 fn copy_all<F: Folder, D: Destination>(
     alloc: Global,
+    course: &Course,
     folder: &mut F,
-    searches: &[Option<Search>],
-    consistent: bool,
     known: &mut Known,
     to: &mut D,
 ) -> Result<Vec<Option<D::Temporary>>, Failure>
     ensures known { OnOk result ((names : List (List ℕ))
-        → StaysKnown names (F.holds folder.old) (is_found consistent searches.now)
-        known.old known.new) }
+        → StaysKnown names (F.holds folder.old) (is_found
+        course.now.trusted.root.reading.consistent course.now.searches) known.old known.new) }
     ensures copies { IfOk result
-        (λ copies. AreCopiesFor D.Temporary.took copies.items searches.now) }
+        (λ copies. AreCopiesFor D.Temporary.took copies.items course.now.searches) }
     ensures failed { IfErr result (λ f. f ≡ Failure.Folder
         → HasFailed (F.failures folder.old) (F.failures folder.new)) }
     ensures refused { IfErr result
@@ -121,27 +120,36 @@ fn copy_all<F: Folder, D: Destination>(
     ensures same_bytes { F.holds folder.new ≡ F.holds folder.old }
     ensures kept { D.keeps to.new ≡ D.keeps to.old }
 {
+    let consistent = course.has_consistent_names();
     let mut copies = Vec::new(alloc);
-    for search in searches {
-        let copy = copy_one(alloc, folder, search, consistent, known, to)?;
+    for search in course.searches() {
+        let sought = Sought { search, consistent };
+        let copy = copy_one(alloc, folder, &sought, known, to)?;
         copies.push(copy)?;
     }
     Ok(copies)
+}
+
+/// A search, and whether names of target files begin with a digest.
+#[derive(Clone, Copy)]
+struct Sought<'a> {
+    search: &'a Option<Search>,
+    consistent: bool,
 }
 
 /// Reads and copies the file that the search found, if it found one that is there and wasn't read.
 fn copy_one<F: Folder, D: Destination>(
     alloc: Global,
     folder: &mut F,
-    search: &Option<Search>,
-    consistent: bool,
+    sought: &Sought,
     known: &mut Known,
     to: &mut D,
 ) -> Result<Option<D::Temporary>, Failure>
     ensures known { (names : List (List ℕ)) (found : List ℕ → Bool)
-        → ((name : List ℕ) → is_found_by consistent name search.now ≡ true → found name ≡ true)
+        → ((name : List ℕ) → is_found_by sought.now.consistent name sought.now.search.now ≡ true
+        → found name ≡ true)
         → StaysKnown names (F.holds folder.old) found known.old known.new }
-    ensures copy { IfOk result (λ copy. IsCopyFor D.Temporary.took copy search.now) }
+    ensures copy { IfOk result (λ copy. IsCopyFor D.Temporary.took copy sought.now.search.now) }
     ensures failed { IfErr result (λ f. f ≡ Failure.Folder
         → HasFailed (F.failures folder.old) (F.failures folder.new)) }
     ensures refused { IfErr result
@@ -151,31 +159,36 @@ fn copy_one<F: Folder, D: Destination>(
     ensures same_bytes { F.holds folder.new ≡ F.holds folder.old }
     ensures kept { D.keeps to.new ≡ D.keeps to.old }
 {
-    let Some(target) = target_of(search) else {
+    let Some(target) = target_of(sought.search) else {
         return Ok(None);
     };
-    let Some(name) = place(alloc, known, consistent, target)? else {
+    let Some(name) = place(alloc, known, sought.consistent, target)? else {
         return Ok(None);
     };
-    copy_file(alloc, folder, name, target, known, to)
+    copy_file(alloc, folder, Placed { name, target }, known, to)
 }
 
-/// Reads and copies the file of that name, which is there, unless it was read as far as the target
-/// needs it.
+/// A file that is there, and the target that it should be.
+#[derive(Drop)]
+struct Placed<'a> {
+    name: String,
+    target: &'a Target,
+}
+
+/// Reads and copies the file, unless it was read as far as the target needs it.
 fn copy_file<F: Folder, D: Destination>(
     alloc: Global,
     folder: &mut F,
-    name: String,
-    target: &Target,
+    placed: Placed<'_>,
     known: &mut Known,
     to: &mut D,
 ) -> Result<Option<D::Temporary>, Failure>
-    requires there { is_some (get_by_text known.old.files (string_bytes name)) ≡ true }
+    requires there { is_some (get_by_text known.old.files (string_bytes placed.name)) ≡ true }
     ensures known { (names : List (List ℕ)) (found : List ℕ → Bool)
-        → found (string_bytes name) ≡ true
+        → found (string_bytes placed.entry.name) ≡ true
         → StaysKnown names (F.holds folder.old) found known.old known.new }
     ensures copy { IfOk result (λ copy. IfSome copy
-        (λ file. HasContentOf (D.Temporary.took file) target.now)) }
+        (λ file. HasContentOf (D.Temporary.took file) placed.entry.target.now)) }
     ensures failed { IfErr result (λ f. f ≡ Failure.Folder
         → HasFailed (F.failures folder.old) (F.failures folder.new)) }
     ensures refused { IfErr result
@@ -185,6 +198,7 @@ fn copy_file<F: Folder, D: Destination>(
     ensures same_bytes { F.holds folder.new ≡ F.holds folder.old }
     ensures kept { D.keeps to.new ≡ D.keeps to.old }
 {
+    let Placed { name, target } = placed;
     let entry = entry_of(known, name.as_str());
     if is_measured(entry, target) {
         return Ok(None);

@@ -4,7 +4,7 @@ ghost use Rattle.std.specs.Prelude.{◌≡◌, ◌≤◌, ◌<◌, ◌⊎◌, �
 ghost use Rattle.folder.specs.Folders.{HasFailed};
 ghost use Rattle.folder.specs.Measures.{IsMeasure};
 
-use cycle::{Course, Limits, Repo, Trusted, follow_alone};
+use cycle::{Course, Cycle, Limits, Repo, Round, Trusted, follow_alone};
 use folder::{Folder, LoadFault, Measure, Need};
 use maker::make;
 use measured::{Readers, close};
@@ -17,7 +17,7 @@ use std::test::Fail;
 use std::thread::Threads;
 
 /// Three targets by one key: `b` is listed with both digests, and the others with one.
-const PLAIN: &str = "key 1 5 4
+pub(crate) const PLAIN: &str = "key 1 5 4
 top root 1 1
 top timestamp 1 1
 top snapshot 1 1
@@ -178,17 +178,21 @@ impl Made {
 }
 
 /// Runs the cycle up to the searches for these paths.
-fn course(alloc: Global, repo: &Repo, wanted: &[String]) -> Result<Course, Fail> {
+pub(crate) fn course(alloc: Global, repo: &Repo, wanted: &[String]) -> Result<Course, Fail> {
     let root = repo.metadata.get("1.root.json").ok_or("a first root")?;
     let trusted = Trusted::from_root(alloc, root.as_slice())?;
     let now = Moment::read("2026-01-01T00:00:00Z").ok_or("a moment")?;
-    let limits = Limits::new(32, 0).ok_or("limits")?;
-    Ok(follow_alone(alloc, &trusted, repo, now, wanted, &limits)?)
+    Ok(follow_alone(&Cycle {
+        alloc,
+        trusted: &trusted,
+        round: Round { repo, now, wanted },
+        limits: Limits::new(32, 0).ok_or("limits")?,
+    })?)
 }
 
 /// Returns the wanted paths: two that are listed, the first of which is wanted twice, and one that
 /// isn't.
-fn wanted(alloc: Global) -> Result<Vec<String>, AllocError> {
+pub(crate) fn wanted(alloc: Global) -> Result<Vec<String>, AllocError> {
     let mut paths = Vec::new(alloc);
     for path in ["a", "b", "a", "d"] {
         paths.push(String::from_str(alloc, path)?)?;
@@ -219,7 +223,7 @@ fn closed<R: Threads + Sync>(
 }
 
 /// The lines of that outcome.
-const LINES: &str = "root 1
+pub(crate) const LINES: &str = "root 1
 end ready
 ok \"a\" 1 \"targets\"
 ok \"b\" 2 \"targets\"

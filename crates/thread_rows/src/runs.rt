@@ -4,7 +4,7 @@ use crate::asked::Asked;
 use crate::gates::Schedule;
 use crate::repositories::{Made, read};
 use anyhow::{Context, Result};
-use cycle::{InMemory, Limits, Moment, Outcome, Stats, follow_alone, run, run_alone};
+use cycle::{Cycle, InMemory, Limits, Moment, Outcome, Round, Stats, follow_alone, run, run_alone};
 use report::tell;
 use sessions::{Output, Step};
 use std::alloc::Global;
@@ -190,10 +190,14 @@ fn ran_alone(alloc: Global, made: &Made, wanted: &[String]) -> Result<Outcome> {
 }
 
 fn followed(alloc: Global, made: &Made, wanted: &[String]) -> Result<Outcome> {
-    let limits = Limits::new(ROLES, 0).context("too many questions")?;
+    let repo = &made.repo;
     let now = Moment::read(MOMENT).context("no moment")?;
-    let (trusted, repo) = (&made.trusted, &made.repo);
-    let course = follow_alone(alloc, trusted, repo, now, wanted, &limits)?;
+    let course = follow_alone(&Cycle {
+        alloc,
+        trusted: &made.trusted,
+        round: Round { repo, now, wanted },
+        limits: Limits::new(ROLES, 0).context("too many questions")?,
+    })?;
     let files = &repo.targets;
     Ok(course.close(alloc, &InMemory { alloc, files })?)
 }

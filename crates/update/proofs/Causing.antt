@@ -1,5 +1,5 @@
 -- Why a run fails, out of why its steps do.
-use Rattle.std.proofs.Common.{◌≡◌, ◌≤◌, ◌⊎◌, inl, inr, List, [], ◌∷◌, ℕ, Result, Err, IfErr, arith, subst, sym}
+use Rattle.std.proofs.Common.{◌≡◌, ◌≤◌, inl, inr, List, [], ◌∷◌, ℕ, Result, Err, IfErr, arith, subst, sym}
 use Rattle.std.specs.List.{AllZip}
 use Rattle.failure.specs.declared.failure.Failure.{Failure}
 use Rattle.failure.specs.declared.failure.Failure.TheVariants as failure

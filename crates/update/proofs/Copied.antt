@@ -21,6 +21,7 @@ use Rattle.report.specs.Lines.{is_good}
 use Rattle.examine.specs.Checks.{file_in}
 use Rattle.paths.specs.Names.{ArePathsOf}
 use Rattle.rolechain.specs.Advance.{advanced}
+use Rattle.update.specs.Every.{IsEveryStoredOn}
 use Rattle.update.specs.Copies.{AreBegun, AreCopied, AreFirstCopied, IsCopied, IsEnded, IsEveryKept, IsEveryKeptOn, IsEveryVerifiedInto, IsEveryVerifiedIntoFrom, IsKept, IsToldInto, IsVerifiedInto, IsVerifiedIntoFrom, Kept, good_paths, target_for}
 use Rattle.update.specs.Runs.{AreMetadata, IsMomentOf, IsOutcomeOn, IsRead, IsTold, Loaded, Moment, State, moment_text, start_from, start_of, state_text}
 use Rattle.update.specs.Same.{IsSame}
@@ -419,3 +420,33 @@ world_of gives gives_locked refuses locks shows keeps contents s m w = record {
   mirrors = m ∷ [];
   printed = contents w;
 }
+
+-- the same without copies: its new state is stored, and more holds of its outcome
+pub every_stored : (m n : Mirror) (p q : program.Start) (metadata : Loaded) (names : List (List ℕ)) (keeps : List ℕ → Bool) (o : Outcome) (F : List (List ℕ) → Outcome → Type 0)
+    → IsSame m n → AreMetadata m.metadata.lists m.metadata.holds metadata → m.targets.lists names ≡ true → q.trusted ≡ p.trusted → q.moment ≡ p.moment → q.limit ≡ p.limit
+    → ArePathsOf (advanced (file_in metadata) p.moment p.trusted).state.root.reading.consistent names (start_of q).wanted
+    → IsOutcomeOn n.targets.lists n.targets.holds (start_of q) (file_in metadata) o → keeps (state_text o.trusted) ≡ true → F (start_of q).wanted o
+    → IsEveryStoredOn m p.trusted p.moment p.limit keeps F
+every_stored m n p q metadata names keeps o F same loaded listed trusted moment limit paths h kept follows =
+    let files = file_in metadata in
+    let w : List (List ℕ) = (start_of q).wanted in
+    let at : State → Moment → ℕ → Request = λ t x l. record { trusted = t; moment = x; wanted = w; limit = l } in
+    let begins : start_of q ≡ at p.trusted p.moment p.limit =
+    ap (λ t. at t q.moment q.limit) trusted ∙ ap (λ x. at p.trusted x q.limit) moment ∙ ap (at p.trusted p.moment) limit in
+    let state : o.trusted ≡ (advanced files p.moment p.trusted).state =
+    state_of (start_of q) files n.targets.lists n.targets.holds o h
+    ∙ ap (λ t. (advanced files q.moment t).state) trusted ∙ ap (λ x. (advanced files x p.trusted).state) moment in
+    record {
+      names = names;
+      listed = listed;
+      wanted = w;
+      stored = record {
+        metadata = metadata;
+        in_metadata = loaded;
+        outcome = o;
+        of_workflow = subst (λ (s : Request). IsOutcomeOn m.targets.lists m.targets.holds s files o) begins
+            (outcome_on n.targets.lists m.targets.lists n.targets.holds m.targets.holds (start_of q) files o same.targets.lists same.targets.holds h);
+        kept = kept;
+        then = (subst (λ (t : State). ArePathsOf t.root.reading.consistent names w) (sym state) paths, follows);
+      };
+    }

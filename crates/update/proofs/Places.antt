@@ -1,5 +1,5 @@
 -- Folders of a list, of which one is read at a time.
-use Rattle.std.proofs.Common.{◌≡◌, ◌≤◌, ◌<◌, ◌+◌, ◌∙◌, ◌⊎◌, inl, inr, IfSome, IfErr, IfOk, Result, Ok, Err, List, [], ◌∷◌, ◌++◌, ℕ, zero, suc, true, add-one, ap, append-nil, append_assoc, arith, get_or, length, map, refl, slice_get, slice_set, string_bytes, subst, sym, take}
+use Rattle.std.proofs.Common.{◌≡◌, ◌<◌, ◌+◌, ◌∙◌, inl, inr, IfSome, IfErr, IfOk, Result, Ok, Err, List, [], ◌∷◌, ◌++◌, ℕ, zero, suc, true, add-one, ap, append-nil, append_assoc, arith, get_or, length, map, refl, slice_get, slice_set, string_bytes, subst, sym, take}
 use Rattle.std.specs.List.{AllZip}
 use Rattle.failure.specs.declared.failure.Failure.{Failure}
 use Rattle.failure.specs.declared.failure.Failure.TheVariants as failure

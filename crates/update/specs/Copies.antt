@@ -1,5 +1,4 @@
 -- A verification that stores copies of the good targets.
-use Rattle.std.specs.Bool.{⊤}
 use Rattle.std.specs.List.{list_all}
 use Rattle.std.specs.Prelude.{◌≡◌, ◌⊎◌, ℕ, Bool, true, false, if◌then◌else◌, List, [], ◌∷◌, take, Option, IsSomeAnd, map, string_bytes}
 use Rattle.copies.specs.Paths.{IsSameAt, is_below}

@@ -1,7 +1,7 @@
 -- The files that have to be fetched next, printed.
 use Rattle.std.specs.Bool.{⊤}
 use Rattle.std.specs.Io.KnownBytes.{Appends}
-use Rattle.std.specs.Prelude.{◌≡◌, ◌⊎◌, ℕ, List, [], ◌∷◌, Bool, true, Option, is_some, option_map}
+use Rattle.std.specs.Prelude.{◌≡◌, ◌⊎◌, ℕ, List, [], ◌∷◌, true, Option, is_some, option_map}
 use Rattle.examine.specs.Checks.{file_in}
 use Rattle.failure.specs.declared.failure.Failure.{Failure}
 use Rattle.failure.specs.declared.failure.Failure.TheVariants.{Now, State, Clock, Memory}

@@ -6,13 +6,14 @@ ghost use Rattle.std.specs.List.{AllZip};
 ghost use Rattle.examine.specs.Checks.{file_in};
 ghost use Rattle.rolechain.specs.Advance.{advanced};
 ghost use Rattle.update.specs.Causes.{AreWrong, IsCauseToVerify, IsCauseToVerifyFrom};
-ghost use Rattle.update.specs.Copies.{AreBegun, IsCauseToVerifyInto, IsToldInto, are_below};
+ghost use Rattle.update.specs.Copies.{IsCauseToVerifyInto, are_below};
 ghost use Rattle.update.specs.Copies.{IsEveryVerifiedInto, IsEveryVerifiedIntoFrom};
 ghost use Rattle.update.specs.Copies.{IsUntouchedInto, IsUntouchedOrBegun, IsUntouchedOrBegunFrom};
 ghost use Rattle.update.specs.Copies.{IsUntouchedOrEveryBegun, IsUntouchedOrEveryBegunFrom};
 ghost use Rattle.update.specs.Copies.{IsVerifiedInto, IsVerifiedIntoFrom, target_for};
 ghost use Rattle.update.specs.Runs.{AreMetadata, IsOutcomeOn, start_of};
-ghost use Rattle.update.specs.Stored.{IsCauseToEndInto, IsCopyFor, IsEndedIn};
+ghost use Rattle.update.specs.Stored.{IsCauseToEndInto, IsCopyFor, IsToldIntoFrom};
+ghost use Rattle.update.specs.Stored.{IsUntouchedOrBegunIn};
 ghost use Rattle.update.specs.World.{OthersKept};
 
 use crate::answer::tell_outcome;
@@ -22,7 +23,7 @@ use crate::installing::store_copies;
 use crate::start::{Opened, Start, Terms, limits_of};
 use crate::state::keep_state;
 use copies::{Destination, are_below};
-use cycle::{Open, follow};
+use cycle::{Cycle, Gate, Round, Threading, Watch, follow};
 use failure::Failure;
 use folder::Folder;
 use measured::{Copied, close_into};
@@ -42,9 +43,9 @@ impl<S: System, M: Folder, T: Folder, W: Write> Host<S, Folders<M, T>, W> {
     /// with `Output` if a copy can't be written. On failure nothing was stored, copied or printed;
     /// or if out of memory or by an output error, the new state was stored, and copies of the first
     /// good paths. What is stored for other paths stays.
-    pub fn verify_into<R: Threads + Wait + Sync, D: Destination>(
+    pub fn verify_into<R: Threads + Wait + Sync, N: Gate + Watch + Sync, D: Destination>(
         &mut self,
-        rt: &R,
+        threading: &Threading<'_, R, N>,
         alloc: Global,
         terms: &Terms<'_>,
         to: &mut D,
@@ -72,14 +73,13 @@ impl<S: System, M: Folder, T: Folder, W: Write> Host<S, Folders<M, T>, W> {
             return Err(Failure::Words);
         }
         let start = self.begin(alloc, terms)?;
-        self.verify_into_from(rt, alloc, &start, to)
+        self.verify_into_from(threading, &start, to)
     }
 
     /// Does so from the state, the moment and the wanted paths of `start`.
-    fn verify_into_from<R: Threads + Wait + Sync, D: Destination>(
+    fn verify_into_from<R: Threads + Wait + Sync, N: Gate + Watch + Sync, D: Destination>(
         &mut self,
-        rt: &R,
-        alloc: Global,
+        threading: &Threading<'_, R, N>,
         start: &Start<'_>,
         to: &mut D,
     ) -> Result<u8, Failure>
@@ -101,9 +101,9 @@ impl<S: System, M: Folder, T: Folder, W: Write> Host<S, Folders<M, T>, W> {
         ensures cause { IfErr result (IsCauseToVerifyFrom start.now
             (⟦<Self as HasWorld>⟧.world self.old) (⟦<Self as HasWorld>⟧.world self.new)) }
     {
-        let opened = self.folders.open(alloc)?;
-        let done = self.end_into(rt, alloc, start, opened, to);
-        to.clear(alloc);
+        let opened = self.folders.open(start.alloc)?;
+        let done = self.end_into(threading, start, opened, to);
+        to.clear(start.alloc);
         done
     }
 
@@ -111,9 +111,9 @@ impl<S: System, M: Folder, T: Folder, W: Write> Host<S, Folders<M, T>, W> {
     /// [`verify_every`](Host::verify_every) does, and stores copies as
     /// [`verify_into`](Host::verify_into) does. An accepted path that may not be that of a copy is
     /// one that can't be written. The wanted paths of `terms` have no influence.
-    pub fn verify_every_into<R: Threads + Wait + Sync, D: Destination>(
+    pub fn verify_every_into<R: Threads + Wait + Sync, N: Gate + Watch + Sync, D: Destination>(
         &mut self,
-        rt: &R,
+        threading: &Threading<'_, R, N>,
         alloc: Global,
         terms: &Terms<'_>,
         to: &mut D,
@@ -137,14 +137,13 @@ impl<S: System, M: Folder, T: Folder, W: Write> Host<S, Folders<M, T>, W> {
             (⟦<Self as HasWorld>⟧.world self.old) (⟦<Self as HasWorld>⟧.world self.new)) }
     {
         let start = self.begin(alloc, terms)?;
-        self.verify_every_into_from(rt, alloc, start, to)
+        self.verify_every_into_from(threading, start, to)
     }
 
     /// Does so from the state and the moment of `start`, whose wanted paths have no influence.
-    fn verify_every_into_from<R: Threads + Wait + Sync, D: Destination>(
+    fn verify_every_into_from<R: Threads + Wait + Sync, N: Gate + Watch + Sync, D: Destination>(
         &mut self,
-        rt: &R,
-        alloc: Global,
+        threading: &Threading<'_, R, N>,
         start: Start<'_>,
         to: &mut D,
     ) -> Result<u8, Failure>
@@ -166,20 +165,20 @@ impl<S: System, M: Folder, T: Folder, W: Write> Host<S, Folders<M, T>, W> {
         ensures cause { IfErr result (IsCauseToVerifyFrom start.entry
             (⟦<Self as HasWorld>⟧.world self.old) (⟦<Self as HasWorld>⟧.world self.new)) }
     {
+        let alloc = start.alloc;
         let opened = self.folders.open(alloc)?;
-        let wanted = wanted_of(rt, alloc, &start, &opened)?;
+        let wanted = wanted_of(threading, &start, &opened)?;
         let start = wanting(start, wanted.as_slice());
-        let done = self.end_into(rt, alloc, &start, opened, to);
+        let done = self.end_into(threading, &start, opened, to);
         to.clear(alloc);
         done
     }
 
     /// Ends a verification of metadata that was loaded: reads and copies the target files, stores
     /// the new state and the copies, and prints the lines.
-    fn end_into<R: Threads + Wait + Sync, D: Destination>(
+    fn end_into<R: Threads + Wait + Sync, N: Gate + Watch + Sync, D: Destination>(
         &mut self,
-        rt: &R,
-        alloc: Global,
+        threading: &Threading<'_, R, N>,
         start: &Start<'_>,
         opened: Opened,
         to: &mut D,
@@ -189,18 +188,13 @@ impl<S: System, M: Folder, T: Folder, W: Write> Host<S, Folders<M, T>, W> {
         ensures known { IfOk result (λ status. status ≤ 2) }
         ensures locked { (⟦<Self as HasWorld>⟧.world self.new).locks
             ≡ (⟦<Self as HasWorld>⟧.world self.old).locks }
-        ensures ended { let s = start_of start.now in let files = file_in opened.repo.metadata in
-            IfOk result (λ status. IsEndedIn (⟦<Self as HasWorld>⟧.world self.old).mirrors
-            s files ((⟦<Self as HasWorld>⟧.world self.new).keeps start.now.state.now)
-            (IsToldInto (⟦<Self as HasWorld>⟧.world self.old)
-            (⟦<Self as HasWorld>⟧.world self.new) (D.keeps to.old) (D.keeps to.new)
-            status s files)) }
-        ensures order { let s = start_of start.now in let files = file_in opened.repo.metadata in
-            OnErr result ((IsUntouchedInto (⟦<Self as HasWorld>⟧.world self.old)
-            (⟦<Self as HasWorld>⟧.world self.new) (D.keeps to.old) (D.keeps to.new))
-            ⊎ (IsEndedIn (⟦<Self as HasWorld>⟧.world self.old).mirrors
-            s files ((⟦<Self as HasWorld>⟧.world self.new).keeps start.now.state.now)
-            (AreBegun (D.keeps to.old) (D.keeps to.new) s files))) }
+        ensures ended { IfOk result (IsToldIntoFrom start.now (file_in opened.repo.metadata)
+            (⟦<Self as HasWorld>⟧.world self.old) (⟦<Self as HasWorld>⟧.world self.new)
+            (D.keeps to.old) (D.keeps to.new)) }
+        ensures order { OnErr result (IsUntouchedOrBegunIn start.now
+            (file_in opened.repo.metadata)
+            (⟦<Self as HasWorld>⟧.world self.old) (⟦<Self as HasWorld>⟧.world self.new)
+            (D.keeps to.old) (D.keeps to.new)) }
         ensures others { OthersKept start.now.state.now
             (⟦<Self as HasWorld>⟧.world self.old).keeps
             (⟦<Self as HasWorld>⟧.world self.new).keeps }
@@ -210,7 +204,8 @@ impl<S: System, M: Folder, T: Folder, W: Write> Host<S, Folders<M, T>, W> {
         ensures cause { IfErr result (IsCauseToVerifyFrom start.now
             (⟦<Self as HasWorld>⟧.world self.old) (⟦<Self as HasWorld>⟧.world self.new)) }
     {
-        let copied = outcome_into(rt, alloc, start, opened, &mut self.folders.targets, to)?;
+        let alloc = start.alloc;
+        let copied = outcome_into(threading, start, opened, &mut self.folders.targets, to)?;
         let Copied { outcome, copies } = copied;
         keep_state(alloc, &mut self.system, start.state, outcome.trusted())?;
         store_copies(
@@ -226,9 +221,8 @@ impl<S: System, M: Folder, T: Folder, W: Write> Host<S, Folders<M, T>, W> {
 
 /// Returns the outcome of the workflow on metadata that was loaded and on the target files of a
 /// folder that has these names, and temporary files with the bytes of targets.
-fn outcome_into<R: Threads + Wait + Sync, T: Folder, D: Destination>(
-    rt: &R,
-    alloc: Global,
+fn outcome_into<R: Threads + Wait + Sync, N: Gate + Watch + Sync, T: Folder, D: Destination>(
+    threading: &Threading<'_, R, N>,
     start: &Start<'_>,
     opened: Opened,
     targets: &mut T,
@@ -250,16 +244,17 @@ fn outcome_into<R: Threads + Wait + Sync, T: Folder, D: Destination>(
 {
     let limits = limits_of(start)?;
     let Opened { repo, names } = opened;
-    let course = follow(
-        rt,
-        alloc,
-        &start.trusted,
-        &repo,
-        start.moment,
-        start.wanted,
-        &limits,
-        start.workers,
-        &Open,
-    )?;
-    close_into(alloc, course, targets, names, to)
+    let round = Round {
+        repo: &repo,
+        now: start.moment,
+        wanted: start.wanted(),
+    };
+    let cycle = Cycle {
+        alloc: start.alloc,
+        trusted: &start.trusted,
+        round,
+        limits,
+    };
+    let course = follow(&cycle, threading, start.workers)?;
+    close_into(start.alloc, course, targets, names, to)
 }

@@ -14,7 +14,7 @@ use crate::host::{Folders, HasWorld, Host};
 use crate::start::{Opened, Start, Terms, limits_of};
 use crate::state::keep_state;
 use crate::verification::outcome;
-use cycle::{Open, follow};
+use cycle::{Cycle, Gate, Round, Threading, Watch, follow};
 use failure::Failure;
 use folder::Folder;
 use paths::paths_of_names;
@@ -29,9 +29,9 @@ impl<S: System, M: Folder, T: Folder + Sync, W: Write> Host<S, Folders<M, T>, W>
     /// [`verify`](Host::verify) does with wanted paths: each path once, in byte order. Whether
     /// names are consistent says the root that is trusted at the end. The wanted paths of `terms`
     /// have no influence.
-    pub fn verify_every<R: Threads + Wait + Sync>(
+    pub fn verify_every<R: Threads + Wait + Sync, N: Gate + Watch + Sync>(
         &mut self,
-        rt: &R,
+        threading: &Threading<'_, R, N>,
         alloc: Global,
         terms: &Terms<'_>,
     ) -> Result<u8, Failure>
@@ -51,13 +51,13 @@ impl<S: System, M: Folder, T: Folder + Sync, W: Write> Host<S, Folders<M, T>, W>
             (⟦<Self as HasWorld>⟧.world self.old) (⟦<Self as HasWorld>⟧.world self.new)) }
     {
         let start = self.begin(alloc, terms)?;
-        self.verify_every_from(rt, alloc, start)
+        self.verify_every_from(threading, alloc, start)
     }
 
     /// Does so from the state and the moment of `start`, whose wanted paths have no influence.
-    fn verify_every_from<R: Threads + Wait + Sync>(
+    fn verify_every_from<R: Threads + Wait + Sync, N: Gate + Watch + Sync>(
         &mut self,
-        rt: &R,
+        threading: &Threading<'_, R, N>,
         alloc: Global,
         start: Start<'_>,
     ) -> Result<u8, Failure>
@@ -77,9 +77,9 @@ impl<S: System, M: Folder, T: Folder + Sync, W: Write> Host<S, Folders<M, T>, W>
             (⟦<Self as HasWorld>⟧.world self.old) (⟦<Self as HasWorld>⟧.world self.new)) }
     {
         let opened = self.folders.open(alloc)?;
-        let wanted = wanted_of(rt, alloc, &start, &opened)?;
+        let wanted = wanted_of(threading, &start, &opened)?;
         let start = wanting(start, wanted.as_slice());
-        let outcome = outcome(rt, alloc, &start, opened, &mut self.folders.targets)?;
+        let outcome = outcome(threading, &start, opened, &mut self.folders.targets)?;
         keep_state(alloc, &mut self.system, start.state, outcome.trusted())?;
         tell_outcome(alloc, &outcome, start.wanted, &mut self.out)
     }
@@ -100,9 +100,8 @@ pub(crate) fn wanting<'a>(start: Start<'a>, wanted: &'a [String]) -> Start<'a>
 /// The paths of these names, which are consistent if the root says so that is trusted once the
 /// metadata was examined. That is done without wanted paths here, and again with them after it,
 /// with the same result.
-pub(crate) fn wanted_of<R: Threads + Wait + Sync>(
-    rt: &R,
-    alloc: Global,
+pub(crate) fn wanted_of<R: Threads + Wait + Sync, N: Gate + Watch + Sync>(
+    threading: &Threading<'_, R, N>,
     start: &Start<'_>,
     opened: &Opened,
 ) -> Result<Vec<String>, Failure>
@@ -114,17 +113,19 @@ pub(crate) fn wanted_of<R: Threads + Wait + Sync>(
         ⊎ ((f ≡ Failure.Words) × AreWrong start.now.limit start.now.workers)) }
 {
     let limits = limits_of(start)?;
-    let course = follow(
-        rt,
-        alloc,
-        &start.trusted,
-        &opened.repo,
-        start.moment,
-        &[],
-        &limits,
-        start.workers,
-        &Open,
-    )?;
+    let round = Round {
+        repo: &opened.repo,
+        now: start.moment,
+        wanted: &[],
+    };
+    let cycle = Cycle {
+        alloc: start.alloc,
+        trusted: &start.trusted,
+        round,
+        limits,
+    };
+    let course = follow(&cycle, threading, start.workers)?;
     let names = opened.names.as_slice();
-    Ok(paths_of_names(alloc, names, course.has_consistent_names())?)
+    let is_consistent = course.has_consistent_names();
+    Ok(paths_of_names(start.alloc, names, is_consistent)?)
 }

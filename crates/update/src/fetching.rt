@@ -12,7 +12,7 @@ use crate::clock::moment;
 use crate::host::{Folders, HasMirrors, HasWorld, Host};
 use crate::start::Opened;
 use crate::state::read_state;
-use cycle::{Limits, Moment, Repo, Trusted, follow_alone};
+use cycle::{Cycle, Limits, Moment, Round, Trusted, follow_alone};
 use failure::Failure;
 use folder::Folder;
 use needs::{Need, Place, names_of, needs};
@@ -77,8 +77,8 @@ impl<S: System, M: Folder, T: Folder, W: Write> Host<S, Folders<M, T>, W> {
             (⟦<Self as HasWorld>⟧.world self.old).mirrors
             (⟦<Self as HasWorld>⟧.world self.new).mirrors) }
     {
-        let Opened { repo, names } = self.folders.open(alloc)?;
-        let all = absent(alloc, wants, trusted, moment, &repo, names)?;
+        let opened = self.folders.open(alloc)?;
+        let all = absent(alloc, wants, trusted, moment, opened)?;
         tell_needs(alloc, all.as_slice(), wants.only, &mut self.out)
     }
 }
@@ -101,25 +101,34 @@ impl<S: System, F: HasMirrors, W: Write> Host<S, F, W> {
 
 /// Returns the files that are absent, from the metadata that was loaded and the names of the target
 /// files.
-fn absent(
+fn absent<'a>(
     alloc: Global,
-    wants: &Wants<'_>,
-    trusted: &Trusted,
+    wants: &'a Wants<'_>,
+    trusted: &'a Trusted,
     moment: Moment,
-    repo: &Repo,
-    names: Vec<String>,
+    opened: Opened,
 ) -> Result<Vec<Need>, Failure>
     ensures needs { IfOk result (λ all. all.items ≡ spec.needs_on
-        (spec.request_of wants.now trusted.now moment) (file_in repo.now.metadata)
-        (map string_bytes names.items)) }
+        (spec.request_of wants.now trusted.now moment) (file_in opened.repo.metadata)
+        (map string_bytes opened.names.items)) }
     ensures refused { IfErr result (λ f. (f ≡ Failure.Memory)
         ⊎ ((f ≡ Failure.Words) × AreWrong wants.now.limit 0)) }
 {
+    let Opened { repo, names } = opened;
     let Some(limits) = Limits::new(wants.limit, 0) else {
         return Err(Failure::Words);
     };
-    let wanted = wants.wanted.as_slice();
-    let course = follow_alone(alloc, trusted, repo, moment, wanted, &limits)?;
+    let round = Round {
+        repo: &repo,
+        now: moment,
+        wanted: wants.wanted.as_slice(),
+    };
+    let course = follow_alone(&Cycle {
+        alloc,
+        trusted,
+        round,
+        limits,
+    })?;
     let targets = names_of(alloc, names)?;
     Ok(needs(alloc, trusted, &course, &repo.metadata, &targets)?)
 }

@@ -1,14 +1,14 @@
 //! The copies of good targets, stored for their paths.
 
-ghost use Rattle.std.specs.Prelude.{◌≡◌, ◌⊎◌, ◌++◌, ◌∷◌, [], List, ℕ, Option, Some};
+ghost use Rattle.std.specs.Prelude.{◌≡◌, ◌⊎◌, ◌++◌, ◌∷◌, [], List, ℕ, Some};
 ghost use Rattle.std.specs.Prelude.{IfErr, IfSome, OnErr, OnOk, map, string_bytes};
 ghost use Rattle.std.specs.Prelude.{bytes_eq, if◌then◌else◌, true};
 ghost use Rattle.std.specs.BTreeSet.{contains_text};
-ghost use Rattle.std.specs.List.{AllZip, slice_get};
-ghost use Rattle.cycle.specs.Workflow.{Target};
-ghost use Rattle.update.specs.Copies.{AreCopied, AreFirstCopied, Kept, good_paths};
+ghost use Rattle.std.specs.List.{slice_get};
+ghost use Rattle.update.specs.Copies.{AreCopied, Kept};
 ghost use Rattle.update.specs.Stored as glue;
-ghost use Rattle.update.specs.Stored.{HasPaths, IsCopyFor};
+ghost use Rattle.update.specs.Stored.{AreCopiedWith, AreCopiesOf, AreFirstGoodCopied};
+ghost use Rattle.update.specs.Stored.{AreGoodCopied, HasPaths, IsLentFor, Lookup};
 
 use copies::{Destination, is_below};
 use cycle::Verdict;
@@ -25,17 +25,12 @@ pub(crate) fn store_copies<D: Destination>(
     copies: &[Option<D::Temporary>],
     to: &mut D,
 ) -> Result<(), Failure>
-    ensures copied { (found : List ℕ → Option Target)
-        → AllZip (IsCopyFor D.Temporary.took) copies.now
-        (map found (map string_bytes wanted.now))
-        → OnOk result (AreCopied found (good_paths (map string_bytes wanted.now) verdicts.now)
-        (D.keeps to.old) (D.keeps to.new)) }
-    ensures begun { (found : List ℕ → Option Target)
-        → AllZip (IsCopyFor D.Temporary.took) copies.now
-        (map found (map string_bytes wanted.now))
-        → OnErr result (AreFirstCopied found
-        (good_paths (map string_bytes wanted.now) verdicts.now)
-        (D.keeps to.old) (D.keeps to.new)) }
+    ensures copied { (found : Lookup) → let paths = map string_bytes wanted.now in
+        AreCopiesOf D.Temporary.took found paths copies.now → OnOk result
+        (AreGoodCopied found paths verdicts.now (D.keeps to.old) (D.keeps to.new)) }
+    ensures begun { (found : Lookup) → let paths = map string_bytes wanted.now in
+        AreCopiesOf D.Temporary.took found paths copies.now → OnErr result
+        (AreFirstGoodCopied found paths verdicts.now (D.keeps to.old) (D.keeps to.new)) }
     ensures refused { IfErr result (λ f. (f ≡ Failure.Memory) ⊎ (f ≡ Failure.Output)) }
 {
     let mut stored = BTreeSet::new(alloc);
@@ -76,10 +71,10 @@ fn store_copy<D: Destination>(
 ) -> Result<(), Failure>
     ensures paths { (done : List (List ℕ)) → HasPaths stored.old done
         → OnOk result (HasPaths stored.new (done ++ path.now ∷ [])) }
-    ensures copied { (found : List ℕ → Option Target) (done : List (List ℕ)) (before : Kept)
-        → IfSome copy.entry (λ file. IsCopyFor D.Temporary.took (Some file.now) (found path.now))
-        → HasPaths stored.old done → AreCopied found done before (D.keeps to.old)
-        → OnOk result (AreCopied found (done ++ path.now ∷ []) before (D.keeps to.new)) }
+    ensures copied { (found : Lookup) (all : List (List ℕ)) (old : Kept)
+        → IsLentFor D.Temporary.took copy.entry (found path.now)
+        → HasPaths stored.old all → AreCopied found all old (D.keeps to.old)
+        → OnOk result (AreCopiedWith found all path.now old (D.keeps to.new)) }
     ensures unchanged { OnErr result (D.keeps to.new ≡ D.keeps to.old) }
     ensures refused { IfErr result (λ f. (f ≡ Failure.Memory) ⊎ (f ≡ Failure.Output)) }
 {

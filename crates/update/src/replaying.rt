@@ -17,7 +17,7 @@ ghost use Rattle.update.specs.World.{IsUntouched, OthersKept};
 use crate::host::{Folders, HasMirrors, HasWorld, Host};
 use crate::start::{Opened, Start, Terms, limits_of};
 use crate::state::keep_state;
-use cycle::{Keeper, Limits, Open, Outcome};
+use cycle::{Gate, Keeper, Limits, Outcome, Round, Threading, Watch};
 use failure::Failure;
 use folder::Folder;
 use measured::{Readers, close};
@@ -44,9 +44,9 @@ impl<S: System, M: Folder, T: Folder + Sync, W: Write> Host<S, Vec<Folders<M, T>
     /// reads the folders, as [`replay_from`](Host::replay_from) does. The file stays locked. If one
     /// of them fails, nothing was stored or printed. If out of memory or by an output error, that
     /// holds too, or the last state was stored whole. What is stored for other paths stays.
-    pub fn replay<R: Threads + Wait + Sync>(
+    pub fn replay<R: Threads + Wait + Sync, N: Gate + Watch + Sync>(
         &mut self,
-        rt: &R,
+        threading: &Threading<'_, R, N>,
         alloc: Global,
         terms: &Terms<'_>,
         keep: usize,
@@ -67,7 +67,7 @@ impl<S: System, M: Folder, T: Folder + Sync, W: Write> Host<S, Vec<Folders<M, T>
             (⟦<Self as HasWorld>⟧.world self.old) (⟦<Self as HasWorld>⟧.world self.new)) }
     {
         let start = self.begin(alloc, terms)?;
-        self.replay_from(rt, alloc, &Cycles { start, keep })
+        self.replay_from(threading, &Cycles { start, keep })
     }
 
     /// Verifies what each pair of folders holds, in order, each time from the state of the cycle
@@ -78,10 +78,9 @@ impl<S: System, M: Folder, T: Folder + Sync, W: Write> Host<S, Vec<Folders<M, T>
     /// All metadata folders are loaded and the names of all target files are listed before the
     /// first cycle. A target file that a cycle's searches found is read in that cycle, and no other
     /// is. Otherwise all is as for [`verify_from`](Host::verify_from), with the last state.
-    pub fn replay_from<R: Threads + Wait + Sync>(
+    pub fn replay_from<R: Threads + Wait + Sync, N: Gate + Watch + Sync>(
         &mut self,
-        rt: &R,
-        alloc: Global,
+        threading: &Threading<'_, R, N>,
         cycles: &Cycles<'_>,
     ) -> Result<u8, Failure>
         ensures known { IfOk result (λ status. status ≤ 2) }
@@ -99,11 +98,11 @@ impl<S: System, M: Folder, T: Folder + Sync, W: Write> Host<S, Vec<Folders<M, T>
         ensures cause { IfErr result (IsCauseToReplayFrom cycles.now
             (⟦<Self as HasWorld>⟧.world self.old) (⟦<Self as HasWorld>⟧.world self.new)) }
     {
+        let alloc = cycles.start.alloc;
         let opened = open_all(alloc, &mut self.folders)?;
         let mut keeper = keeper_of(alloc, cycles)?;
-        let run = Runtime { rt, alloc };
         let folders = &mut self.folders;
-        let outcomes = outcomes(&run, &cycles.start, opened, folders, &mut keeper)?;
+        let outcomes = outcomes(threading, &cycles.start, opened, folders, &mut keeper)?;
         keep_state(
             alloc,
             &mut self.system,
@@ -172,13 +171,6 @@ fn keeper_of(alloc: Global, cycles: &Cycles<'_>) -> Result<Keeper, Failure>
     Ok(Keeper::new(alloc, trusted, cycles.keep)?)
 }
 
-/// The runtime and the allocator of a replay.
-#[derive(Drop)]
-struct Runtime<'a, R> {
-    rt: &'a R,
-    alloc: Global,
-}
-
 /// What each cycle of a replay begins with, and its limits.
 #[derive(Clone, Copy)]
 struct Begun<'a> {
@@ -188,8 +180,8 @@ struct Begun<'a> {
 
 /// Returns the outcomes of all cycles of a keeper of the start's state, with the number of workers
 /// that the start names.
-fn outcomes<R: Threads + Wait + Sync, M: Folder, T: Folder + Sync>(
-    run: &Runtime<'_, R>,
+fn outcomes<R: Threads + Wait + Sync, N: Gate + Watch + Sync, M: Folder, T: Folder + Sync>(
+    threading: &Threading<'_, R, N>,
     start: &Start<'_>,
     opened: Vec<Opened>,
     folders: &mut Vec<Folders<M, T>>,
@@ -212,17 +204,17 @@ fn outcomes<R: Threads + Wait + Sync, M: Folder, T: Folder + Sync>(
         start,
         limits: limits_of(start)?,
     };
-    let mut all = Vec::new(run.alloc);
+    let mut all = Vec::new(start.alloc);
     for one in opened {
         let targets = &mut folders[all.len()].targets;
-        all.push(outcome(run, &begun, one, targets, keeper)?)?;
+        all.push(outcome(threading, &begun, one, targets, keeper)?)?;
     }
     Ok(all)
 }
 
 /// Returns the outcome of one cycle from the keeper's state, which is then the outcome's.
-fn outcome<R: Threads + Wait + Sync, T: Folder + Sync>(
-    run: &Runtime<'_, R>,
+fn outcome<R: Threads + Wait + Sync, N: Gate + Watch + Sync, T: Folder + Sync>(
+    threading: &Threading<'_, R, N>,
     begun: &Begun<'_>,
     one: Opened,
     targets: &mut T,
@@ -242,18 +234,15 @@ fn outcome<R: Threads + Wait + Sync, T: Folder + Sync>(
 {
     let Opened { repo, names } = one;
     let start = begun.start;
-    let course = keeper.follow(
-        run.rt,
-        &repo,
-        start.moment,
-        start.wanted,
-        &begun.limits,
-        start.workers,
-        &Open,
-    )?;
+    let round = Round {
+        repo: &repo,
+        now: start.moment,
+        wanted: start.wanted,
+    };
+    let course = keeper.follow(&round, &begun.limits, threading, start.workers)?;
     let readers = Readers {
-        rt: run.rt,
+        rt: threading.rt,
         threads: start.workers,
     };
-    close(&readers, run.alloc, course, targets, names)
+    close(&readers, start.alloc, course, targets, names)
 }

@@ -43,17 +43,27 @@ pub struct Terms<'a> {
     pub wanted: Vec<String>,
 }
 
-/// What a verification begins with: the trusted state, the moment, the wanted paths, the maximum
-/// number of roles that a search visits (1 to 256), the number of threads that decide checks in
-/// advance (0 to 64), and the path of the file for the new state.
+/// What a verification begins with: the allocator, the trusted state, the moment, the wanted paths,
+/// the maximum number of roles that a search visits (1 to 256), the number of threads that decide
+/// checks in advance (0 to 64), and the path of the file for the new state.
 #[derive(Drop)]
 pub struct Start<'a> {
+    pub alloc: Global,
     pub trusted: Trusted,
     pub moment: Moment,
     pub wanted: &'a [String],
     pub limit: usize,
     pub workers: usize,
     pub state: &'a str,
+}
+
+impl Start<'_> {
+    /// Returns the wanted paths.
+    pub(crate) fn wanted(&self) -> &[String]
+        ensures { result.now ≡ self.now.wanted.now }
+    {
+        self.wanted
+    }
 }
 
 impl<S: System, F: HasMirrors, W: Write> Host<S, F, W> {
@@ -84,6 +94,7 @@ impl<S: System, F: HasMirrors, W: Write> Host<S, F, W> {
     {
         let moment = moment(&self.system, terms.moment)?;
         Ok(Start {
+            alloc,
             trusted: lock_state(alloc, &mut self.system, terms.state)?,
             moment,
             wanted: terms.wanted.as_slice(),

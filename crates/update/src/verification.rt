@@ -14,7 +14,7 @@ use crate::answer::tell_outcome;
 use crate::host::{Folders, HasWorld, Host};
 use crate::start::{Opened, Start, Terms, limits_of};
 use crate::state::keep_state;
-use cycle::{Open, Outcome, follow};
+use cycle::{Cycle, Gate, Outcome, Round, Threading, Watch, follow};
 use failure::Failure;
 use folder::Folder;
 use measured::{Readers, close};
@@ -30,9 +30,9 @@ impl<S: System, M: Folder, T: Folder + Sync, W: Write> Host<S, Folders<M, T>, W>
     /// moment, the state file or a folder fails, nothing was stored or printed. If out of memory or
     /// by an output error, that holds too, or the new state was stored whole. What is stored for
     /// other paths stays.
-    pub fn verify<R: Threads + Wait + Sync>(
+    pub fn verify<R: Threads + Wait + Sync, N: Gate + Watch + Sync>(
         &mut self,
-        rt: &R,
+        threading: &Threading<'_, R, N>,
         alloc: Global,
         terms: &Terms<'_>,
     ) -> Result<u8, Failure>
@@ -52,7 +52,7 @@ impl<S: System, M: Folder, T: Folder + Sync, W: Write> Host<S, Folders<M, T>, W>
             (⟦<Self as HasWorld>⟧.world self.old) (⟦<Self as HasWorld>⟧.world self.new)) }
     {
         let start = self.begin(alloc, terms)?;
-        self.verify_from(rt, alloc, &start)
+        self.verify_from(threading, &start)
     }
 
     /// Verifies the repository in the folders, stores the new state and prints the lines. Returns
@@ -68,10 +68,9 @@ impl<S: System, M: Folder, T: Folder + Sync, W: Write> Host<S, Folders<M, T>, W>
     /// On failure either nothing was stored or printed, or the new state was stored whole; the
     /// latter only if out of memory or by an output error. What is stored for other paths stays.
     /// Waits for its threads.
-    pub fn verify_from<R: Threads + Wait + Sync>(
+    pub fn verify_from<R: Threads + Wait + Sync, N: Gate + Watch + Sync>(
         &mut self,
-        rt: &R,
-        alloc: Global,
+        threading: &Threading<'_, R, N>,
         start: &Start<'_>,
     ) -> Result<u8, Failure>
         ensures known { IfOk result (λ status. status ≤ 2) }
@@ -89,8 +88,9 @@ impl<S: System, M: Folder, T: Folder + Sync, W: Write> Host<S, Folders<M, T>, W>
         ensures cause { IfErr result (IsCauseToVerifyFrom start.now
             (⟦<Self as HasWorld>⟧.world self.old) (⟦<Self as HasWorld>⟧.world self.new)) }
     {
+        let alloc = start.alloc;
         let opened = self.folders.open(alloc)?;
-        let outcome = outcome(rt, alloc, start, opened, &mut self.folders.targets)?;
+        let outcome = outcome(threading, start, opened, &mut self.folders.targets)?;
         keep_state(alloc, &mut self.system, start.state, outcome.trusted())?;
         tell_outcome(alloc, &outcome, start.wanted, &mut self.out)
     }
@@ -98,9 +98,8 @@ impl<S: System, M: Folder, T: Folder + Sync, W: Write> Host<S, Folders<M, T>, W>
 
 /// Returns the outcome of the workflow on metadata that was loaded and on the target files of a
 /// folder that has these names.
-pub(crate) fn outcome<R: Threads + Wait + Sync, T: Folder + Sync>(
-    rt: &R,
-    alloc: Global,
+pub(crate) fn outcome<R: Threads + Wait + Sync, N: Gate + Watch + Sync, T: Folder + Sync>(
+    threading: &Threading<'_, R, N>,
     start: &Start<'_>,
     opened: Opened,
     targets: &mut T,
@@ -115,20 +114,21 @@ pub(crate) fn outcome<R: Threads + Wait + Sync, T: Folder + Sync>(
 {
     let Opened { repo, names } = opened;
     let limits = limits_of(start)?;
-    let course = follow(
-        rt,
-        alloc,
-        &start.trusted,
-        &repo,
-        start.moment,
-        start.wanted,
-        &limits,
-        start.workers,
-        &Open,
-    )?;
+    let round = Round {
+        repo: &repo,
+        now: start.moment,
+        wanted: start.wanted(),
+    };
+    let cycle = Cycle {
+        alloc: start.alloc,
+        trusted: &start.trusted,
+        round,
+        limits,
+    };
+    let course = follow(&cycle, threading, start.workers)?;
     let readers = Readers {
-        rt,
+        rt: threading.rt,
         threads: start.workers,
     };
-    close(&readers, alloc, course, targets, names)
+    close(&readers, start.alloc, course, targets, names)
 }

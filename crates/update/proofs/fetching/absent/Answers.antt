@@ -1,4 +1,4 @@
-use Rattle.std.proofs.Common.{◌≡◌, ◌∙◌, ap, map, string_bytes}
+use Rattle.std.proofs.Common.{◌∙◌, ap, map, string_bytes}
 use Rattle.examine.specs.Checks.{file_in}
 use Rattle.update.specs.Fetching.{request_of}
 use Rattle.update.specs.Runs.{course, request}
@@ -9,10 +9,10 @@ pub returns-clause-needs : goal.returns-clause-needs
 returns-clause-needs c =
     let trusted = c.args.trusted.now in
     let moment = c.args.moment in
-    let files = file_in c.args.repo.now.metadata in
-    all_needs (request_of c.args.wants.now trusted moment) c.in_ok-course.course c.args.repo.now.metadata c.in_ok-targets.targets (map string_bytes c.args.names.items) _
+    let files = file_in c.args.opened.repo.metadata in
+    all_needs (request_of c.args.wants.now trusted moment) c.in_ok-course.course c.args.opened.repo.metadata c.in_ok-targets.targets (map string_bytes c.args.opened.names.items) _
     c.in_ok-needs.ensures.needs
     (c.in_ok-course.ensures.course
-    ∙ ap (λ wanted. course (request trusted moment wanted c.in-Some.limits.roles) files) c.as_slice-wanted.ensures.value
+    ∙ ap (λ wanted. course (request trusted moment wanted c.in-Some.limits.roles) files) c.as_slice.ensures.value
     ∙ ap (λ limit. course (request trusted moment c.args.wants.now.wanted.items limit) files) c.in-Some.ensures.roles)
     c.in_ok-targets.ensures.names

@@ -1,8 +1,7 @@
-use Rattle.std.proofs.Common.{◌≡◌, ◌∙◌, ◌++◌, ◌∷◌, ◌+◌, [], List, ℕ, Option, Some, Result, Ok, Err, OnErr, ap, map, string_bytes, subst, sym}
-use Rattle.std.specs.List.{AllZip, slice_get}
-use Rattle.cycle.specs.Workflow.{Target}
+use Rattle.std.proofs.Common.{◌≡◌, ◌∙◌, ◌++◌, ◌∷◌, ◌+◌, [], List, ℕ, Some, Result, Ok, Err, OnErr, ap, map, string_bytes, subst, sym}
+use Rattle.std.specs.List.{slice_get}
 use Rattle.update.specs.Copies.{AreCopied}
-use Rattle.update.specs.Stored.{HasPaths, IsCopyFor}
+use Rattle.update.specs.Stored.{HasPaths}
 use Rattle.update.proofs.Copied.{IsDone, all_done, copy_for, first_done, inside_paths, none_done, none_in, one_skipped, one_stored, path_at, same_count}
 use Rattle.update.proofs.installing.store_copies.Goals as goal
 use Rattle.update.proofs.installing.store_copies.Goals.{then-is_good_at+in_ok-store_copy, else-is_good_at}
