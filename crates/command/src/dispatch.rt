@@ -4,11 +4,12 @@ ghost use Rattle.std.specs.Prelude.{◌≡◌, ◌≤◌, ◌⊎◌, ◌↔◌, 
 ghost use Rattle.failure.specs.Failures.{is_callers};
 
 use crate::carrying::carry_out;
-use crate::reading::read_subcommand;
+use crate::reading::{has_progress, read_subcommand};
 use crate::runtime::Runtime;
 use crate::sampling::sample;
 use clap::error::ErrorKind;
 use failure::{Failure, tell_failure};
+use progress::Progress;
 use report::put;
 use std::alloc::Global;
 use std::io::Write;
@@ -31,35 +32,20 @@ pub fn command<T: Threads + Wait + Sync, W: Write, E: Write>(
 ) -> u8
     ensures known { result ≤ 4 }
 {
-    let done = if words.is_empty() {
-        sample(alloc, out)
-    } else {
-        let run = Runtime {
-            host: rt,
-            threads,
-            alloc,
-        };
-        parse_and_carry_out(&run, words, out, err)
-    };
-    status_of(done, err)
-}
-
-/// Parses the arguments, and carries out their subcommand or prints what `clap` reports.
-fn parse_and_carry_out<T: Threads + Wait + Sync, W: Write, E: Write>(
-    run: &Runtime<'_, T>,
-    words: &[String],
-    out: &mut W,
-    err: &mut E,
-) -> Result<u8, Failure>
-    ensures known { IfOk result (λ status. status ≤ 3) }
-{
-    match words::parse(run.alloc, words) {
-        Ok(matches) => {
-            let subcommand = read_subcommand(run.host, run.alloc, &matches)?;
-            carry_out(run, &subcommand, out).0
-        }
-        Err(error) => report_error(run.alloc, &error, out, err),
+    if words.is_empty() {
+        return status_of(sample(alloc, out), err);
     }
+    let matches = match words::parse(alloc, words) {
+        Ok(matches) => matches,
+        Err(error) => return status_of(report_error(alloc, &error, out, err), err),
+    };
+    let subcommand = match read_subcommand(rt, alloc, &matches) {
+        Ok(subcommand) => subcommand,
+        Err(failure) => return status_of(Err(failure), err),
+    };
+    let progress = Progress::new(rt, alloc, has_progress(&matches));
+    let run = Runtime::new(rt, threads, alloc, &progress);
+    status_of(carry_out(&run, &subcommand, out).0, err)
 }
 
 /// Returns the exit status. Prints the line of a failure to `err`.

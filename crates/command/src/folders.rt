@@ -5,13 +5,13 @@ ghost use Rattle.command.specs.Done.{IsEveryVerifiedOf, IsReplayedOf, IsVerified
 ghost use Rattle.command.specs.Done.{IsCauseOfFetching, IsCauseOfReplay, IsCauseOfVerify};
 ghost use Rattle.command.specs.Done.{IsNextOf};
 
-use crate::runtime::{Runtime, threading};
+use crate::runtime::{CountedFolders, Runtime};
 use crate::subcommand::FolderPaths;
 use failure::Failure;
 use folder::{Depth, Disk, path_below};
-use std::alloc::{AllocError, Global};
+use progress::Watched;
+use std::alloc::AllocError;
 use std::io::Write;
-use std::rt::Files;
 use std::sync::Wait;
 use std::thread::Threads;
 use system::Machine;
@@ -32,7 +32,7 @@ pub fn verify_in<T: Threads + Wait + Sync, W: Write>(
         → W.contents result.1 ≡ W.contents out) }
     ensures cause { IfErr result.0 (IsCauseOfVerify terms.now (W.contents out)) }
 {
-    let folders = match two_folders(run.host, run.alloc, folders) {
+    let folders = match two_folders(run, folders) {
         Ok(folders) => folders,
         Err(error) => return (Err(Failure::from(error)), out),
     };
@@ -41,7 +41,7 @@ pub fn verify_in<T: Threads + Wait + Sync, W: Write>(
         folders,
         out,
     };
-    let done = host.verify(&threading(run), run.alloc, terms);
+    let done = host.verify(&run.threading(), run.alloc, terms);
     (done, host.out)
 }
 
@@ -60,7 +60,7 @@ pub fn verify_every_in<T: Threads + Wait + Sync, W: Write>(
         → W.contents result.1 ≡ W.contents out) }
     ensures cause { IfErr result.0 (IsCauseOfVerify terms.now (W.contents out)) }
 {
-    let folders = match two_folders(run.host, run.alloc, folders) {
+    let folders = match two_folders(run, folders) {
         Ok(folders) => folders,
         Err(error) => return (Err(Failure::from(error)), out),
     };
@@ -69,7 +69,7 @@ pub fn verify_every_in<T: Threads + Wait + Sync, W: Write>(
         folders,
         out,
     };
-    let done = host.verify_every(&threading(run), run.alloc, terms);
+    let done = host.verify_every(&run.threading(), run.alloc, terms);
     (done, host.out)
 }
 
@@ -87,7 +87,7 @@ pub fn next_in<T: Threads + Wait + Sync, W: Write>(
         → W.contents result.1 ≡ W.contents out) }
     ensures cause { IfErr result.0 (IsCauseOfFetching wants.now (W.contents out)) }
 {
-    let folders = match two_folders(run.host, run.alloc, folders) {
+    let folders = match two_folders(run, folders) {
         Ok(folders) => folders,
         Err(error) => return (Err(Failure::from(error)), out),
     };
@@ -101,14 +101,13 @@ pub fn next_in<T: Threads + Wait + Sync, W: Write>(
 }
 
 /// Returns the folders of these paths.
-pub(crate) fn two_folders<'a, R: Files>(
-    rt: &'a R,
-    alloc: Global,
+pub(crate) fn two_folders<'a, T>(
+    run: &'a Runtime<'_, T>,
     folders: FolderPaths<'_>,
-) -> Result<Folders<Disk<'a, R>, Disk<'a, R>>, AllocError> {
-    let metadata = String::from_str(alloc, folders.metadata)?;
-    let targets = String::from_str(alloc, folders.targets)?;
-    Ok(folders_of(rt, metadata, targets))
+) -> Result<CountedFolders<'a>, AllocError> {
+    let metadata = String::from_str(run.alloc, folders.metadata)?;
+    let targets = String::from_str(run.alloc, folders.targets)?;
+    Ok(folders_of(run, metadata, targets))
 }
 
 /// Verifies the repositories, one after another.
@@ -127,7 +126,7 @@ pub fn replay_in<T: Threads + Wait + Sync, W: Write>(
         → W.contents result.1 ≡ W.contents out) }
     ensures cause { IfErr result.0 (IsCauseOfReplay terms.now keep (W.contents out)) }
 {
-    let folders = match all_folders(run.host, run.alloc, repositories) {
+    let folders = match all_folders(run, repositories) {
         Ok(folders) => folders,
         Err(error) => return (Err(Failure::from(error)), out),
     };
@@ -136,30 +135,35 @@ pub fn replay_in<T: Threads + Wait + Sync, W: Write>(
         folders,
         out,
     };
-    let done = host.replay(&threading(run), run.alloc, terms, keep);
+    let done = host.replay(&run.threading(), run.alloc, terms, keep);
     (done, host.out)
 }
 
 /// Returns the two folders of each repository.
-fn all_folders<'a, R: Files + AllocGlobal>(
-    rt: &'a R,
-    alloc: Global,
+fn all_folders<'a, T>(
+    run: &'a Runtime<'_, T>,
     repositories: &[String],
-) -> Result<Vec<Folders<Disk<'a, R>, Disk<'a, R>>>, AllocError>
+) -> Result<Vec<CountedFolders<'a>>, AllocError>
     ensures each { IfOk result (λ all. length all.items ≡ length repositories.now) }
 {
-    let mut all = Vec::new(alloc);
+    let mut all = Vec::new(run.alloc);
     for repository in repositories {
-        let metadata = path_below(alloc, repository.as_str(), "metadata")?;
-        let targets = path_below(alloc, repository.as_str(), "targets")?;
-        all.push(folders_of(rt, metadata, targets))?;
+        let metadata = path_below(run.alloc, repository.as_str(), "metadata")?;
+        let targets = path_below(run.alloc, repository.as_str(), "targets")?;
+        all.push(folders_of(run, metadata, targets))?;
     }
     Ok(all)
 }
 
-fn folders_of<R>(rt: &R, metadata: String, targets: String) -> Folders<Disk<'_, R>, Disk<'_, R>> {
+/// Returns the folders of these paths, whose files are counted.
+fn folders_of<'a, T>(
+    run: &'a Runtime<'_, T>,
+    metadata: String,
+    targets: String,
+) -> CountedFolders<'a> {
+    let targets = Disk::new(&run.targets, targets, Depth::Below);
     Folders {
-        metadata: Disk::new(rt, metadata, Depth::Here),
-        targets: Disk::new(rt, targets, Depth::Below),
+        metadata: Disk::new(&run.metadata, metadata, Depth::Here),
+        targets: Watched::new(targets, run.progress),
     }
 }

@@ -5,18 +5,16 @@ ghost use Rattle.command.specs.Done.{IsCauseOfVerify, IsCauseOfVerifyInto};
 ghost use Rattle.command.specs.Done.{IsEveryVerifiedIntoOf, IsVerifiedIntoOf};
 
 use crate::folders::two_folders;
-use crate::runtime::{Runtime, threading};
+use crate::runtime::{CountedFolders, Runtime};
 use crate::subcommand::FolderPaths;
 use copies::Below;
 use failure::Failure;
-use folder::Disk;
-use std::alloc::{AllocError, Global};
+use std::alloc::AllocError;
 use std::io::Write;
-use std::rt::Files;
 use std::sync::Wait;
 use std::thread::Threads;
 use system::Machine;
-use update::{Folders, Host, Terms};
+use update::{Host, Terms};
 
 /// Verifies the repository in the folders, and stores copies of the good targets below `into`.
 #[tactic(auto, using(crate::proofs::Doing::verifying_into))]
@@ -34,7 +32,7 @@ pub fn verify_into_in<T: Threads + Wait + Sync, W: Write>(
         → W.contents result.1 ≡ W.contents out) }
     ensures cause { IfErr result.0 (IsCauseOfVerifyInto terms.now (W.contents out)) }
 {
-    let (folders, mut to) = match three_folders(run.host, run.alloc, folders, into) {
+    let (folders, mut to) = match three_folders(run, folders, into) {
         Ok(all) => all,
         Err(error) => return (Err(Failure::from(error)), out),
     };
@@ -43,7 +41,7 @@ pub fn verify_into_in<T: Threads + Wait + Sync, W: Write>(
         folders,
         out,
     };
-    let done = host.verify_into(&threading(run), run.alloc, terms, &mut to);
+    let done = host.verify_into(&run.threading(), run.alloc, terms, &mut to);
     (done, host.out)
 }
 
@@ -64,7 +62,7 @@ pub fn verify_every_into_in<T: Threads + Wait + Sync, W: Write>(
         → W.contents result.1 ≡ W.contents out) }
     ensures cause { IfErr result.0 (IsCauseOfVerify terms.now (W.contents out)) }
 {
-    let (folders, mut to) = match three_folders(run.host, run.alloc, folders, into) {
+    let (folders, mut to) = match three_folders(run, folders, into) {
         Ok(all) => all,
         Err(error) => return (Err(Failure::from(error)), out),
     };
@@ -73,18 +71,17 @@ pub fn verify_every_into_in<T: Threads + Wait + Sync, W: Write>(
         folders,
         out,
     };
-    let done = host.verify_every_into(&threading(run), run.alloc, terms, &mut to);
+    let done = host.verify_every_into(&run.threading(), run.alloc, terms, &mut to);
     (done, host.out)
 }
 
 /// Returns the folders of these paths: those of the repository, and the one for the copies.
-fn three_folders<'a, R: Files>(
-    rt: &'a R,
-    alloc: Global,
+fn three_folders<'a, T>(
+    run: &'a Runtime<'_, T>,
     folders: FolderPaths<'_>,
     into: &str,
-) -> Result<(Folders<Disk<'a, R>, Disk<'a, R>>, Below<'a, R>), AllocError> {
-    let repository = two_folders(rt, alloc, folders)?;
-    let copies = Below::new(rt, String::from_str(alloc, into)?);
+) -> Result<(CountedFolders<'a>, Below<'a, HostRuntime>), AllocError> {
+    let repository = two_folders(run, folders)?;
+    let copies = Below::new(run.host, String::from_str(run.alloc, into)?);
     Ok((repository, copies))
 }

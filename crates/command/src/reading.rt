@@ -26,6 +26,14 @@ pub fn read_subcommand<'a>(
     }
 }
 
+/// Returns whether the subcommand has the option `--progress`.
+pub fn has_progress(matches: &ArgMatches<'_>) -> bool {
+    match matches.subcommand() {
+        Some((_, words)) => words.get_flag("progress"),
+        None => false,
+    }
+}
+
 fn init_of<'a>(words: &ArgMatches<'a>) -> Result<Subcommand<'a>, Failure> {
     Ok(Subcommand::Init {
         root: word(words, "ROOT")?,

@@ -1,9 +1,21 @@
 //! What subcommands run on.
 
-use cycle::{Open, Threading};
+use cycle::Threading;
+use folder::Disk;
+use progress::{Counted, Progress, Watched};
 use std::alloc::Global;
+use update::Folders;
 
-/// The system, the starter of threads and the allocator of a run.
+/// The files of the system, which are counted.
+pub type CountedFiles<'a> = Counted<'a, HostRuntime, HostRuntime>;
+
+/// The folders of a repository, whose files are counted.
+pub(crate) type CountedFolders<'a> = Folders<
+    Disk<'a, CountedFiles<'a>>,
+    Watched<'a, Disk<'a, CountedFiles<'a>>, HostRuntime>,
+>;
+
+/// The system, the starter of threads, the allocator and the counts of a run.
 #[derive(Drop)]
 pub struct Runtime<'a, T> {
     /// Files, clock and standard input.
@@ -12,12 +24,37 @@ pub struct Runtime<'a, T> {
     pub threads: &'a T,
     /// The allocator.
     pub alloc: Global,
+    /// Counts of what the run did so far.
+    pub progress: &'a Progress<'a, HostRuntime>,
+    /// The files for folders of metadata.
+    pub metadata: CountedFiles<'a>,
+    /// The files for folders of target files, whose bytes are digested.
+    pub targets: CountedFiles<'a>,
 }
 
-/// Returns what starts the threads of a run. Nothing watches its checks.
-pub(crate) fn threading<'a, T>(run: &Runtime<'a, T>) -> Threading<'a, T, Open> {
-    Threading {
-        rt: run.threads,
-        watch: &Open,
+impl<'a, T> Runtime<'a, T> {
+    /// Returns the runtime whose files have these counts.
+    pub fn new(
+        host: &'a HostRuntime,
+        threads: &'a T,
+        alloc: Global,
+        progress: &'a Progress<'a, HostRuntime>,
+    ) -> Runtime<'a, T> {
+        Runtime {
+            host,
+            threads,
+            alloc,
+            progress,
+            metadata: Counted::opened(host, progress),
+            targets: Counted::digested(host, progress),
+        }
+    }
+
+    /// Returns what starts the threads and counts their checks.
+    pub(crate) fn threading(&self) -> Threading<'a, T, Progress<'a, HostRuntime>> {
+        Threading {
+            rt: self.threads,
+            watch: self.progress,
+        }
     }
 }

@@ -1,5 +1,5 @@
-//! Tests of several layers that need Rust: folders, judges and writers that fail, links, and a form
-//! of a test's own.
+//! Tests of several layers that need Rust: folders, judges and writers that fail, links, a
+//! form of a test's own, and a clock of a test's own for the lines about progress.
 #![tactic(auto)]
 
 #[cfg(test)]
@@ -16,6 +16,8 @@ mod keepers;
 mod measures;
 #[cfg(test)]
 mod outputs;
+#[cfg(test)]
+mod progress_lines;
 #[cfg(test)]
 mod sealing;
 #[cfg(test)]

@@ -67,6 +67,14 @@ pub fn into_option<'a>(alloc: Global) -> Arg<'a> {
     )
 }
 
+/// Returns the option `--progress`.
+pub fn progress_option<'a>(alloc: Global) -> Arg<'a> {
+    Arg::new(alloc, "progress")
+        .long("progress")
+        .action(ArgAction::SetTrue)
+        .help("Print to standard error what was done so far, at most once a second")
+}
+
 /// Returns the option `--only`.
 pub fn only_option<'a>(alloc: Global) -> Arg<'a> {
     Arg::new(alloc, "only")

@@ -2,7 +2,7 @@
 
 use crate::arguments::{
     before_option, every_option, file, into_option, keep_option, limit_option, now_option,
-    null_option, only_option, option, paths_from_option, several, workers_option,
+    null_option, only_option, option, paths_from_option, progress_option, several, workers_option,
 };
 use crate::texts::{
     HELP_END, INIT_END, MAKE_END, METADATA, NEXT_END, REPLAY_END, SHOW_END, TARGETS, VERIFY_END,
@@ -55,6 +55,7 @@ fn verify_command<'a>(alloc: Global) -> Result<Command<'a>, AllocError> {
         null_option(alloc)?,
         every_option(alloc)?,
         into_option(alloc),
+        progress_option(alloc),
         option(alloc, "out", "STATE", "Where the new state is written"),
         several(alloc, "PATH", "The wanted targets").num_args(0..),
     ]?;
@@ -74,6 +75,7 @@ fn replay_command<'a>(alloc: Global) -> Result<Command<'a>, AllocError> {
         keep_option(alloc),
         paths_from_option(alloc),
         null_option(alloc)?,
+        progress_option(alloc),
         option(alloc, "out", "STATE", "Where the last state is written"),
         file(alloc, "PATH", "The wanted target"),
         repositories.required(true).num_args(1..),
@@ -94,6 +96,7 @@ fn next_command<'a>(alloc: Global) -> Result<Command<'a>, AllocError> {
         paths_from_option(alloc),
         null_option(alloc)?,
         only_option(alloc),
+        progress_option(alloc),
         several(alloc, "PATH", "The wanted targets").num_args(0..),
     ]?;
     command.args(arguments)

@@ -55,6 +55,8 @@ printed. A wanted path that is empty or absolute, or has an empty part, `.` or `
 error.
 Workers check signatures in advance, and then digest the target files. For them at most 4 MB of
 metadata are read twice. Lines, state and status are the same for any number of workers.
+With --progress it also prints to standard error, at most once a second,
+  tufcheck: N files read, N signatures checked, N of N bytes digested
 
 EXAMPLES:
   tufcheck verify --state state --metadata repo/metadata --targets repo/targets --out state abc.txt
@@ -77,7 +79,7 @@ is verified in order, from the state of the one before and at one moment. It wri
 even if an update stopped, and then prints for each DIR, from 1,
   cycle K
 and the lines of `verify`. What it caches changes no line. The paths of --paths-from come after
-PATH, as for `verify`.
+PATH, as for `verify`. --progress prints the lines of `verify` --progress, for all DIR together.
 
 EXAMPLES:
   tufcheck replay --state state --out state abc.txt monday tuesday wednesday
@@ -99,6 +101,7 @@ It prints, in the order of `verify`, a line for each file that `verify` would lo
 with the most bytes that the file may have. Names of metadata files come first, and then those of
 target files. Each name comes once. It stores nothing, and reads no target file.
 Fetch the files of new lines, and run it again, until no line is new. Then run `verify`.
+--progress prints the same lines to standard error as for `verify`.
 
 EXAMPLES:
   tufcheck next --state state --metadata m --targets t abc.txt

@@ -165,3 +165,24 @@ Root files that init refuses or can't read. No state is written.
   $ init none/new
   ! tufcheck: output
   [4]
+
+With --progress the lines and the status are the same. It is an option of three commands, and may be given once.
+  $ tufcheck verify --state old --metadata metadata --targets targets --now 2026-01-01T00:00:00Z --progress --out new abc.txt
+  root 1
+  end ready
+  ok "abc.txt" 3 "targets"
+  $ tufcheck replay --state old --now 2026-01-01T00:00:00Z --progress --out new abc.txt .
+  cycle 1
+  root 1
+  end ready
+  ok "abc.txt" 3 "targets"
+  $ tufcheck next --state old --metadata metadata --targets targets --now 2026-01-01T00:00:00Z --progress abc.txt
+  maybe "2.root.json" 512000
+  $ tufcheck init metadata/1.root.json --progress --out new
+  ! error: ...
+  ...
+  [3]
+  $ tufcheck verify --state old --metadata metadata --targets targets --progress --progress --out new
+  ! error: ...
+  ...
+  [3]
