@@ -1,7 +1,9 @@
-//! Tests of several layers that need Rust: folders, judges and writers that fail, links, a
+//! Tests of several layers that need Rust: folders, judges, writers and copies that fail, links, a
 //! form of a test's own, and a clock of a test's own for the lines about progress.
 #![tactic(auto)]
 
+#[cfg(test)]
+mod copied;
 #[cfg(test)]
 mod folders;
 #[cfg(test)]
