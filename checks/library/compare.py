@@ -9,12 +9,14 @@ PYTHONPATH has its module and second.py; LINES is the program that library.sh co
 and the new state must be the same, and so must be
 
   - the outcome with target files given by length and digests, all or some;
-  - the outcome after `fetch_all` into an empty job, which asks for no file twice;
+  - the outcome after `fetch_all` into an empty job, which asks for no file twice. (It asks for a target's file by the first
+    of its names. Where the file is there under the second name alone, the outcome is that without this file.)
   - the listing's state and end, and what it lists beside the verdicts.
 
 The last lines count the statuses and the ends. A history that differs is printed, and the status is then 1.
 """
 import collections
+import dataclasses
 import hashlib
 import os
 import subprocess
@@ -55,10 +57,33 @@ def digests(data):
     return Digests(len(data), hashlib.sha256(data).digest(), hashlib.sha512(data).digest())
 
 
+def brief(outcome):
+    """The outcome with a digest in place of its state."""
+    return dataclasses.replace(outcome, state=hashlib.sha256(outcome.state).hexdigest()[:16])
+
+
+def behind_digest(name):
+    """The folder and the rest of a file's name behind its digest, or None if it begins with none."""
+    folder, _, last = name.rpartition("/")
+    digest, _, rest = last.partition(".")
+    return (folder, rest) if rest and len(digest) in (64, 128) else None
+
+
 class Fetcher:
     def __init__(self, metadata, targets):
         self.files = {Place.METADATA: metadata, Place.TARGETS: targets}
         self.asked = set()
+
+    def targets(self):
+        """The target files that it was asked for and has."""
+        return {name: data for name, data in self.files[Place.TARGETS].items() if (Place.TARGETS, name) in self.asked}
+
+    def has_second_names(self):
+        """Whether a target file that it was asked for isn't there, but one that has its name behind another digest is."""
+        targets = self.files[Place.TARGETS]
+        absent = {behind_digest(name) for place, name in self.asked if place is Place.TARGETS and name not in targets}
+        others = {behind_digest(name) for name in targets if (Place.TARGETS, name) not in self.asked}
+        return bool((absent & others) - {None})
 
     def __call__(self, need):
         assert (need.place, need.name) not in self.asked
@@ -78,26 +103,30 @@ def compared(case):
     job = tufcheck.Job(state, wanted, SECONDS, metadata, targets, limit=limit)
     outcome = job.verify()
     if said != (list(lines(outcome)), outcome.status, outcome.state):
-        return f"program {said}\nPython {outcome}", outcome
+        return f"program {said[:2]}\nPython {brief(outcome)}", outcome
     ran = subprocess.run([LINES, "state", "metadata", "targets", str(SECONDS), str(limit), "in_c", *wanted], cwd=folder,
                          capture_output=True, check=False)
     if said != (ran.stdout.decode().splitlines(), ran.returncode, open(f"{folder}/in_c", "rb").read()):
-        return f"program {said}\nC {ran.stdout.decode().splitlines()} {ran.returncode}", outcome
+        return f"program {said[:2]}\nC {ran.stdout.decode().splitlines()} {ran.returncode}", outcome
     measured = {name: digests(data) for name, data in targets.items() if draw.random() < 0.8}
     others = {name: b"other" if name in measured else data for name, data in targets.items()}
     by_digests = tufcheck.Job(state, wanted, SECONDS, metadata, others, measured, limit).verify()
     if by_digests != outcome:
-        return f"by bytes {outcome}\nby digests {by_digests}", outcome
+        return f"by bytes {brief(outcome)}\nby digests {brief(by_digests)}", outcome
     begun = tufcheck.Job(state, wanted, SECONDS, limit=limit)
-    absent = tufcheck.fetch_all(begun, Fetcher(metadata, targets))
-    if begun.verify() != outcome:
-        return f"all {outcome}\nfetched {begun.verify()}", outcome
+    fetcher = Fetcher(metadata, targets)
+    absent = tufcheck.fetch_all(begun, fetcher)
+    fetched, there = begun.verify(), outcome
+    if fetcher.has_second_names():
+        there = tufcheck.Job(state, wanted, SECONDS, metadata, fetcher.targets(), limit=limit).verify()
+    if fetched != there:
+        return f"all {brief(there)}\nfetched {brief(fetched)}", outcome
     if not absent and not outcome.verdicts:
         return "nothing was absent", outcome
     listing = job.list()
     if (listing.state, listing.end, listing.fault, listing.root_version) != (
             outcome.state, outcome.end, outcome.fault, outcome.root_version):
-        return f"listing {listing}\n{outcome}", outcome
+        return f"listing {listing.end} {listing.fault} {listing.root_version}\n{brief(outcome)}", outcome
     for path, row in listing.listed.items():
         verdict = outcome.verdicts[path]
         if bool(row) != (verdict.kind in (Kind.ACCEPTED, Kind.FILE_REFUSED)):

@@ -3,7 +3,8 @@
  *   stress ROOT STATE METADATA TARGETS SECONDS LIMIT PATH..
  *
  * Linked with -Wl,--wrap=malloc,--wrap=realloc,--wrap=free. Prints what it finds; the status is 1 if something is not as
- * it must be. With QUICK in the environment no memory is refused (for valgrind). */
+ * it must be. With QUICK in the environment (for valgrind) no memory is refused, and a stack that a thread
+ * had isn't read. */
 #include "files.h"
 
 #include <malloc.h>
@@ -227,8 +228,8 @@ static void *in_thread(void *arg)
     return NULL;
 }
 
-/* A thread with a stack of that size; returns the bytes of it that were written. */
-static size_t on_stack(size_t size)
+/* A thread with a stack of that size; returns the bytes of it that were written, or 0 if they aren't counted. */
+static size_t on_stack(size_t size, int is_counted)
 {
     int equal = 0;
     size_t clean = 0;
@@ -241,6 +242,8 @@ static size_t on_stack(size_t size)
     pthread_create(&thread, &attributes, in_thread, &equal);
     pthread_join(thread, NULL);
     check(equal, "the same answers on a small stack");
+    if (!is_counted)
+        clean = size;
     while (clean < size && stack[clean] == 0xa5)
         clean++;
     free(stack);
@@ -280,7 +283,7 @@ int main(int argc, char **argv)
         pthread_join(threads[i], NULL);
         check(equal[i], "the same answers in four threads");
     }
-    size_t used = on_stack(256 * 1024);
+    size_t used = on_stack(256 * 1024, !quick);
     if (!quick)
         printf("a stack of 256 KB: %zu bytes written\n", used);
     printf("results %d, %d, %d: %s\n", (int)whole[0].result, (int)whole[1].result, (int)whole[2].result,
