@@ -10,7 +10,8 @@ and the new state must be the same, and so must be
 
   - the outcome with target files given by length and digests, all or some;
   - the outcome after `fetch_all` into an empty job, which asks for no file twice. (It asks for a target's file by the first
-    of its names. Where the file is there under the second name alone, the outcome is that without this file.)
+    of its names. Where the file is there under the second name alone, `verify`
+    accepts it and the updater never gets it: then only the outcome of what was fetched is made anew, which shows little.)
   - the listing's state and end, and what it lists beside the verdicts.
 
 The last lines count the statuses and the ends. A history that differs is printed, and the status is then 1.
