@@ -1,5 +1,5 @@
 -- The tree of a file, and what is found in it.
-use Rattle.std.proofs.Common.{◌≡◌, ℕ, List, Bool, true, false, Option, Some, None, option_map, option_and_then, string_bytes, nat_cmp, is_some, codes, refl, sym, ap, ◌∙◌, true≢false}
+use Rattle.std.proofs.Common.{◌≡◌, ℕ, List, Bool, true, false, Option, Some, None, Result, Ok, Err, IfOk, option_map, option_and_then, string_bytes, nat_cmp, is_some, codes, refl, sym, ap, ◌∙◌, true≢false}
 use Rattle.std.specs.Prelude.{if◌then◌else◌}
 use Rattle.std.specs.BTreeMap.{is_at}
 use Rattle.std.specs.Cmp.Lexicographic.{slice_cmp}
@@ -9,10 +9,13 @@ use Rattle.std.proofs.lemmas.Str.{is_utf8-from_IsUtf8, IsUtf8-from_is_utf8}
 use Rattle.serde_json.specs.Data.{Data, object, Members}
 use Rattle.serde_json.specs.Read.{read}
 use Rattle.serde_json.specs.Find.{get_member, as_object}
-use Rattle.serde_json.specs.View.{view, members_view}
-use Rattle.serde_json.proofs.Views.{Entry, view-lookup}
-use Rattle.serde_json.specs.declared.value.Value.{Value}
+use Rattle.cjson.specs.Tree.{view, members_view}
+use Rattle.cjson.proofs.Views.{Entry, view-lookup}
+use Rattle.cjson.specs.declared.tree.Tree.{Tree}
 use Rattle.cjson.specs.Document.{tree_of, signed_of}
+use Rattle.cjson.specs.Form.{ReadsAs}
+use Rattle.cjson.specs.declared.fault.ReadFault.{ReadFault}
+use Rattle.cjson.specs.declared.fault.ReadFault.TheVariants.{Malformed, NoMemory}
 
 pub tree_of-read : (file : List ℕ) (d : Data) → IsUtf8 file → read file ≡ Some d → tree_of file ≡ Some d
 tree_of-read file d utf8 reads = rw (is_utf8-from_IsUtf8 file utf8) reads
@@ -24,8 +27,14 @@ no_tree_at file false utf8 none = refl
 pub tree_of-none : (file : List ℕ) → (IsUtf8 file → read file ≡ None) → tree_of file ≡ None
 tree_of-none file none = no_tree_at file _ refl none
 
--- what the map's `get` and `remove` return is the tree's member
-pub found_at : (name : List ℕ) (es : List Entry) (r : Option Value) → r ≡ lookup (is_at (λ k. slice_cmp nat_cmp name (string_bytes k))) es → get_member name (members_view es) ≡ option_map view r
+-- what is read of the text of the bytes
+pub tree_of-whole : (file text : List ℕ) (r : Result Tree ReadFault) → text ≡ file → IsUtf8 file → IfOk r (λ v. read text ≡ Some (view v)) → (r ≡ Err Malformed → read text ≡ None) → ReadsAs (tree_of file) r view
+tree_of-whole file text (Ok v) same utf8 ok err = tree_of-read file (view v) utf8 (ap read (sym same) ∙ ok)
+tree_of-whole file text (Err Malformed) same utf8 ok err = tree_of-none file (λ _. ap read (sym same) ∙ err refl)
+tree_of-whole file text (Err NoMemory) same utf8 ok err = tt
+
+-- what `get` and `take` of the members return is the tree's member
+pub found_at : (name : List ℕ) (es : List Entry) (r : Option Tree) → r ≡ lookup (is_at (λ k. slice_cmp nat_cmp name (string_bytes k))) es → get_member name (members_view es) ≡ option_map view r
 found_at name es r e = sym (ap (option_map view) e ∙ view-lookup name es)
 
 -- ---- the member `signed`

@@ -3,7 +3,7 @@
 use Rattle.std.specs.Prelude.{Bool, if◌then◌else◌, Option, Some, None, Result, Ok, Err, ⊤, ℕ, List, codes, option_map, option_and_then}
 use Rattle.std.specs.Str.{is_utf8}
 use Rattle.serde_json.specs.Data.{object}
-use Rattle.serde_json.specs.View.{view}
+use Rattle.cjson.specs.Tree.{view}
 use Rattle.serde_json.specs.Find.{get, as_object}
 use Rattle.serde_json.specs.Read.{read}
 use Rattle.cjson.specs.Canon.{canon}

@@ -1,7 +1,7 @@
 //! Metadata files as documents: what is signed, and by which entries.
 
 ghost use Rattle.std.specs.Prelude.{◌≡◌, Some};
-ghost use Rattle.serde_json.specs.View.{view};
+ghost use Rattle.cjson.specs.Tree.{view};
 ghost use Rattle.cjson.specs.Canon.{canon};
 
 mod read;
@@ -10,8 +10,8 @@ use crate::fault::ReadFault;
 use crate::form::{FromJson, needed_member};
 use crate::list::Items;
 use crate::text::Text;
+use crate::tree::Tree;
 pub use read::signed_bytes;
-use serde_json::Value;
 use std::alloc::Global;
 
 /// An entry of `signatures`: the id of a key and a signature, as the file writes them (TUF 1.0
@@ -29,7 +29,7 @@ impl FromJson for Entry {
 
     ghost form = { spec.entry };
 
-    fn from_json(alloc: Global, value: &Value) -> Result<Entry, ReadFault> {
+    fn from_json(alloc: Global, value: &Tree) -> Result<Entry, ReadFault> {
         let keyid = needed_member(alloc, value, "keyid")?;
         let sig = needed_member(alloc, value, "sig")?;
         Ok(Entry { keyid, sig })
@@ -39,7 +39,7 @@ impl FromJson for Entry {
 /// A metadata file as a document: what is signed, its canonical text, and the entries of its
 /// signatures (TUF 1.0 section 4.2). The text is always that of the tree.
 pub struct Doc {
-    tree: Value,
+    tree: Tree,
     canonical: Vec<u8>,
     listed: Items<Entry>,
     ghost covered: { canon (view tree) ≡ Some canonical.items },
@@ -59,7 +59,7 @@ impl Doc {
     ghost use Rattle.cjson.specs.Document.{doc_of};
 
     /// Returns the tree of `signed`.
-    pub fn tree(&self) -> &Value
+    pub fn tree(&self) -> &Tree
         ensures value { view result.now ≡ (doc_of self.now).signed }
     {
         &self.tree

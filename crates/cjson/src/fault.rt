@@ -5,6 +5,7 @@ ghost use Rattle.cjson.specs.declared.fault.Canon.TheVariants as canon;
 ghost use Rattle.cjson.specs.declared.fault.DocFault.TheVariants as doc;
 ghost use Rattle.cjson.specs.declared.fault.ReadFault.TheVariants as read;
 
+use json::Invalid;
 use std::alloc::{AllocError, AllocFailed};
 use thiserror::Error;
 
@@ -116,5 +117,13 @@ impl From<NoMemory> for ReadFault {
 
     fn from(_refused: NoMemory) -> ReadFault {
         ReadFault::NoMemory
+    }
+}
+
+impl From<Invalid> for ReadFault {
+    ghost from_gives = { λ _ e. e ≡ read.Malformed };
+
+    fn from(_refused: Invalid) -> ReadFault {
+        ReadFault::Malformed
     }
 }

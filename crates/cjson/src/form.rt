@@ -2,11 +2,11 @@
 
 ghost use Rattle.std.specs.Prelude.{◌≡◌, Option, Err, IfOk, IfErr};
 ghost use Rattle.serde_json.specs.Data.{Data};
-ghost use Rattle.serde_json.specs.View.{view};
+ghost use Rattle.cjson.specs.Tree.{view};
 ghost use Rattle.cjson.specs.Form as form_of;
 
 use crate::fault::{NoMemory, ReadFault};
-use serde_json::Value;
+use crate::tree::Tree;
 use std::alloc::Global;
 
 /// A type that is read from a JSON value of one form.
@@ -14,7 +14,7 @@ pub trait FromJson: Sized {
     ghost form: { Data → Option Self };
 
     /// Reads `value`. Fails with `Malformed` if it hasn't the form, or with `NoMemory`.
-    fn from_json(alloc: Global, value: &Value) -> Result<Self, ReadFault>
+    fn from_json(alloc: Global, value: &Tree) -> Result<Self, ReadFault>
         ensures read { form_of.Reads (form (view value.now)) result };
 }
 
@@ -22,7 +22,7 @@ pub trait FromJson: Sized {
 ///
 /// Fails with `Malformed` if `value` isn't an object, has no member of that name, or has a
 /// malformed one, or with `NoMemory`.
-pub fn needed_member<T: FromJson>(alloc: Global, value: &Value, name: &str) -> Result<T, ReadFault>
+pub fn needed_member<T: FromJson>(alloc: Global, value: &Tree, name: &str) -> Result<T, ReadFault>
     ensures read { form_of.Reads (form_of.needed name.now T.form (view value.now)) result }
 {
     let member = value.get(name).ok_or(ReadFault::Malformed)?;
@@ -35,7 +35,7 @@ pub fn needed_member<T: FromJson>(alloc: Global, value: &Value, name: &str) -> R
 /// Fails with `Malformed` if the member is malformed, or with `NoMemory`.
 pub fn optional_member<T: FromJson>(
     alloc: Global,
-    value: &Value,
+    value: &Tree,
     name: &str,
 ) -> Result<Option<T>, ReadFault>
     ensures read { form_of.Reads (form_of.optional name.now T.form (view value.now)) result }

@@ -6,7 +6,7 @@
 //! - [`form::needed_member`], [`form::optional_member`] and [`members::read_members`] read the
 //!   members of an object as values of Rust types.
 //!
-//! Trees are read with `serde_json`; what it reads from a file's bytes is the file's tree.
+//! [`read_tree`] reads a file's bytes as a [`Tree`], as `serde_json` would.
 #![tactic(auto)]
 
 mod doc;
@@ -15,11 +15,13 @@ pub mod form;
 pub mod list;
 pub mod members;
 pub mod number;
+mod sorted;
 pub mod text;
 mod tree;
 mod write;
 
 pub use doc::{Doc, Entry, signed_bytes};
 pub use fault::{Canon, DocFault, NoMemory, ReadFault};
-pub use tree::read_tree;
+pub use sorted::Sorted;
+pub use tree::{Tree, read_tree, tree_from};
 pub use write::canonical;

@@ -1,12 +1,12 @@
 //! Lists whose items all have one form.
 
 ghost use Rattle.std.specs.Prelude.{◌≡◌};
-ghost use Rattle.serde_json.specs.View.{items_view};
+ghost use Rattle.cjson.specs.Tree.{items_view};
 ghost use Rattle.cjson.specs.Form as form_of;
 
 use crate::fault::ReadFault;
 use crate::form::FromJson;
-use serde_json::Value;
+use crate::tree::Tree;
 use std::alloc::Global;
 use std::marker::Model;
 
@@ -51,13 +51,13 @@ impl<T> Items<T> {
 impl<T: FromJson + Drop> FromJson for Items<T> {
     ghost form = { form_of.list T.form };
 
-    fn from_json(alloc: Global, value: &Value) -> Result<Items<T>, ReadFault> {
+    fn from_json(alloc: Global, value: &Tree) -> Result<Items<T>, ReadFault> {
         let found = value.as_array().ok_or(ReadFault::Malformed)?;
         read_each(alloc, found)
     }
 }
 
-fn read_each<T: FromJson + Drop>(alloc: Global, found: &[Value]) -> Result<Items<T>, ReadFault>
+fn read_each<T: FromJson + Drop>(alloc: Global, found: &[Tree]) -> Result<Items<T>, ReadFault>
     ensures { form_of.Reads (form_of.each T.form (items_view found.now)) result }
 {
     let mut items = Vec::with_capacity(alloc, found.len())?;

@@ -1,18 +1,18 @@
 //! Whole numbers, bytes in hexadecimal, and true or false.
 
 ghost use Rattle.std.specs.Prelude.{◌≡◌, ◌≤◌, ◌↔◌, IfSome, IsSome};
-ghost use Rattle.serde_json.specs.View.{view};
+ghost use Rattle.cjson.specs.Tree.{view};
 ghost use Rattle.cjson.specs.Form as form_of;
 
 use crate::fault::ReadFault;
 use crate::form::FromJson;
+use crate::tree::Tree;
 use hex::FromHex;
-use serde_json::Value;
 use std::alloc::Global;
 use std::marker::Model;
 
 /// Returns the whole number, if it is from `least` to `most`.
-fn whole(value: &Value, least: u64, most: u64) -> Option<u64>
+fn whole(value: &Tree, least: u64, most: u64) -> Option<u64>
     ensures value { result ≡ form_of.whole least most (view value.now) }
     ensures range { IfSome result (λ n. (least ≤ n) × (n ≤ most)) }
 {
@@ -69,7 +69,7 @@ impl<const LEAST: u64, const MOST: u64> Within<LEAST, MOST> {
 impl<const LEAST: u64, const MOST: u64> FromJson for Within<LEAST, MOST> {
     ghost form = { form_of.whole LEAST MOST };
 
-    fn from_json(_alloc: Global, value: &Value) -> Result<Within<LEAST, MOST>, ReadFault> {
+    fn from_json(_alloc: Global, value: &Tree) -> Result<Within<LEAST, MOST>, ReadFault> {
         let number = whole(value, LEAST, MOST).ok_or(ReadFault::Malformed)?;
         Ok(Within { number })
     }
@@ -80,7 +80,7 @@ impl<const LEAST: u64, const MOST: u64> FromJson for Within<LEAST, MOST> {
 impl<const N: usize> FromJson for [u8; N] {
     ghost form = { form_of.hex_bytes N };
 
-    fn from_json(_alloc: Global, value: &Value) -> Result<[u8; N], ReadFault> {
+    fn from_json(_alloc: Global, value: &Tree) -> Result<[u8; N], ReadFault> {
         let text = value.as_str().ok_or(ReadFault::Malformed)?;
         <[u8; N] as FromHex>::from_hex(text).map_err(|_| ReadFault::Malformed)
     }
@@ -92,7 +92,7 @@ impl FromJson for bool {
 
     ghost form = { as_bool };
 
-    fn from_json(_alloc: Global, value: &Value) -> Result<bool, ReadFault> {
+    fn from_json(_alloc: Global, value: &Tree) -> Result<bool, ReadFault> {
         value.as_bool().ok_or(ReadFault::Malformed)
     }
 }

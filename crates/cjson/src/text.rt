@@ -1,12 +1,12 @@
 //! Texts.
 
 ghost use Rattle.std.specs.Prelude.{◌≡◌, bytes_eq, string_bytes};
-ghost use Rattle.serde_json.specs.View.{view};
+ghost use Rattle.cjson.specs.Tree.{view};
 ghost use Rattle.cjson.specs.Form as form_of;
 
 use crate::fault::ReadFault;
 use crate::form::FromJson;
-use serde_json::Value;
+use crate::tree::Tree;
 use std::alloc::Global;
 use std::marker::Model;
 
@@ -51,17 +51,17 @@ impl Text {
 impl FromJson for Text {
     ghost form = { form_of.text };
 
-    fn from_json(alloc: Global, value: &Value) -> Result<Text, ReadFault> {
+    fn from_json(alloc: Global, value: &Tree) -> Result<Text, ReadFault> {
         let text = value.as_str().ok_or(ReadFault::Malformed)?;
         Ok(Text::new(String::from_str(alloc, text)?))
     }
 }
 
 /// Returns whether a member is this text.
-pub fn is_text(value: &Value, name: &str, text: &str) -> bool
+pub fn is_text(value: &Tree, name: &str, text: &str) -> bool
     ensures test { result ≡ form_of.has_text name.now (bytes_eq text.now) (view value.now) }
 {
-    match value.get(name).and_then(Value::as_str) {
+    match value.get(name).and_then(Tree::as_str) {
         Some(found) => text == found,
         None => false,
     }

@@ -4,14 +4,17 @@ ghost use Rattle.std.specs.Prelude.{◌≡◌, ◌≢◌, [], ◌∷◌, ◌++�
 ghost use Rattle.std.specs.Prelude.{OnOk, IfOk, IsUtf8};
 ghost use Rattle.std.specs.Fmt.{signed_decimal};
 ghost use Rattle.serde_json.specs.Data.{Data, boolean};
-ghost use Rattle.serde_json.specs.View.{view, number_view, items_view, members_view};
+ghost use Rattle.serde_json.specs.View.{number_view};
+ghost use Rattle.cjson.specs.Tree.{view, items_view, members_view};
 ghost use Rattle.cjson.specs.Canon.{canon, text, number_text, escaped, quoted, comma_if};
 ghost use Rattle.cjson.specs.Canon.{items_text, members_text, is_whole, has_whole_numbers};
 ghost use Rattle.cjson.specs.Canon.{items_are_whole, members_are_whole, is_ordered};
 ghost use Rattle.cjson.specs.Canon.{items_are_ordered, members_are_ordered};
 
 use crate::fault::Canon;
-use serde_json::{Map, Number, Value};
+use crate::sorted::Sorted;
+use crate::tree::Tree;
+use serde_json::Number;
 use std::alloc::{AllocError, Global};
 
 /// Returns the canonical text of a tree (OLPC Canonical JSON; TUF 1.0 section 4.1).
@@ -23,7 +26,7 @@ use std::alloc::{AllocError, Global};
 /// Fails with `Float` if a number of the tree isn't whole, or is below -2^63 or above 2^64 -
 /// 1, or with `NoMemory`. A number written as `1.0`, `1e2` or `-0` isn't read as a whole number.
 #[tactic(auto, using(crate::proofs::Unique::canon_unique))]
-pub fn canonical(alloc: Global, v: &Value) -> Result<Vec<u8>, Canon>
+pub fn canonical(alloc: Global, v: &Tree) -> Result<Vec<u8>, Canon>
     ensures ok { IfOk result (λ bytes. canon (view v.now) ≡ Some bytes.items) }
     ensures float { result ≡ Err Canon.Float → canon (view v.now) ≡ None }
     ensures not_whole { result ≡ Err Canon.Float
@@ -40,7 +43,7 @@ pub fn canonical(alloc: Global, v: &Value) -> Result<Vec<u8>, Canon>
 }
 
 #[cycle(write)]
-fn write(value: &Value, out: &mut Vec<u8>) -> Result<(), Canon>
+fn write(value: &Tree, out: &mut Vec<u8>) -> Result<(), Canon>
     ensures text { OnOk result (out.new.items ≡ out.old.items ++ text (view value.now)) }
     ensures utf8 { OnOk result (IsUtf8 out.old.items → IsUtf8 out.new.items) }
     ensures whole { OnOk result (has_whole_numbers (view value.now) ≡ true) }
@@ -49,17 +52,17 @@ fn write(value: &Value, out: &mut Vec<u8>) -> Result<(), Canon>
         → has_whole_numbers (view value.now) ≡ false }
 {
     match value {
-        Value::Null => Ok(out.extend_from_slice(b"null")?),
-        Value::Bool(b) => write_bool(*b, out),
-        Value::Number(n) => write_number(n, out),
-        Value::String(s) => Ok(write_text(s.as_str(), out)?),
-        Value::Array(items) => write_items(items, out),
-        Value::Object(members) => write_members(members, out),
+        Tree::Null => Ok(out.extend_from_slice(b"null")?),
+        Tree::Bool(b) => write_bool(*b, out),
+        Tree::Number(n) => write_number(n, out),
+        Tree::String(s) => Ok(write_text(s.as_str(), out)?),
+        Tree::Array(items) => write_items(items, out),
+        Tree::Object(members) => write_members(members, out),
     }
 }
 
 #[cycle(write)]
-fn write_items(items: &Vec<Value>, out: &mut Vec<u8>) -> Result<(), Canon>
+fn write_items(items: &Vec<Tree>, out: &mut Vec<u8>) -> Result<(), Canon>
     ensures text { OnOk result
         (out.new.items ≡ out.old.items ++ 91 ∷ items_text false (items_view items.now.items)) }
     ensures utf8 { OnOk result (IsUtf8 out.old.items → IsUtf8 out.new.items) }
@@ -80,20 +83,20 @@ fn write_items(items: &Vec<Value>, out: &mut Vec<u8>) -> Result<(), Canon>
 }
 
 #[cycle(write)]
-fn write_members(members: &Map<String, Value>, out: &mut Vec<u8>) -> Result<(), Canon>
+fn write_members(members: &Sorted<Tree>, out: &mut Vec<u8>) -> Result<(), Canon>
     ensures text { OnOk result
         (out.new.items
-        ≡ out.old.items ++ 123 ∷ members_text false (members_view members.now.entries)) }
+        ≡ out.old.items ++ 123 ∷ members_text false (members_view members.now)) }
     ensures utf8 { OnOk result (IsUtf8 out.old.items → IsUtf8 out.new.items) }
-    ensures whole { OnOk result (members_are_whole (members_view members.now.entries) ≡ true) }
-    ensures ordered { OnOk result (members_are_ordered (members_view members.now.entries)
+    ensures whole { OnOk result (members_are_whole (members_view members.now) ≡ true) }
+    ensures ordered { OnOk result (members_are_ordered (members_view members.now)
         ≡ true) }
     ensures float { result ≡ Err Canon.Float
-        → members_are_whole (members_view members.now.entries) ≡ false }
+        → members_are_whole (members_view members.now) ≡ false }
 {
     out.push(b'{')?;
     let mut later = false;
-    for (key, member) in members.iter() {
+    for (key, member) in members.as_slice() {
         write_key(later, key.as_str(), out)?;
         write(member, out)?;
         later = true;

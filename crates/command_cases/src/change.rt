@@ -2,7 +2,7 @@
 
 use crate::shell::Shell;
 use anyhow::{Context, Result, bail};
-use cjson::{Doc, canonical, read_tree, signed_bytes};
+use cjson::{Doc, canonical, signed_bytes, tree_from};
 use lms::Height;
 use seals::{Signer, seal, secret};
 use serde_json::Value;
@@ -72,11 +72,12 @@ fn changed(alloc: Global, text: &[u8], old: &str, new: &str) -> Result<Vec<u8>> 
 
 /// Returns the file that signs that text.
 fn sealed(alloc: Global, text: &[u8], signer: Signer) -> Result<Vec<u8>> {
-    let Value::Object(members) = read_tree(alloc, text)? else {
+    let Value::Object(members) = Value::from_slice(alloc, text)? else {
         bail!("no object");
     };
     let value = Value::Object(members);
-    let Ok(_) = canonical(alloc, &value) else {
+    let tree = tree_from(alloc, &value)?;
+    let Ok(_) = canonical(alloc, &tree) else {
         bail!("no canonical text");
     };
     Ok(seal(alloc, &value, &mut [signer], &[0])?)

@@ -3,6 +3,7 @@
 use crate::plain::{output, yes_or_no};
 use anyhow::Result;
 use cjson::form::FromJson;
+use cjson::tree_from;
 use deleg::{bin_name, matches, prefix_matches};
 use folder::path_below;
 use meta::Bins;
@@ -34,7 +35,7 @@ fn bins(alloc: Global, bits: u64, prefix: &str) -> Result<Bins> {
         "name_prefix": prefix,
         "threshold": 1
     })?;
-    Ok(Bins::from_json(alloc, &value)?)
+    Ok(Bins::from_json(alloc, &tree_from(alloc, &value)?)?)
 }
 
 fn line(alloc: Global, name: String) -> Result<String> {

@@ -1,13 +1,13 @@
 //! The reading and printing of values.
 
 use anyhow::Result;
-use serde_json::Value;
+use cjson::{Tree, read_tree};
 use std::alloc::Global;
 
 /// A tree of JSON, as a row writes it.
 pub struct Json {
     /// The tree.
-    pub tree: Value,
+    pub tree: Tree,
 }
 
 impl Drop for Json {
@@ -19,7 +19,7 @@ impl Drop for Json {
 impl Json {
     /// Reads the tree of a text.
     pub fn read(alloc: Global, text: &str) -> Result<Json> {
-        let tree = Value::from_str(alloc, text)?;
+        let tree = read_tree(alloc, text.as_bytes())?;
         Ok(Json { tree })
     }
 }

@@ -1,8 +1,9 @@
 //! Canonical texts and documents.
 
 use crate::plain::{Json, push_plain};
-use anyhow::Result;
-use cjson::{Doc, canonical, signed_bytes};
+use anyhow::{Context, Result, ensure};
+use cjson::{Doc, Tree, canonical, signed_bytes, tree_from};
+use serde_json::Value;
 use sessions::{Step, joined};
 use std::alloc::Global;
 
@@ -33,18 +34,19 @@ pub fn document_hex(alloc: Global, step: &Step) -> Result<String> {
 fn read(alloc: Global, file: &[u8]) -> Result<String> {
     let mut text = String::new(alloc);
     match signed_bytes(alloc, file) {
-        Ok(doc) => push_document(alloc, &mut text, &doc)?,
+        Ok(doc) => push_document(alloc, &mut text, file, &doc)?,
         Err(fault) => writeln!(text, "{fault:?}")?,
     }
     Ok(text)
 }
 
 /// Adds what a document signs, its tree, and the entries.
-fn push_document(alloc: Global, text: &mut String, doc: &Doc) -> Result<()> {
+fn push_document(alloc: Global, text: &mut String, file: &[u8], doc: &Doc) -> Result<()> {
     text.push_str("signed ")?;
     push_plain(text, doc.bytes())?;
-    let tree = doc.tree().to_string(alloc)?;
-    writeln!(text, "\ntree {tree}")?;
+    let value = Value::from_slice(alloc, file)?;
+    let signed = value.get("signed").context("nothing signed")?;
+    push_tree(alloc, text, signed, doc.tree())?;
     for entry in doc.entries() {
         writeln!(
             text,
@@ -53,6 +55,16 @@ fn push_document(alloc: Global, text: &mut String, doc: &Doc) -> Result<()> {
             entry.sig.as_str()
         )?;
     }
+    Ok(())
+}
+
+/// Adds the tree as `serde_json` prints its value, whose tree it has to be: then both have one
+/// canonical text.
+fn push_tree(alloc: Global, text: &mut String, value: &Value, tree: &Tree) -> Result<()> {
+    let same = tree_from(alloc, value)?;
+    let same_text = canonical(alloc, &same)? == canonical(alloc, tree)?;
+    ensure!(same_text, "the value has another tree");
+    writeln!(text, "\ntree {}", value.to_string(alloc)?)?;
     Ok(())
 }
 

@@ -1,14 +1,13 @@
 //! A single usable key.
 
 ghost use Rattle.std.specs.Prelude.{◌≡◌, IfOk, string_bytes};
-ghost use Rattle.serde_json.specs.View.{view};
+ghost use Rattle.cjson.specs.Tree.{view};
 ghost use Rattle.keys.specs.Keys as spec;
 
 use cjson::text::{Text, is_text};
-use cjson::{Canon, NoMemory, canonical};
+use cjson::{Canon, NoMemory, Tree, canonical};
 use hex::FromHex;
 use lms::Public;
-use serde_json::Value;
 use sha2::{Digest, Sha256};
 use std::alloc::Global;
 
@@ -25,7 +24,7 @@ pub struct Key {
 /// Returns the id of a key object: the SHA-256 of its canonical text, in 64 lower-case hexadecimal
 /// digits (TUF 1.0 section 4.2). Fails with `Float` if a number of the object isn't whole, since it
 /// then has no canonical text, or with `NoMemory`.
-pub fn key_id(alloc: Global, key: &Value) -> Result<String, Canon>
+pub fn key_id(alloc: Global, key: &Tree) -> Result<String, Canon>
     ensures digest { spec.GivesText (spec.key_id (view key.now)) result string_bytes }
 {
     let text = canonical(alloc, key)?;
@@ -34,7 +33,7 @@ pub fn key_id(alloc: Global, key: &Value) -> Result<String, Canon>
 }
 
 /// Returns the key, if it counts under the id. Fails only if out of memory.
-pub(crate) fn usable_key(alloc: Global, id: &str, key: &Value) -> Result<Option<Key>, NoMemory>
+pub(crate) fn usable_key(alloc: Global, id: &str, key: &Tree) -> Result<Option<Key>, NoMemory>
     ensures { IfOk result (λ o. o ≡ spec.usable id.now (view key.now)) }
 {
     let Some(public) = public_value(key) else {
@@ -47,7 +46,7 @@ pub(crate) fn usable_key(alloc: Global, id: &str, key: &Value) -> Result<Option<
     Ok(Some(Key { id, public }))
 }
 
-fn public_value(key: &Value) -> Option<Public>
+fn public_value(key: &Tree) -> Option<Public>
     ensures { result ≡ spec.public_value (view key.now) }
 {
     let text = key.get("keyval")?.get("public")?.as_str()?;
@@ -57,13 +56,13 @@ fn public_value(key: &Value) -> Option<Public>
     }
 }
 
-fn is_lms(key: &Value) -> bool
+fn is_lms(key: &Tree) -> bool
     ensures { result ≡ spec.is_lms (view key.now) }
 {
     is_text(key, "keytype", "lms") && is_text(key, "scheme", "lms-sha256")
 }
 
-fn is_own_id(alloc: Global, id: &str, key: &Value) -> Result<bool, NoMemory>
+fn is_own_id(alloc: Global, id: &str, key: &Tree) -> Result<bool, NoMemory>
     ensures { IfOk result (λ b. b ≡ spec.is_own_id id.now (view key.now)) }
 {
     match key_id(alloc, key) {

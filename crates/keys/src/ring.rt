@@ -1,7 +1,7 @@
 //! The usable keys of a file, by id.
 
 ghost use Rattle.std.specs.Prelude.{◌≡◌, IfOk};
-ghost use Rattle.serde_json.specs.View.{view};
+ghost use Rattle.cjson.specs.Tree.{view};
 ghost use Rattle.cjson.specs.Form.{Reads};
 ghost use Rattle.keys.specs.Keys as spec;
 
@@ -9,8 +9,7 @@ use crate::key::{Key, usable_key};
 use cjson::form::{FromJson, if_formed};
 use cjson::list::Items;
 use cjson::members::{FromMember, read_members};
-use cjson::{NoMemory, ReadFault};
-use serde_json::Value;
+use cjson::{NoMemory, ReadFault, Tree};
 use std::alloc::Global;
 use std::marker::Model;
 
@@ -35,7 +34,7 @@ impl Model for KeyRing {
 impl KeyRing {
     /// Reads an object of keys. Returns None if the value or one of its members isn't an object.
     /// Fails only if out of memory.
-    pub fn read(alloc: Global, value: &Value) -> Result<Option<KeyRing>, NoMemory>
+    pub fn read(alloc: Global, value: &Tree) -> Result<Option<KeyRing>, NoMemory>
         ensures read { IfOk result (λ o. o ≡ spec.ring (view value.now)) }
     {
         if_formed(KeyRing::from_json(alloc, value))
@@ -52,7 +51,7 @@ impl KeyRing {
 impl FromJson for KeyRing {
     ghost form = { spec.ring };
 
-    fn from_json(alloc: Global, value: &Value) -> Result<KeyRing, ReadFault> {
+    fn from_json(alloc: Global, value: &Tree) -> Result<KeyRing, ReadFault> {
         let listed: Items<ListedKey> = read_members(alloc, value)?;
         let keys = listed
             .into_vec()
@@ -81,7 +80,7 @@ impl Model for ListedKey {
 impl FromMember for ListedKey {
     ghost member_form = { spec.listed_key };
 
-    fn from_member(alloc: Global, name: &str, value: &Value) -> Result<ListedKey, ReadFault> {
+    fn from_member(alloc: Global, name: &str, value: &Tree) -> Result<ListedKey, ReadFault> {
         if !value.is_object() {
             return Err(ReadFault::Malformed);
         }

@@ -12,7 +12,7 @@ use crate::objects::{
 use crate::refusal::Refusal;
 use crate::ring::{ids_of, new_signer, place_of, places_of, put_keys};
 use crate::words::Words;
-use cjson::canonical;
+use cjson::{canonical, tree_from};
 use meta::names;
 use seals::{Signer, seal_text};
 use serde_json::{Map, Value, json};
@@ -367,7 +367,8 @@ impl Repository {
             return Err(Refusal::Line);
         }
         let by = places_of(self.alloc, &self.signers, keys)?;
-        let text = canonical(self.alloc, &signed)?;
+        let tree = tree_from(self.alloc, &signed)?;
+        let text = canonical(self.alloc, &tree)?;
         Ok(seal_text(self.alloc, &signed, &text, &mut self.signers, &by)?)
     }
 }

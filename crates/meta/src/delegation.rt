@@ -2,17 +2,16 @@
 
 ghost use Rattle.std.specs.Prelude.{◌≡◌, true};
 ghost use Rattle.std.specs.List.{list_all};
-ghost use Rattle.serde_json.specs.View.{view};
+ghost use Rattle.cjson.specs.Tree.{view};
 ghost use Rattle.meta.specs.Metadata as spec;
 ghost use Rattle.meta.specs.Patterns as rule;
 ghost use Rattle.cjson.specs.Form.{Reads};
 
-use cjson::ReadFault;
 use cjson::form::{FromJson, needed_member, optional_member};
 use cjson::list::Items;
 use cjson::text::Text;
+use cjson::{ReadFault, Tree};
 use keys::RoleKeys;
-use serde_json::Value;
 use std::alloc::Global;
 use std::marker::Model;
 
@@ -46,7 +45,7 @@ impl PathPattern {
 impl FromJson for PathPattern {
     ghost form = { spec.text_that rule.is_pattern };
 
-    fn from_json(alloc: Global, value: &Value) -> Result<PathPattern, ReadFault> {
+    fn from_json(alloc: Global, value: &Tree) -> Result<PathPattern, ReadFault> {
         let text: Text = FromJson::from_json(alloc, value)?;
         if !is_pattern(text.as_str()) {
             return Err(ReadFault::Malformed);
@@ -91,7 +90,7 @@ impl HashPrefix {
 impl FromJson for HashPrefix {
     ghost form = { spec.text_that rule.is_prefix };
 
-    fn from_json(alloc: Global, value: &Value) -> Result<HashPrefix, ReadFault> {
+    fn from_json(alloc: Global, value: &Tree) -> Result<HashPrefix, ReadFault> {
         let text: Text = FromJson::from_json(alloc, value)?;
         if !is_prefix(text.as_str()) {
             return Err(ReadFault::Malformed);
@@ -143,7 +142,7 @@ pub struct Delegation {
 impl FromJson for Paths {
     ghost form = { spec.paths };
 
-    fn from_json(alloc: Global, value: &Value) -> Result<Paths, ReadFault> {
+    fn from_json(alloc: Global, value: &Tree) -> Result<Paths, ReadFault> {
         let patterns = optional_member(alloc, value, "paths")?;
         let prefixes = optional_member(alloc, value, "path_hash_prefixes")?;
         match (patterns, prefixes) {
@@ -157,7 +156,7 @@ impl FromJson for Paths {
 impl FromJson for Delegation {
     ghost form = { spec.delegation };
 
-    fn from_json(alloc: Global, value: &Value) -> Result<Delegation, ReadFault> {
+    fn from_json(alloc: Global, value: &Tree) -> Result<Delegation, ReadFault> {
         Ok(Delegation {
             name: needed_member(alloc, value, "name")?,
             keys: RoleKeys::from_json(alloc, value)?,
@@ -168,7 +167,7 @@ impl FromJson for Delegation {
 }
 
 /// Reads a member that is true or false, or false if it is absent.
-pub(crate) fn flag(alloc: Global, value: &Value, name: &str) -> Result<bool, ReadFault>
+pub(crate) fn flag(alloc: Global, value: &Tree, name: &str) -> Result<bool, ReadFault>
     ensures { Reads (spec.flag name.now (view value.now)) result }
 {
     Ok(optional_member(alloc, value, name)?.unwrap_or(false))

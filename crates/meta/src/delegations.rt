@@ -3,13 +3,12 @@
 ghost use Rattle.meta.specs.Metadata as spec;
 
 use crate::delegation::Delegation;
-use cjson::ReadFault;
 use cjson::form::{FromJson, needed_member, optional_member};
 use cjson::list::Items;
 use cjson::number::Within;
 use cjson::text::Text;
+use cjson::{ReadFault, Tree};
 use keys::{KeyRing, RoleKeys};
-use serde_json::Value;
 use std::alloc::Global;
 
 /// Succinct roles, which are hash bins (this project's profile): a role for each value of the first
@@ -45,7 +44,7 @@ pub struct Delegations {
 impl FromJson for Bins {
     ghost form = { spec.bins };
 
-    fn from_json(alloc: Global, value: &Value) -> Result<Bins, ReadFault> {
+    fn from_json(alloc: Global, value: &Tree) -> Result<Bins, ReadFault> {
         Ok(Bins {
             keys: RoleKeys::from_json(alloc, value)?,
             bits: needed_member(alloc, value, "bit_length")?,
@@ -57,7 +56,7 @@ impl FromJson for Bins {
 impl FromJson for Roles {
     ghost form = { spec.roles };
 
-    fn from_json(alloc: Global, value: &Value) -> Result<Roles, ReadFault> {
+    fn from_json(alloc: Global, value: &Tree) -> Result<Roles, ReadFault> {
         let listed = optional_member(alloc, value, "roles")?;
         let bins = optional_member(alloc, value, "succinct_roles")?;
         match (listed, bins) {
@@ -71,7 +70,7 @@ impl FromJson for Roles {
 impl FromJson for Delegations {
     ghost form = { spec.delegations };
 
-    fn from_json(alloc: Global, value: &Value) -> Result<Delegations, ReadFault> {
+    fn from_json(alloc: Global, value: &Tree) -> Result<Delegations, ReadFault> {
         Ok(Delegations {
             ring: needed_member(alloc, value, "keys")?,
             roles: Roles::from_json(alloc, value)?,

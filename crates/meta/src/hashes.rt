@@ -2,13 +2,12 @@
 
 ghost use Rattle.std.specs.Prelude.{◌≡◌, is_some};
 ghost use Rattle.serde_json.specs.Find.{as_str};
-ghost use Rattle.serde_json.specs.View.{view, members_view};
+ghost use Rattle.cjson.specs.Tree.{view, members_view};
 ghost use Rattle.cjson.specs.Form as form_of;
 ghost use Rattle.meta.specs.Metadata as spec;
 
-use cjson::ReadFault;
 use cjson::form::{FromJson, optional_member};
-use serde_json::{Map, Value};
+use cjson::{ReadFault, Tree};
 use std::alloc::Global;
 
 /// The listed digests of the known algorithms (TUF 1.0 section 4.4).
@@ -23,9 +22,9 @@ pub struct Hashes {
 impl FromJson for Hashes {
     ghost form = { spec.hashes };
 
-    fn from_json(alloc: Global, value: &Value) -> Result<Hashes, ReadFault> {
+    fn from_json(alloc: Global, value: &Tree) -> Result<Hashes, ReadFault> {
         let found = value.as_object().ok_or(ReadFault::Malformed)?;
-        if !has_only_texts(found) {
+        if !has_only_texts(found.as_slice()) {
             return Err(ReadFault::Malformed);
         }
         let sha256 = optional_member(alloc, value, "sha256")?;
@@ -34,12 +33,12 @@ impl FromJson for Hashes {
     }
 }
 
-fn has_only_texts(members: &Map<String, Value>) -> bool
+fn has_only_texts(members: &[(String, Tree)]) -> bool
     ensures { result
         ≡ form_of.all_members (λ value. is_some (as_str value))
-        (members_view members.now.entries) }
+        (members_view members.now) }
 {
-    for (_, value) in members.iter() {
+    for (_, value) in members {
         if !value.is_string() {
             return false;
         }

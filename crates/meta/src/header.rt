@@ -1,16 +1,15 @@
 //! The members that all kinds of metadata have.
 
 ghost use Rattle.std.specs.Prelude.{◌≡◌, codes};
-ghost use Rattle.serde_json.specs.View.{view};
+ghost use Rattle.cjson.specs.Tree.{view};
 ghost use Rattle.cjson.specs.Form as form_of;
 ghost use Rattle.meta.specs.Metadata as spec;
 
-use cjson::ReadFault;
 use cjson::form::needed_member;
 use cjson::number::Positive;
 use cjson::text::is_text;
+use cjson::{ReadFault, Tree};
 use moment::Moment;
-use serde_json::Value;
 use std::alloc::Global;
 
 /// What all kinds of metadata have (TUF 1.0 section 4.3).
@@ -23,7 +22,7 @@ pub struct Header {
 }
 
 /// Reads the members that all kinds have, of a file of this kind.
-pub(crate) fn read_header(alloc: Global, kind: &str, value: &Value) -> Result<Header, ReadFault>
+pub(crate) fn read_header(alloc: Global, kind: &str, value: &Tree) -> Result<Header, ReadFault>
     ensures { form_of.Reads (spec.header kind.now (view value.now)) result }
 {
     if !is_text(value, "_type", kind) || !is_of_version_one(value) {
@@ -34,16 +33,16 @@ pub(crate) fn read_header(alloc: Global, kind: &str, value: &Value) -> Result<He
     Ok(Header { version, expires })
 }
 
-fn is_of_version_one(value: &Value) -> bool
+fn is_of_version_one(value: &Tree) -> bool
     ensures { result
         ≡ form_of.has_text (codes "spec_version") (spec.begins_with (codes "1."))
         (view value.now) }
 {
-    let found = value.get("spec_version").and_then(Value::as_str);
+    let found = value.get("spec_version").and_then(Tree::as_str);
     found.is_some_and(|found| found.as_bytes().starts_with(b"1."))
 }
 
-fn expires(value: &Value) -> Option<Moment>
+fn expires(value: &Tree) -> Option<Moment>
     ensures { result ≡ form_of.needed (codes "expires") spec.moment_text (view value.now) }
 {
     Moment::read(value.get("expires")?.as_str()?)

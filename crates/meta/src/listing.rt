@@ -9,9 +9,8 @@ use crate::fault::Fault;
 use crate::hashes::Hashes;
 use cjson::form::{FromJson, needed_member, optional_member};
 use cjson::number::{Length, Positive};
-use cjson::{NoMemory, ReadFault};
+use cjson::{NoMemory, ReadFault, Tree};
 use keys::Judge;
-use serde_json::Value;
 use std::alloc::Global;
 
 /// The listing of a file by another (TUF 1.0 section 4.4).
@@ -51,7 +50,7 @@ impl Listing {
 impl FromJson for Listing {
     ghost form = { spec.listing };
 
-    fn from_json(alloc: Global, value: &Value) -> Result<Listing, ReadFault> {
+    fn from_json(alloc: Global, value: &Tree) -> Result<Listing, ReadFault> {
         Ok(Listing {
             version: needed_member(alloc, value, "version")?,
             length: optional_member(alloc, value, "length")?,

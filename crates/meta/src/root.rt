@@ -1,7 +1,7 @@
 //! Root files.
 
 ghost use Rattle.std.specs.Prelude.{◌≡◌};
-ghost use Rattle.serde_json.specs.View.{view};
+ghost use Rattle.cjson.specs.Tree.{view};
 ghost use Rattle.meta.specs.Metadata as spec;
 ghost use Rattle.meta.specs.Content.{root_limit};
 ghost use Rattle.cjson.specs.Form.{Reads};
@@ -10,9 +10,8 @@ use crate::delegation::flag;
 use crate::header::{Header, read_header};
 use crate::part::Reading;
 use cjson::form::needed_member;
-use cjson::{Doc, ReadFault};
+use cjson::{Doc, ReadFault, Tree};
 use keys::{KeyRing, RoleKeys};
-use serde_json::Value;
 use std::alloc::Global;
 use std::marker::Model;
 
@@ -118,7 +117,7 @@ impl Reading for Root {
     }
 }
 
-fn role_of(alloc: Global, value: &Value, name: &str) -> Result<RoleKeys, ReadFault>
+fn role_of(alloc: Global, value: &Tree, name: &str) -> Result<RoleKeys, ReadFault>
     ensures { Reads (spec.role_of name.now (view value.now)) result }
 {
     let roles = value.get("roles").ok_or(ReadFault::Malformed)?;

@@ -11,8 +11,7 @@ use crate::part::Reading;
 use cjson::form::FromJson;
 use cjson::members::{FromMember, read_members};
 use cjson::text::Text;
-use cjson::{Doc, ReadFault};
-use serde_json::Value;
+use cjson::{Doc, ReadFault, Tree};
 use std::alloc::Global;
 use std::marker::Model;
 
@@ -36,7 +35,7 @@ impl HasName for Named {
 impl FromMember for Named {
     ghost member_form = { spec.named };
 
-    fn from_member(alloc: Global, name: &str, value: &Value) -> Result<Named, ReadFault> {
+    fn from_member(alloc: Global, name: &str, value: &Tree) -> Result<Named, ReadFault> {
         let listing = Listing::from_json(alloc, value)?;
         let name = Text::new(String::from_str(alloc, name)?);
         Ok(Named { name, listing })

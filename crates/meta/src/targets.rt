@@ -15,9 +15,8 @@ use cjson::form::{needed_member, optional_member};
 use cjson::members::{FromMember, read_members};
 use cjson::number::Length;
 use cjson::text::Text;
-use cjson::{Doc, NoMemory, ReadFault};
+use cjson::{Doc, NoMemory, ReadFault, Tree};
 use keys::Judge;
-use serde_json::Value;
 use std::alloc::Global;
 use std::marker::Model;
 
@@ -78,7 +77,7 @@ impl HasName for Target {
 impl FromMember for Target {
     ghost member_form = { spec.target };
 
-    fn from_member(alloc: Global, name: &str, value: &Value) -> Result<Target, ReadFault> {
+    fn from_member(alloc: Global, name: &str, value: &Tree) -> Result<Target, ReadFault> {
         Ok(Target {
             length: needed_member(alloc, value, "length")?,
             hashes: needed_member(alloc, value, "hashes")?,

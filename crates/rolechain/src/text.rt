@@ -10,9 +10,8 @@ ghost use Rattle.rolechain.specs.Text.{state_in, kept_in, part_in};
 use crate::fault::StateFault;
 use crate::state::Trusted;
 use cjson::form::{FromJson, needed_member, optional_member};
-use cjson::{NoMemory, ReadFault, read_tree};
+use cjson::{NoMemory, ReadFault, Tree, read_tree};
 use meta::{Fault, Part, Reading, Root, Snapshot, Stop, Targets, Timestamp};
-use serde_json::Value;
 use std::alloc::{AllocError, Global};
 use std::marker::Model;
 
@@ -33,7 +32,7 @@ impl Model for Hex {
 impl FromJson for Hex {
     ghost form = { spec.hex_text };
 
-    fn from_json(alloc: Global, value: &Value) -> Result<Hex, ReadFault> {
+    fn from_json(alloc: Global, value: &Tree) -> Result<Hex, ReadFault> {
         let text = value.as_str().ok_or(ReadFault::Malformed)?;
         match hex::decode(alloc, text) {
             Ok(bytes) => Ok(Hex { bytes }),
@@ -59,7 +58,7 @@ pub(crate) struct Kept {
 impl FromJson for Kept {
     ghost form = { spec.kept };
 
-    fn from_json(alloc: Global, value: &Value) -> Result<Kept, ReadFault> {
+    fn from_json(alloc: Global, value: &Tree) -> Result<Kept, ReadFault> {
         Ok(Kept {
             root: needed_member(alloc, value, "root")?,
             snapshot: optional_member(alloc, value, "snapshot")?,

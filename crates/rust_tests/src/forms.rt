@@ -3,13 +3,12 @@
 ghost use Rattle.std.specs.Prelude.{List, ℕ, option_map};
 ghost use Rattle.cjson.specs.Form as form_of;
 
-use cjson::ReadFault;
 use cjson::form::FromJson;
 use cjson::list::Items;
 use cjson::members::{FromMember, read_members};
 use cjson::number::Length;
 use cjson::text::Text;
-use serde_json::Value;
+use cjson::{ReadFault, Tree, read_tree};
 use std::alloc::Global;
 use std::marker::Model;
 use std::test::Fail;
@@ -31,7 +30,7 @@ impl FromMember for Named {
     ghost member_form = { λ name d.
         option_map (λ n. (name, n)) (form_of.whole 0 form_of.greatest d) };
 
-    fn from_member(alloc: Global, name: &str, value: &Value) -> Result<Named, ReadFault> {
+    fn from_member(alloc: Global, name: &str, value: &Tree) -> Result<Named, ReadFault> {
         let length = Length::from_json(alloc, value)?;
         let name = Text::new(String::from_str(alloc, name)?);
         Ok(Named { name, length })
@@ -40,7 +39,7 @@ impl FromMember for Named {
 
 /// Reads the members of an object.
 fn members(alloc: Global, json: &str) -> Result<Result<Items<Named>, ReadFault>, Fail> {
-    let value = Value::from_str(alloc, json)?;
+    let value = read_tree(alloc, json.as_bytes())?;
     Ok(read_members(alloc, &value))
 }
 

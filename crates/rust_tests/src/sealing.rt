@@ -2,7 +2,7 @@
 
 ghost use Rattle.std.specs.Prelude.{◌<◌, All, length};
 
-use cjson::{Doc, canonical, signed_bytes};
+use cjson::{Doc, canonical, signed_bytes, tree_from};
 use lms::{Height, Public, verify};
 use seals::{MakeFault, Signer, seal, secret};
 use serde_json::json;
@@ -35,7 +35,7 @@ fn sealed(
         "spec_version": "1.0.0",
         "version": 1
     })?;
-    canonical(alloc, &value)?;
+    canonical(alloc, &tree_from(alloc, &value)?)?;
     Ok(seal(alloc, &value, signers, by))
 }
 

@@ -1,10 +1,9 @@
 //! A count of signers whose judge is out of memory.
 
 use crate::judges::Counting;
-use cjson::{NoMemory, signed_bytes};
+use cjson::{NoMemory, read_tree, signed_bytes};
 use keys::{KeyRing, RoleKeys, enough, key_id};
 use lms::{Height, Secret};
-use serde_json::Value;
 use std::alloc::Global;
 use std::test::Fail;
 
@@ -32,7 +31,7 @@ impl Signer {
             "{{\"scheme\":\"lms-sha256\",\"keytype\":\"lms\",\
 \"keyval\":{{\"public\":\"{public}\"}}}}"
         )?;
-        let id = key_id(alloc, &Value::from_str(alloc, key.as_str())?)?;
+        let id = key_id(alloc, &read_tree(alloc, key.as_bytes())?)?;
         let sig = hex::encode(alloc, secret.sign(SIGNED)?)?;
         let member = format!(in alloc; "\"{id}\":{key}")?;
         let entry = format!(in alloc; "{{\"sig\":\"{sig}\",\"keyid\":\"{id}\"}}")?;
@@ -42,7 +41,7 @@ impl Signer {
 
 fn ring(alloc: Global, one: &Signer, two: &Signer) -> Result<KeyRing, Fail> {
     let json = format!(in alloc; "{{{},{}}}", one.member, two.member)?;
-    let value = Value::from_str(alloc, json.as_str())?;
+    let value = read_tree(alloc, json.as_bytes())?;
     Ok(KeyRing::read(alloc, &value)?.ok_or("a ring")?)
 }
 
@@ -51,7 +50,7 @@ fn role(alloc: Global, one: &Signer, two: &Signer) -> Result<RoleKeys, Fail> {
         "{{\"keyids\":[\"{}\",\"{}\"],\"threshold\":2}}",
         one.id, two.id
     )?;
-    let value = Value::from_str(alloc, json.as_str())?;
+    let value = read_tree(alloc, json.as_bytes())?;
     Ok(RoleKeys::read(alloc, &value)?.ok_or("a role")?)
 }
 

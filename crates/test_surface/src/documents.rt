@@ -1,7 +1,6 @@
 //! Canonical texts and documents.
 
-use cjson::{Canon, Doc, DocFault, Entry, canonical, signed_bytes};
-use serde_json::Value;
+use cjson::{Canon, Doc, DocFault, Entry, Tree, canonical, read_tree, signed_bytes};
 use std::test::Fail;
 
 /// A file with an entry.
@@ -14,7 +13,7 @@ const SIGNED: &[u8] = b"{\"a\":[],\"b\":1}";
 #[test]
 fn documents(rt: HostRuntime) -> Result<(), Fail> {
     let doc: Doc = signed_bytes(rt.alloc(), FILE)?;
-    let tree: &Value = doc.tree();
+    let tree: &Tree = doc.tree();
     let bytes: &[u8] = doc.bytes();
     let entries: &[Entry] = doc.entries();
     let text: Result<Vec<u8>, Canon> = canonical(rt.alloc(), tree);
@@ -41,7 +40,7 @@ fn faults(rt: HostRuntime) -> Result<(), Fail> {
         let found = signed_bytes(rt.alloc(), file.as_bytes()).err();
         assert_eq!(rt; found, Some(fault), "{file}");
     }
-    let number = Value::from_str(rt.alloc(), "1.5")?;
+    let number = read_tree(rt.alloc(), b"1.5")?;
     assert_eq!(rt; canonical(rt.alloc(), &number).err(), Some(Canon::Float));
     Ok(())
 }

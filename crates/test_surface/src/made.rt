@@ -1,6 +1,6 @@
 //! Test repositories.
 
-use cjson::{NoMemory, canonical, signed_bytes};
+use cjson::{NoMemory, canonical, signed_bytes, tree_from};
 use lms::{Height, Secret, verify};
 use maker::{MakeFault, Signer, make, seal, secret};
 use serde_json::json;
@@ -30,7 +30,7 @@ fn files_are_sealed(rt: HostRuntime) -> Result<(), Fail> {
     let id = String::from_str(alloc, "one")?;
     let mut signers = [Signer { id, secret: key }];
     let value = json!(in alloc; { "_type": "mirrors" })?;
-    canonical(alloc, &value)?;
+    canonical(alloc, &tree_from(alloc, &value)?)?;
     let file: Result<Vec<u8>, MakeFault> = seal(alloc, &value, &mut signers, &[0]);
     let doc = signed_bytes(alloc, file?.as_slice())?;
     assert_eq!(rt; doc.entries().len(), 1);

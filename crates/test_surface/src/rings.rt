@@ -1,21 +1,20 @@
 //! Keys of a file, thresholds and judges.
 
-use cjson::{Canon, NoMemory, signed_bytes};
+use cjson::{Canon, NoMemory, read_tree, signed_bytes};
 use keys::{
     Algorithm, Ask, DigestAsk, Direct, Judge, KeyRing, RoleKeys, SignatureAsk, enough, key_id,
 };
 use lms::{Height, Secret, Width};
-use serde_json::Value;
 use sha2::{Digest, Sha256};
 use std::test::Fail;
 
 #[test]
 fn rings_and_roles(rt: HostRuntime) -> Result<(), Fail> {
     let alloc = rt.alloc();
-    let keys = Value::from_str(alloc, "{\"k\":{}}")?;
+    let keys = read_tree(alloc, b"{\"k\":{}}")?;
     let ring: Result<Option<KeyRing>, NoMemory> = KeyRing::read(alloc, &keys);
     let ring = ring?.ok_or("a ring")?;
-    let role = Value::from_str(alloc, "{\"keyids\":[\"k\"],\"threshold\":2}")?;
+    let role = read_tree(alloc, b"{\"keyids\":[\"k\"],\"threshold\":2}")?;
     let role: Result<Option<RoleKeys>, NoMemory> = RoleKeys::read(alloc, &role);
     let role = role?.ok_or("a role")?;
     assert_eq!(rt; role.ids.as_slice().len(), 1);
@@ -36,7 +35,7 @@ fn rings_and_roles(rt: HostRuntime) -> Result<(), Fail> {
 /// What `printf {} | sha256sum` prints.
 #[test]
 fn ids(rt: HostRuntime) -> Result<(), Fail> {
-    let key = Value::from_str(rt.alloc(), "{}")?;
+    let key = read_tree(rt.alloc(), b"{}")?;
     let id: Result<String, Canon> = key_id(rt.alloc(), &key);
     assert_eq!(rt;
         id?.as_str(),

@@ -3,7 +3,7 @@
 ghost use Rattle.std.specs.Prelude.{◌≡◌, ◌≢◌, false, true, Some, None, Ok, Err, option_map, IfOk};
 ghost use Rattle.std.specs.Prelude.{IfErr};
 ghost use Rattle.serde_json.specs.Data.{Data, object};
-ghost use Rattle.serde_json.specs.View.{view, members_view};
+ghost use Rattle.cjson.specs.Tree.{view, members_view};
 ghost use Rattle.cjson.specs.Canon.{has_whole_numbers, is_ordered};
 ghost use Rattle.cjson.specs.Document as spec;
 
@@ -11,9 +11,9 @@ use crate::doc::{Doc, Entry};
 use crate::fault::{DocFault, ReadFault};
 use crate::form::needed_member;
 use crate::list::Items;
-use crate::tree::read_tree;
+use crate::sorted::Sorted;
+use crate::tree::{Tree, read_tree};
 use crate::write::canonical;
-use serde_json::{Map, Value};
 use std::alloc::Global;
 
 /// The document that a file is (TUF 1.0 section 4.2), or its first fault in the order of
@@ -52,7 +52,7 @@ pub fn signed_bytes(alloc: Global, file: &[u8]) -> Result<Doc, DocFault>
 }
 
 /// The tree of a file.
-fn read_json(alloc: Global, file: &[u8]) -> Result<Value, DocFault>
+fn read_json(alloc: Global, file: &[u8]) -> Result<Tree, DocFault>
     ensures ok { IfOk result (λ tree. spec.tree_of file.now ≡ Some (view tree)) }
     ensures err { IfErr result (λ e. e ≢ DocFault.NoMemory
         → (e ≡ DocFault.NotJson) × (spec.tree_of file.now ≡ None)) }
@@ -65,7 +65,7 @@ fn read_json(alloc: Global, file: &[u8]) -> Result<Value, DocFault>
 }
 
 /// The member `signed`, where it is an object.
-fn signed_of(tree: &Value) -> Option<&Value>
+fn signed_of(tree: &Tree) -> Option<&Tree>
     ensures { option_map (λ v. view v.now) result ≡ spec.signed_of (view tree.now) }
 {
     match tree.get("signed") {
@@ -75,20 +75,20 @@ fn signed_of(tree: &Value) -> Option<&Value>
 }
 
 /// The same, taken out of the tree.
-fn into_signed(tree: Value) -> Option<Value>
+fn into_signed(tree: Tree) -> Option<Tree>
     ensures { option_map view result ≡ spec.signed_of (view tree) }
 {
     match tree {
-        Value::Object(members) => take_signed(members),
+        Tree::Object(members) => take_signed(members),
         _ => None,
     }
 }
 
 /// The same, taken out of an object's members.
-fn take_signed(mut members: Map<String, Value>) -> Option<Value>
-    ensures { option_map view result ≡ spec.signed_of (object (members_view members.entries)) }
+fn take_signed(members: Sorted<Tree>) -> Option<Tree>
+    ensures { option_map view result ≡ spec.signed_of (object (members_view members)) }
 {
-    let Some(signed) = members.remove("signed") else {
+    let Some(signed) = members.take("signed") else {
         return None;
     };
     if !signed.is_object() {
@@ -98,7 +98,7 @@ fn take_signed(mut members: Map<String, Value>) -> Option<Value>
 }
 
 /// The entries of `signatures`.
-fn read_entries(alloc: Global, tree: &Value) -> Result<Items<Entry>, DocFault>
+fn read_entries(alloc: Global, tree: &Tree) -> Result<Items<Entry>, DocFault>
     ensures ok { IfOk result (λ entries. spec.entries_of (view tree.now) ≡ Some entries) }
     ensures err { IfErr result (λ e. e ≢ DocFault.NoMemory
         → (e ≡ DocFault.BadSignatures) × (spec.entries_of (view tree.now) ≡ None)) }

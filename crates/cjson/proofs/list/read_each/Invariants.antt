@@ -1,5 +1,5 @@
 use Rattle.std.proofs.Common.{◌≡◌, drop}
-use Rattle.serde_json.specs.View.{items_view}
+use Rattle.cjson.specs.Tree.{items_view}
 use Rattle.cjson.specs.Form.{each}
 use Rattle.cjson.proofs.Before.{before}
 use Rattle.cjson.proofs.list.read_each.Given as goal

@@ -1,14 +1,15 @@
-use Rattle.std.proofs.Common.{◌≡◌, List, ℕ, [], ◌∷◌, ◌++◌, ◌&&◌, true, string_bytes, sym, ap, ◌∙◌, subst, rules, append_assoc, IsUtf8, arith, codes}
+use Rattle.std.proofs.Common.{◌≡◌, List, ℕ, ◌+◌, drop, [], ◌∷◌, ◌++◌, ◌&&◌, true, string_bytes, sym, ap, ◌∙◌, rules, append_assoc, IsUtf8, arith, codes}
 use Rattle.std.specs.List.Sorted.{IsStrictlySortedBy}
 use Rattle.std.specs.Map.{keys_of}
 use Rattle.std.specs.String.{string_cmp}
-use Rattle.serde_json.specs.View.{view, number_view, members_view}
-use Rattle.serde_json.proofs.Views.{Entry}
+use Rattle.serde_json.specs.View.{number_view}
+use Rattle.cjson.specs.Tree.{view, members_view}
+use Rattle.cjson.proofs.Views.{Entry}
 use Rattle.cjson.specs.Canon.{text, quoted, comma_if, members_text, members_are_whole, members_are_ordered, has_whole_numbers, is_ordered}
 use Rattle.std.proofs.lemmas.Str.{IsUtf8-nil, IsUtf8-string_bytes}
 use Rattle.std.proofs.lemmas.Grind.{common_steps}
 use Rattle.cjson.proofs.Utf8.{ascii_then, IsUtf8-null, IsUtf8-after_boolean, IsUtf8-after_number, IsUtf8-quoted, IsUtf8-comma_if, IsUtf8-key, IsUtf8-then}
-use Rattle.cjson.proofs.Order.{comes_before-sorted}
+use Rattle.cjson.proofs.Order.{comes_before-at}
 use Rattle.cjson.proofs.write.+write.Goals as goal
 
 -- comma, key and colon, and then the value
@@ -18,12 +19,12 @@ one_member o o1 o2 c q t r e1 e2 = rw (e2, e1) (simp append_assoc)
 pub write_members-loop-key-preserved : goal.write_members-loop-key-preserved
 write_members-loop-key-preserved t c =
     let l = c.loop-key in
-    let done = l.invariant.3 in
-    let e : Entry = (c.in-Some.key.now, c.in-Some.member.now) in
-    let left = c.next.new.self in
-    let step : l.key-iterator ≡ e ∷ left = c.in-Some.ensures.steps in
-    let all : c.args.members.now.entries ≡ done ++ e ∷ left = l.invariant.4 ∙ ap (λ es. done ++ es) step in
-    let before = comes_before-sorted done e left (subst (λ es. IsStrictlySortedBy string_cmp (keys_of es)) all c.iter-key-items.ensures.ordered) in
+    let all = c.as_slice-key-items.result.now in
+    let e : Entry = c.loop-key-item.result in
+    let left = drop (l.key-index + 1) all in
+    let step : drop l.key-index all ≡ e ∷ left = grind (arith, common_steps) in
+    let sorted : IsStrictlySortedBy string_cmp (keys_of all) = rw c.as_slice-key-items.ensures.value c.as_slice-key-items.ensures.ordered in
+    let before = comes_before-at l.key-index all e left step sorted in
     let key : c.write_key.new.out.items ≡ l.out.items ++ (comma_if l.later ++ (quoted (string_bytes e.0) ++ 58 ∷ [])) = search rules in
     let value : c.write.new.out.items ≡ c.write_key.new.out.items ++ text (view e.1) = search rules in
     let kept : IsUtf8 c.write_key.new.out.items → IsUtf8 c.write.new.out.items = search rules in
@@ -33,9 +34,8 @@ write_members-loop-key-preserved t c =
       ap (λ b. b && members_are_whole (members_view left)) (sym whole) ∙ ap (λ es. members_are_whole (members_view es)) (sym step) ∙ l.invariant.1,
       ap (λ b. b && members_are_ordered (members_view left)) (sym ordered) ∙ ap (λ b. b && (is_ordered (view e.1) && members_are_ordered (members_view left))) (sym before)
           ∙ ap (λ es. members_are_ordered (members_view es)) (sym step) ∙ l.invariant.2,
-      done ++ e ∷ [],
-      all ∙ sym (append_assoc done (e ∷ []) left),
-      λ h. kept (IsUtf8-then _ _ _ key (IsUtf8-key l.later (string_bytes e.0) (IsUtf8-string_bytes e.0)) (l.invariant.5 h)),
+      l.invariant.3,
+      λ h. kept (IsUtf8-then _ _ _ key (IsUtf8-key l.later (string_bytes e.0) (IsUtf8-string_bytes e.0)) (l.invariant.4 h)),
     )
 
 -- ---- UTF-8
@@ -72,4 +72,4 @@ write_items-returns-clause-utf8 t c =
 
 pub write_members-returns-clause-utf8 : goal.write_members-returns-clause-utf8
 write_members-returns-clause-utf8 t c =
-    λ h. IsUtf8-then _ _ _ c.in_ok-push-2.ensures.items (ascii_then _ [] (omega arith) IsUtf8-nil) (c.loop-key.invariant.5 (IsUtf8-then _ _ _ c.in_ok-push.ensures.items (ascii_then _ [] (omega arith) IsUtf8-nil) h))
+    λ h. IsUtf8-then _ _ _ c.in_ok-push-2.ensures.items (ascii_then _ [] (omega arith) IsUtf8-nil) (c.loop-key.invariant.4 (IsUtf8-then _ _ _ c.in_ok-push.ensures.items (ascii_then _ [] (omega arith) IsUtf8-nil) h))

@@ -1,6 +1,5 @@
-use Rattle.std.proofs.Common.{◌≡◌, ◌++◌, List, drop, false, IsUtf8}
-use Rattle.serde_json.specs.View.{items_view, members_view}
-use Rattle.serde_json.proofs.Views.{Entry}
+use Rattle.std.proofs.Common.{◌≡◌, ◌++◌, drop, false, IsUtf8}
+use Rattle.cjson.specs.Tree.{items_view, members_view}
 use Rattle.cjson.specs.Canon.{items_text, members_text, items_are_whole, members_are_whole, items_are_ordered, members_are_ordered}
 use Rattle.cjson.proofs.write.+write.Given as goal
 
@@ -15,9 +14,9 @@ invariant-write_items-loop-item l =
 
 abbrev pub invariant-write_members-loop-key : goal.invariant-write_members-loop-key
 invariant-write_members-loop-key l =
-    let left = members_view l.key-iterator in
-    let all = members_view l.members.entries in
+    let left = members_view (drop l.key-index l.key-items) in
+    let all = members_view l.key-items in
     (l.out.items ++ members_text l.later left ≡ l.initial.out.items ++ members_text false all)
     × (members_are_whole left ≡ members_are_whole all) × (members_are_ordered left ≡ members_are_ordered all)
-    × (done : List Entry) × (l.members.entries ≡ done ++ l.key-iterator)
+    × (l.key-items ≡ l.members)
     × (IsUtf8 l.initial.out.items → IsUtf8 l.out.items)
