@@ -15,10 +15,12 @@ update() {
         while tufcheck next --state "$state" --metadata "$dir/metadata" \
             --targets "$dir/targets" --only "$folder" -- "$@" >"$work/lines" &&
             grep -vxFf "$work/tried" "$work/lines" >"$work/new"; do
-            cat "$work/new" >>"$work/tried"
+            # With an optional file, one that is needed may no longer be.
+            grep '^maybe ' "$work/new" >"$work/now" || mv "$work/new" "$work/now"
+            cat "$work/now" >>"$work/tried"
             while read -r word rest; do
                 put "$word" "${rest% *}" "${rest##* }"
-            done <"$work/new"
+            done <"$work/now"
         done
     done
     rm -rf "$work"

@@ -151,7 +151,26 @@ static void next(const tufcheck_job *job, tufcheck_needs *needs)
     }
 }
 
-/* Fetches until nothing that is needed is found. */
+/* Fetches the files that are optional, or those that aren't. Returns how many were found. */
+static size_t fetch_some(const char *repository, const tufcheck_needs *needs, int optional,
+                         list *metadata, list *targets)
+{
+    size_t found = 0;
+    for (size_t i = 0; i < needs->summary.verdict_count; i++) {
+        const tufcheck_need *need = &needs->rows[i];
+        const uint8_t *name = needs->names + need->name_at;
+        tufcheck_bytes bytes;
+        if (need->optional != optional || !fetch(repository, need, name, &bytes))
+            continue;
+        printf("fetched %.*s\n", (int)need->name_len, (const char *)name);
+        add(need->place == TUFCHECK_METADATA ? metadata : targets, name, need->name_len, bytes);
+        found++;
+    }
+    return found;
+}
+
+/* Fetches until nothing that is needed is found. With an optional file, others may no longer be
+ * needed. */
 static void fetch_all(const char *repository, tufcheck_job *job, list *metadata, list *targets)
 {
     tufcheck_needs needs = {0};
@@ -163,17 +182,9 @@ static void fetch_all(const char *repository, tufcheck_job *job, list *metadata,
         job->targets = targets->files;
         job->target_count = targets->count;
         next(job, &needs);
-        found = 0;
-        for (size_t i = 0; i < needs.summary.verdict_count; i++) {
-            const tufcheck_need *need = &needs.rows[i];
-            const uint8_t *name = needs.names + need->name_at;
-            tufcheck_bytes bytes;
-            if (!fetch(repository, need, name, &bytes))
-                continue;
-            printf("fetched %.*s\n", (int)need->name_len, (const char *)name);
-            add(need->place == TUFCHECK_METADATA ? metadata : targets, name, need->name_len, bytes);
-            found++;
-        }
+        found = fetch_some(repository, &needs, 1, metadata, targets);
+        if (found == 0)
+            found = fetch_some(repository, &needs, 0, metadata, targets);
     }
     free(needs.rows);
     free(needs.names);

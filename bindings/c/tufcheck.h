@@ -203,7 +203,8 @@ typedef struct tufcheck_listing {
 /* A file to fetch. Its name is in the names, from name_at on. */
 typedef struct tufcheck_need {
     uint32_t place;    /* TUFCHECK_METADATA or TUFCHECK_TARGETS */
-    uint8_t optional;  /* 1 if the file may be absent for good, as the root of the next version */
+    uint8_t optional;  /* 1 if the file may be absent for good: the root of the next version, and
+                          a target's file under a name that isn't its last */
     uint64_t most;     /* fetch no more bytes than that: a longer file is refused */
     size_t name_at;
     size_t name_len;
@@ -228,8 +229,9 @@ int32_t tufcheck_first(const uint8_t *root, size_t root_len, uint8_t *state, siz
                        size_t *len);
 
 /* Returns which files the cycle looked up in the job and didn't find: 1 if some of them isn't
- * optional, else 2 if the cycle stopped, else 0. The names come from metadata, which a stranger may
- * have written: a caller that opens files must refuse names that lead out of its folder. */
+ * optional, else 2 if the cycle stopped, else 0. Fetch the optional ones first: with one of them,
+ * others may no longer be needed. The names come from metadata, which a stranger may have written: a
+ * caller that opens files must refuse names that lead out of its folder. */
 int32_t tufcheck_next(const tufcheck_job *job, tufcheck_needs *needs);
 
 /* Returns what roles list of the wanted paths, without looking at target files: 0 if the cycle is

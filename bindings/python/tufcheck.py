@@ -195,7 +195,8 @@ class Need:
     most: int
     """Fetch no more bytes than that: a longer file is refused."""
     optional: bool
-    """Whether the file may be absent for good, as the root of the next version."""
+    """Whether the file may be absent for good: the root of the next version, and a target's file
+    under a name that isn't its last. Fetch these first: with one, others may no longer be needed."""
 
 
 @dataclass(frozen=True)
@@ -328,7 +329,7 @@ def fetch_all(job: Job, fetch: Callable[[Need], Union[bytes, Digests, None]]) ->
         new = [need for need in needed if (need.place, need.name) not in asked]
         if not new:
             return needed
-        for need in new:
+        for need in [need for need in new if need.optional] or new:
             found = fetch(need)
             asked[need.place, need.name] = found is not None
             if isinstance(found, Digests):

@@ -9,9 +9,7 @@ PYTHONPATH has its module and second.py; LINES is the program that library.sh co
 and the new state must be the same, and so must be
 
   - the outcome with target files given by length and digests, all or some;
-  - the outcome after `fetch_all` into an empty job, which asks for no file twice. (It asks for a target's file by the first
-    of its names. Where the file is there under the second name alone, `verify`
-    accepts it and the updater never gets it: then only the outcome of what was fetched is made anew, which shows little.)
+  - the outcome after `fetch_all` into an empty job, which asks for no file twice;
   - the listing's state and end, and what it lists beside the verdicts.
 
 The last lines count the statuses and the ends. A history that differs is printed, and the status is then 1.
@@ -63,28 +61,10 @@ def brief(outcome):
     return dataclasses.replace(outcome, state=hashlib.sha256(outcome.state).hexdigest()[:16])
 
 
-def behind_digest(name):
-    """The folder and the rest of a file's name behind its digest, or None if it begins with none."""
-    folder, _, last = name.rpartition("/")
-    digest, _, rest = last.partition(".")
-    return (folder, rest) if rest and len(digest) in (64, 128) else None
-
-
 class Fetcher:
     def __init__(self, metadata, targets):
         self.files = {Place.METADATA: metadata, Place.TARGETS: targets}
         self.asked = set()
-
-    def targets(self):
-        """The target files that it was asked for and has."""
-        return {name: data for name, data in self.files[Place.TARGETS].items() if (Place.TARGETS, name) in self.asked}
-
-    def has_second_names(self):
-        """Whether a target file that it was asked for isn't there, but one that has its name behind another digest is."""
-        targets = self.files[Place.TARGETS]
-        absent = {behind_digest(name) for place, name in self.asked if place is Place.TARGETS and name not in targets}
-        others = {behind_digest(name) for name in targets if (Place.TARGETS, name) not in self.asked}
-        return bool((absent & others) - {None})
 
     def __call__(self, need):
         assert (need.place, need.name) not in self.asked
@@ -117,11 +97,9 @@ def compared(case):
     begun = tufcheck.Job(state, wanted, SECONDS, limit=limit)
     fetcher = Fetcher(metadata, targets)
     absent = tufcheck.fetch_all(begun, fetcher)
-    fetched, there = begun.verify(), outcome
-    if fetcher.has_second_names():
-        there = tufcheck.Job(state, wanted, SECONDS, metadata, fetcher.targets(), limit=limit).verify()
-    if fetched != there:
-        return f"all {brief(there)}\nfetched {brief(fetched)}", outcome
+    fetched = begun.verify()
+    if fetched != outcome:
+        return f"all {brief(outcome)}\nfetched {brief(fetched)}", outcome
     if not absent and not outcome.verdicts:
         return "nothing was absent", outcome
     listing = job.list()

@@ -1,11 +1,10 @@
 -- What holds of the files that are listed.
-use Rattle.std.proofs.Common.{◌≡◌, ℕ, ◌+◌, Bool, true, false, not, ◌&&◌, ◌||◌, List, [], ◌∷◌, ◌++◌, map, Option, Some, None, is_some, option_map, option_and_then, refl, sym, ap, ◌∙◌, subst, true≢false, if◌then◌else◌}
+use Rattle.std.proofs.Common.{◌≡◌, ℕ, ◌+◌, Bool, true, false, not, ◌&&◌, ◌||◌, List, [], ◌∷◌, ◌++◌, map, Option, Some, None, is_some, fold, refl, sym, ap, ◌∙◌, subst, true≢false, if◌then◌else◌}
 use Rattle.std.specs.List.{AllByRecursion as ByRecursion, list_all, list_any}
 use Rattle.std.specs.Option.{option_map_or}
 use Rattle.std.proofs.lemmas.Option.{none-some}
 use Rattle.std.proofs.lemmas.Bool.{and_from}
 use Rattle.std.proofs.lemmas.List.Elements.{All-from_recursion}
-use Rattle.std.proofs.lemmas.List.Folds.{list_all-append}
 use Rattle.meta.specs.Content.{root_name}
 use Rattle.meta.specs.Metadata.{Root}
 use Rattle.examine.specs.Checks.{Files, target_names}
@@ -15,9 +14,9 @@ use Rattle.deleg.specs.declared.found.Found.{Found}
 use Rattle.deleg.specs.declared.found.Found.TheVariants.{Listed, NotFound, LimitReached, RoleRefused}
 use Rattle.cycle.specs.Workflow.{Course, End, Ready, Request, Stopped, Target, course, searched, target_of}
 use Rattle.needs.specs.Laws.{AreAbsent, HasEnough, are_optional, has_file, is_one_there, is_short, is_short_end, is_short_found, names_at}
-use Rattle.needs.specs.Needs.{Names, Need, absent, each_once, end_need, file_need, first_of, found_need, is_sought, metadata_needs, needs, next_root, role_below, root_need, search_need, step_need, target_need, target_needs}
+use Rattle.needs.specs.Needs.{Names, Need, absent, end_need, file_needs, found_need, is_none_of, is_sought, metadata_needs, name_needs, needs, next_root, noted_files, role_below, root_need, search_need, step_need, target_need, target_needs}
 use Rattle.needs.specs.declared.need.Place.TheVariants as place
-use Rattle.needs.proofs.Lists.{Holds, holds-both, holds-list, holds-once, none-once, optional-none}
+use Rattle.needs.proofs.Lists.{Holds, IsOptional, holds-both, holds-each, holds-from, holds-list, holds-once, holds-somes, none-once, optional-from, optional-none, split}
 use Rattle.needs.proofs.Refusing.{searched-tells}
 use Rattle.needs.proofs.Stopping.{IsGone, IsTold, advanced-tells}
 
@@ -60,26 +59,28 @@ module _ (P : Need → Type 0) (r : Request) (files : Files) (gone : (n : Need) 
 
 -- ---- targets
 
-module _ (P : Need → Type 0) (there : Names) (consistent : Bool) (gone : (name : List ℕ) (most : ℕ) → there name ≡ false → P (absent place.Targets false name most)) where
-  holds-first : (names : List (List ℕ)) (most : ℕ) (b : Bool) → list_any there names ≡ b → Holds P (if b then None else option_map (λ name. absent place.Targets false name most) (first_of names))
-  holds-first names most true h = tt
-  holds-first [] most false h = tt
-  holds-first (name ∷ names) most false h = gone name most (neither (there name) (list_any there names) h)
+module _ (P : Need → Type 0) (there : Names) (consistent : Bool) (gone : (optional : Bool) (name : List ℕ) (most : ℕ) → there name ≡ false → P (absent place.Targets optional name most)) where
+  holds-names : (names : List (List ℕ)) (most : ℕ) → ByRecursion P (name_needs there most names)
+  holds-names [] most = tt
+  holds-names (name ∷ names) most = if_out (there name) refl (holds-names names most)
     where
-      neither : (a b : Bool) → (a || b) ≡ false → a ≡ false
-      neither true b h = absurd (true≢false h)
-      neither false b h = refl
+      if_out : (b : Bool) → there name ≡ b → ByRecursion P (name_needs there most names)
+          → ByRecursion P (if b then [] else absent place.Targets (not (is_none_of names)) name most ∷ name_needs there most names)
+      if_out true is h = tt
+      if_out false is h = (gone (not (is_none_of names)) name most is, h)
 
-  holds-file : (o : Option Target) → Holds P (option_and_then (target_need there consistent) o)
+  holds-file : (o : Option Target) → ByRecursion P (option_map_or (target_need there consistent) o [])
   holds-file None = tt
-  holds-file (Some t) = holds-first (target_names consistent t.path t.hashes.sha256 t.hashes.sha512) t.length _ refl
+  holds-file (Some t) = holds-names (target_names consistent t.path t.hashes.sha256 t.hashes.sha512) t.length
 
-  holds-files : (searches : List (Option Search)) → ByRecursion (Holds P) (map (file_need there consistent) searches)
-  holds-files [] = tt
-  holds-files (o ∷ searches) = (holds-file (target_of o), holds-files searches)
+  holds-files : (all : List Need) (searches : List (Option Search)) → ByRecursion P all → ByRecursion P (fold (noted_files there consistent) all searches)
+  holds-files all [] h = h
+  holds-files all (o ∷ searches) h =
+      holds-files (noted_files there consistent all o) searches
+      (holds-from P all (map Some (file_needs there consistent o)) h (holds-somes P (file_needs there consistent o) (holds-file (target_of o))))
 
-  pub holds-targets : (searches : List (Option Search)) → ByRecursion P (each_once (map (file_need there consistent) searches))
-  holds-targets searches = holds-once P _ (holds-files searches)
+  pub holds-targets : (searches : List (Option Search)) → ByRecursion P (fold (noted_files there consistent) [] searches)
+  holds-targets searches = holds-files [] searches tt
 
 -- ---- the next root
 
@@ -113,7 +114,7 @@ module _ (r : Request) (files : Files) (metadata targets : Names) (same : (name 
       (holds-list IsOut _ (holds-root IsOut metadata r.trusted.root.reading here.trusted.root.reading (λ name most h. h)))
       (holds-both IsOut (metadata_needs here) (target_needs here targets)
       (holds-metadata IsOut r files gone-out)
-      (holds-targets IsOut targets here.trusted.root.reading.consistent (λ name most h. h) here.searches)))
+      (holds-targets IsOut targets here.trusted.root.reading.consistent (λ optional name most h. h) here.searches)))
 
   -- ---- if all of them are optional
 
@@ -132,27 +133,32 @@ module _ (r : Request) (files : Files) (metadata targets : Names) (same : (name 
       let o = searched files r.moment r.limit here.trusted here.end path in
       and_from (not (is_short o)) _ (ap not (not_short (is_short o) (search_need here.trusted o) (searched-tells files r.moment path r.limit here.trusted here.end) h.0)) (none_short wanted h.1)
 
-  one_there : (names : List (List ℕ)) (most : ℕ) (b : Bool) → list_any targets names ≡ b
-      → (if b then None else option_map (λ name. absent place.Targets false name most) (first_of names)) ≡ None → is_one_there targets names ≡ true
-  one_there [] most b is h = refl
-  one_there (name ∷ names) most true is h = is
-  one_there (name ∷ names) most false is h = absurd (none-some (absent place.Targets false name most) (sym h))
+  -- the last name is there if no other is and what is listed is optional
+  one_there : (names : List (List ℕ)) (most : ℕ) → ByRecursion IsOptional (name_needs targets most names) → is_one_there targets names ≡ true
+  one_there [] most h = refl
+  one_there (name ∷ names) most h = if_out (targets name) refl h (λ k. one_there names most k)
+    where
+      next : (none there : Bool) → not none ≡ true → (none || there) ≡ true → there ≡ true
+      next true there h k = absurd (true≢false (sym h))
+      next false there h k = k
 
-  file_there : (consistent : Bool) (o : Option Target) → option_and_then (target_need targets consistent) o ≡ None
+      if_out : (b : Bool) → targets name ≡ b → ByRecursion IsOptional (if b then [] else absent place.Targets (not (is_none_of names)) name most ∷ name_needs targets most names)
+          → (ByRecursion IsOptional (name_needs targets most names) → is_one_there targets names ≡ true) → (targets name || list_any targets names) ≡ true
+      if_out true is h rest = ap (λ b. b || list_any targets names) is
+      if_out false is h rest = ap (λ b. b || list_any targets names) is ∙ next (is_none_of names) (list_any targets names) h.0 (rest h.1)
+
+  file_there : (consistent : Bool) (o : Option Target) → ByRecursion IsOptional (option_map_or (target_need targets consistent) o [])
       → option_map_or (λ t. is_one_there targets (target_names consistent t.path t.hashes.sha256 t.hashes.sha512)) o true ≡ true
   file_there consistent None h = refl
-  file_there consistent (Some t) h = one_there (target_names consistent t.path t.hashes.sha256 t.hashes.sha512) t.length _ refl h
+  file_there consistent (Some t) h = one_there (target_names consistent t.path t.hashes.sha256 t.hashes.sha512) t.length h
 
-  files_there : (consistent : Bool) (searches : List (Option Search)) → ByRecursion (λ o. o ≡ None) (map (file_need targets consistent) searches) → list_all (has_file targets consistent) searches ≡ true
-  files_there consistent [] h = refl
-  files_there consistent (o ∷ searches) h = and_from (has_file targets consistent o) _ (file_there consistent (target_of o) h.0) (files_there consistent searches h.1)
-
-  both_true : (a b : Bool) → (a && b) ≡ true → (a ≡ true) × (b ≡ true)
-  both_true true b h = (refl, h)
-  both_true false b h = absurd (true≢false (sym h))
-
-  split : (all more : List Need) → are_optional (all ++ more) ≡ true → (are_optional all ≡ true) × (are_optional more ≡ true)
-  split all more h = both_true (are_optional all) (are_optional more) (sym (list_all-append (λ n. n.optional) all more) ∙ h)
+  files_there : (consistent : Bool) (all : List Need) (searches : List (Option Search)) → are_optional (fold (noted_files targets consistent) all searches) ≡ true
+      → (are_optional all ≡ true) × (list_all (has_file targets consistent) searches ≡ true)
+  files_there consistent all [] h = (h, refl)
+  files_there consistent all (o ∷ searches) h =
+      let rest = files_there consistent (noted_files targets consistent all o) searches h in
+      let first = optional-from all (map Some (file_needs targets consistent o)) rest.0 in
+      (first.0, and_from (has_file targets consistent o) _ (file_there consistent (target_of o) (holds-each IsOptional (file_needs targets consistent o) first.1)) rest.1)
 
   -- the workflow had all that it looked up
   pub has_enough : are_optional listed ≡ true → HasEnough targets here
@@ -161,10 +167,9 @@ module _ (r : Request) (files : Files) (metadata targets : Names) (same : (name 
       let rest = (split (next_root r.trusted.root.reading here metadata) _ h).1 in
       let parts = split (metadata_needs here) (target_needs here targets) rest in
       let consistent = here.trusted.root.reading.consistent in
-      let files_none = optional-none (target_needs here targets) parts.1 (holds-targets IsNeeded targets consistent (λ name most h. refl) here.searches) in
       let others_none = none-once (end_need here.trusted here.end ∷ map (search_need here.trusted) here.searches) (optional-none (metadata_needs here) parts.0 (holds-metadata IsNeeded r files (λ n g. g.needed))) in
       record {
         end = not_short (is_short_end here.end) (end_need here.trusted here.end) (advanced-tells files r.moment r.trusted) others_none.0;
         roles = none_short r.wanted others_none.1;
-        targets = files_there consistent here.searches (none-once (map (file_need targets consistent) here.searches) files_none);
+        targets = (files_there consistent [] here.searches parts.1).1;
       }

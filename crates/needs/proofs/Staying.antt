@@ -191,22 +191,24 @@ module _ (Q : List ℕ → Type 0) where
   abbrev OfName : Need → Type 0
   OfName n = Q n.name
 
-  pick : (m : Need) (b c : Bool) (name : List ℕ) → bytes_eq m.name name ≡ b → Q m.name → (c ≡ true → Q name) → (b || c) ≡ true → Q name
-  pick m true c name same h more is = subst Q ((bytes_eq-Decides m.name name).0 same) h
-  pick m false c name same h more is = more is
+  pick : (m : Need) (a b c : Bool) (name : List ℕ) → bytes_eq m.name name ≡ b → Q m.name → (c ≡ true → Q name) → ((a && b) || c) ≡ true → Q name
+  pick m true true c name same h more is = subst Q ((bytes_eq-Decides m.name name).0 same) h
+  pick m true false c name same h more is = more is
+  pick m false b c name same h more is = more is
 
   -- so it is of a name that is listed
-  named : (all : List Need) (name : List ℕ) → ByRecursion OfName all → is_needed all name ≡ true → Q name
-  named [] name h is = absurd (true≢false (sym is))
-  named (m ∷ all) name h is = pick m (bytes_eq m.name name) (is_needed all name) name refl h.0 (named all name h.1) is
+  named : (all : List Need) (optional : Bool) (name : List ℕ) → ByRecursion OfName all → is_needed all optional name ≡ true → Q name
+  named [] optional name h is = absurd (true≢false (sym is))
+  named (m ∷ all) optional name h is =
+      pick m (if optional then m.optional else not m.optional) (bytes_eq m.name name) (is_needed all optional name) name refl h.0 (named all optional name h.1) is
 
-  last-noted : (all : List Need) (n : Need) (b : Bool) → is_needed all n.name ≡ b → ByRecursion OfName (if b then all else all ++ n ∷ []) → ByRecursion OfName all × Q n.name
-  last-noted all n true is h = (h, named all n.name h is)
+  last-noted : (all : List Need) (n : Need) (b : Bool) → is_needed all n.optional n.name ≡ b → ByRecursion OfName (if b then all else all ++ n ∷ []) → ByRecursion OfName all × Q n.name
+  last-noted all n true is h = (h, named all n.optional n.name h is)
   last-noted all n false is h = let both = parts OfName all (n ∷ []) h in (both.0, both.1.0)
 
   first-noted : (all : List Need) (o : Option Need) → ByRecursion OfName (noted all o) → ByRecursion OfName all × Holds OfName o
   first-noted all None h = (h, tt)
-  first-noted all (Some n) h = last-noted all n (is_needed all n.name) refl h
+  first-noted all (Some n) h = last-noted all n (is_needed all n.optional n.name) refl h
 
   from-noted : (all : List Need) (found : List (Option Need)) → ByRecursion OfName (fold noted all found) → ByRecursion OfName all × ByRecursion (Holds OfName) found
   from-noted all [] h = (h, tt)

@@ -6,7 +6,7 @@ use Rattle.examine.specs.Checks.{target_names}
 use Rattle.deleg.specs.declared.accepted.Search.{Search}
 use Rattle.deleg.specs.declared.found.Found.TheVariants.{RoleRefused}
 use Rattle.deleg.specs.declared.found.Found.{Found}
-use Rattle.needs.specs.Needs.{Course, End, Files, Names, Need, Ready, Request, State, Stopped, course, is_missing, target_of}
+use Rattle.needs.specs.Needs.{Course, End, Files, Names, Need, Ready, Request, State, Stopped, course, is_missing, is_none_of, target_of}
 use Rattle.needs.specs.declared.need.Place.TheVariants.{Metadata, Targets}
 use Rattle.needs.specs.declared.need.Place.{Place}
 
@@ -39,10 +39,6 @@ is_short_found other = false
 
 abbrev pub is_short : Option Search → Bool
 is_short s = option_map_or (λ x. is_short_found x.found) s false
-
-abbrev pub is_none_of : List (List ℕ) → Bool
-is_none_of [] = true
-is_none_of (name ∷ names) = false
 
 -- a file is there under one of these names, or there is no name to look for
 abbrev pub is_one_there : Names → List (List ℕ) → Bool

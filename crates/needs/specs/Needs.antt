@@ -1,6 +1,7 @@
 -- The files that the workflow looked up and found absent, in the order in which it looks them up
 -- (TUF 1.0 sections 5.3 to 5.7).
 use Rattle.std.specs.Prelude.{ℕ, ◌+◌, min, nat_lt, Bool, true, false, not, ◌&&◌, if◌then◌else◌, List, [], ◌∷◌, ◌++◌, map, fold, codes, bytes_eq, Option, Some, None, is_some, option_map, option_and_then, option_to_list, String}
+use Rattle.std.specs.Option.{option_map_or}
 use Rattle.std.specs.BTreeMap.{BTreeMap, get_by_text}
 use Rattle.std.specs.List.{list_any}
 use Rattle.std.specs.declared.alloc.Global.{Global}
@@ -102,34 +103,45 @@ found_need s other = None
 abbrev pub search_need : State → Option Search → Option Need
 search_need s search = option_and_then (λ x. found_need s x.found) search
 
-abbrev pub first_of : List (List ℕ) → Option (List ℕ)
-first_of [] = None
-first_of (name ∷ names) = Some name
+abbrev pub is_none_of : List (List ℕ) → Bool
+is_none_of [] = true
+is_none_of (name ∷ names) = false
 
--- the target's file under the first of its names, if none of them is there
-abbrev pub target_need : Names → Bool → Target → Option Need
+-- a target's names in order, up to one that is there: each is optional but the last, since the
+-- workflow goes on to the next
+abbrev pub name_needs : Names → ℕ → List (List ℕ) → List Need
+name_needs there most [] = []
+name_needs there most (name ∷ names) =
+    if there name then []
+    else absent Targets (not (is_none_of names)) name most ∷ name_needs there most names
+
+abbrev pub target_need : Names → Bool → Target → List Need
 target_need there consistent t =
-    let names = target_names consistent t.path t.hashes.sha256 t.hashes.sha512 in
-    if list_any there names then None
-    else option_map (λ name. absent Targets false name t.length) (first_of names)
+    name_needs there t.length
+    (target_names consistent t.path t.hashes.sha256 t.hashes.sha512)
 
 -- the file of the target that a search found
-abbrev pub file_need : Names → Bool → Option Search → Option Need
-file_need there consistent search =
-    option_and_then (target_need there consistent) (target_of search)
+abbrev pub file_needs : Names → Bool → Option Search → List Need
+file_needs there consistent search =
+    option_map_or (target_need there consistent) (target_of search) []
 
 -- # All of them.
 
--- a file of that name is among them
-abbrev pub is_needed : List Need → List ℕ → Bool
-is_needed all name = list_any (λ n. bytes_eq n.name name) all
+-- a file of that name, which is optional or not
+abbrev pub is_same : Bool → List ℕ → Need → Bool
+is_same optional name n =
+    (if optional then n.optional else not n.optional) && bytes_eq n.name name
 
--- one more, unless a file of its name is among them
+-- it is among them
+abbrev pub is_needed : List Need → Bool → List ℕ → Bool
+is_needed all optional name = list_any (is_same optional name) all
+
+-- one more, unless it is among them
 abbrev pub noted : List Need → Option Need → List Need
 noted all None = all
-noted all (Some n) = if is_needed all n.name then all else all ++ n ∷ []
+noted all (Some n) = if is_needed all n.optional n.name then all else all ++ n ∷ []
 
--- each name the first time that it was looked up
+-- each the first time that it was looked up
 abbrev pub each_once : List (Option Need) → List Need
 each_once found = fold noted [] found
 
@@ -141,10 +153,15 @@ next_root old c there = option_to_list (root_need there old c.trusted.root.readi
 abbrev pub metadata_needs : Course → List Need
 metadata_needs c = each_once (end_need c.trusted c.end ∷ map (search_need c.trusted) c.searches)
 
+-- those of a search too
+abbrev pub noted_files : Names → Bool → List Need → Option Search → List Need
+noted_files there consistent all search =
+    fold noted all (map Some (file_needs there consistent search))
+
 -- the files of the targets that the searches found
 abbrev pub target_needs : Course → Names → List Need
 target_needs c there =
-    each_once (map (file_need there c.trusted.root.reading.consistent) c.searches)
+    fold (noted_files there c.trusted.root.reading.consistent) [] c.searches
 
 -- the next root, the other metadata files, and the files of targets, which are looked up after all
 -- searches

@@ -8,22 +8,23 @@ ghost use Rattle.needs.specs.Needs as spec;
 ghost use Rattle.needs.specs.Needs.{is_in};
 
 use crate::need::Need;
-use crate::once::{Once, note, nothing};
-use crate::searches::{file_need, search_need};
+use crate::once::{Once, note, note_all, nothing};
+use crate::searches::{file_needs, search_need};
 use crate::steps::{end_need, root_need};
 use cjson::NoMemory;
 use cycle::{Course, Search, Trusted};
 use std::alloc::Global;
 use std::collections::BTreeMap;
 
-/// Returns the files that the workflow looked up and found absent, in its order, each name of a
-/// folder once. `course` is what the workflow came to from the trusted state `before`, on the
-/// metadata files; `targets` has the names of the target files, whatever their values.
+/// Returns the files that the workflow looked up and found absent, in its order, each once.
+/// `course` is what the workflow came to from the trusted state `before`, on the metadata files;
+/// `targets` has the names of the target files, whatever their values.
 ///
 /// - The root after the last one that was accepted may be absent for good, and is optional.
 /// - The timestamp, the snapshot or the top-level targets file, if the cycle stopped for it.
 /// - The file of each role that a search was refused.
-/// - The file of each target that a search found, under the first of its names, if none is there.
+/// - The file of each target that a search found, under each of its names up to one that is there.
+///   Each but the last is optional, since the workflow goes on to the next.
 ///
 /// If all of them are optional, no step and no search ended because a file is missing, and each
 /// target that was found has its file, unless it has no name to look for. If the metadata files
@@ -140,11 +141,12 @@ fn note_files<V>(
     targets: &BTreeMap<String, V>,
 ) -> Result<(), NoMemory>
     requires { IsOnce once.old }
-    ensures { OnOk result (once.new.needs.items ≡ fold spec.noted once.old.needs.items
-        (map (spec.file_need (is_in targets.now) consistent) searches.now)) }
+    ensures { OnOk result (once.new.needs.items
+        ≡ fold (spec.noted_files (is_in targets.now) consistent)
+        once.old.needs.items searches.now) }
 {
     for search in searches {
-        note(alloc, once, file_need(alloc, consistent, search, targets)?)?;
+        note_all(alloc, once, file_needs(alloc, consistent, search, targets)?)?;
     }
     Ok(())
 }

@@ -24,7 +24,8 @@ pub struct Need {
     /// Maximum number of bytes that the file may have: the limit of its kind, or its listed length
     /// if that is less.
     pub most: u64,
-    /// Whether the file may be absent for good, as the root of the next version.
+    /// Whether the file may be absent for good: the root of the next version, and a target's file
+    /// under a name that isn't its last.
     pub optional: bool,
 }
 

@@ -2,7 +2,6 @@
 
 ghost use Rattle.std.specs.Prelude.{◌≡◌, IfOk, map, string_bytes};
 ghost use Rattle.examine.specs.Checks.{target_names};
-ghost use Rattle.std.specs.List.{list_any};
 ghost use Rattle.needs.specs.Needs as spec;
 ghost use Rattle.needs.specs.Needs.{is_in};
 
@@ -41,14 +40,15 @@ fn found_need(alloc: Global, trusted: &Trusted, found: &Found) -> Result<Option<
     }
 }
 
-/// Returns the file of the target that the search found, if none of its names is there.
-pub(crate) fn file_need<V>(
+/// Returns the names under which the file of the target that the search found isn't there.
+pub(crate) fn file_needs<V>(
     alloc: Global,
     consistent: bool,
     search: &Option<Search>,
     targets: &BTreeMap<String, V>,
-) -> Result<Option<Need>, NoMemory>
-    ensures { IfOk result (λ n. n ≡ spec.file_need (is_in targets.now) consistent search.now) }
+) -> Result<Vec<Need>, NoMemory>
+    ensures { IfOk result (λ all. all.items
+        ≡ spec.file_needs (is_in targets.now) consistent search.now) }
 {
     match search {
         Some(
@@ -57,34 +57,49 @@ pub(crate) fn file_need<V>(
                 ..
             },
         ) => target_need(alloc, consistent, target, targets),
-        _ => Ok(None),
+        _ => Ok(Vec::new(alloc)),
     }
 }
 
-/// Returns the target's file under the first of its names, if none of them is there (TUF 1.0
-/// section 5.7).
-#[tactic(auto, using(crate::proofs::Lists::any_mapped))]
+/// Returns the target's names, up to one that is there.
 fn target_need<V>(
     alloc: Global,
     consistent: bool,
     target: &Target,
     targets: &BTreeMap<String, V>,
-) -> Result<Option<Need>, NoMemory>
-    ensures { IfOk result (λ n. n ≡ spec.target_need (is_in targets.now) consistent target.now) }
+) -> Result<Vec<Need>, NoMemory>
+    ensures { IfOk result (λ all. all.items
+        ≡ spec.target_need (is_in targets.now) consistent target.now) }
 {
     let names = names_of(alloc, consistent, target)?;
-    if is_any_there(names.as_slice(), targets) {
-        return Ok(None);
+    name_needs(alloc, names.as_slice(), target.length.get(), targets)
+}
+
+/// Returns the names up to one that is there, each optional but the last (TUF 1.0 section 5.7).
+fn name_needs<V>(
+    alloc: Global,
+    names: &[String],
+    most: u64,
+    targets: &BTreeMap<String, V>,
+) -> Result<Vec<Need>, NoMemory>
+    ensures { IfOk result (λ all. all.items
+        ≡ spec.name_needs (is_in targets.now) most (map string_bytes names.now)) }
+{
+    let mut needs = Vec::new(alloc);
+    let mut left = names.len();
+    for name in names {
+        if targets.contains_key(name.as_str()) {
+            return Ok(needs);
+        }
+        left -= 1;
+        needs.push(Need {
+            place: Place::Targets,
+            name: Text::new(String::from_str(alloc, name.as_str())?),
+            most,
+            optional: left > 0,
+        })?;
     }
-    let Some(name) = names.into_iter().next() else {
-        return Ok(None);
-    };
-    Ok(Some(Need {
-        place: Place::Targets,
-        name: Text::new(name),
-        most: target.length.get(),
-        optional: false,
-    }))
+    Ok(needs)
 }
 
 /// Returns the names under which the target's file may lie: its path, or under consistent snapshots
@@ -106,11 +121,4 @@ fn names_of(alloc: Global, consistent: bool, target: &Target) -> Result<Vec<Stri
         names.push(digest_name(alloc, digest, path)?)?;
     }
     Ok(names)
-}
-
-/// Returns whether one of the names is there.
-fn is_any_there<V>(names: &[String], files: &BTreeMap<String, V>) -> bool
-    ensures { result ≡ list_any (λ name. is_in files.now (string_bytes name)) names.now }
-{
-    names.iter().any(|name| files.contains_key(name.as_str()))
 }

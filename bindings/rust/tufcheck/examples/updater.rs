@@ -31,6 +31,16 @@ fn fetch(repository: &str, need: &Need) -> io::Result<Option<Vec<u8>>> {
     }
 }
 
+fn fetch_each(repository: &str, needs: Vec<Need>) -> io::Result<Vec<(Need, Vec<u8>)>> {
+    let mut found = Vec::new();
+    for need in needs {
+        if let Some(bytes) = fetch(repository, &need)? {
+            found.push((need, bytes));
+        }
+    }
+    Ok(found)
+}
+
 fn main() -> Result<(), Box<dyn std::error::Error>> {
     let args: Vec<String> = env::args().collect();
     let [_, root, place, repository, seconds, wanted @ ..] = args.as_slice() else {
@@ -58,11 +68,11 @@ fn main() -> Result<(), Box<dyn std::error::Error>> {
             moment: seconds.parse()?,
             limit: 32,
         };
-        let mut found = Vec::new();
-        for need in job.next()?.files {
-            if let Some(bytes) = fetch(repository, &need)? {
-                found.push((need, bytes));
-            }
+        // With an optional file, others may no longer be needed.
+        let (optional, others) = job.next()?.files.into_iter().partition(|need| need.optional);
+        let mut found = fetch_each(repository, optional)?;
+        if found.is_empty() {
+            found = fetch_each(repository, others)?;
         }
         if !found.is_empty() {
             for (need, bytes) in found {

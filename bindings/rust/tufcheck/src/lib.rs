@@ -178,7 +178,8 @@ pub struct Need {
     pub name: String,
     /// Fetch no more bytes than that: a longer file is refused.
     pub most: u64,
-    /// Whether the file may be absent for good, as the root of the next version.
+    /// Whether the file may be absent for good: the root of the next version, and a target's file
+    /// under a name that isn't its last. With one of these, others may no longer be needed.
     pub optional: bool,
 }
 

@@ -29,24 +29,35 @@ The snapshot of the version that the timestamp lists, and then the targets file 
   maybe "2.root.json" 512000
   need "4.targets.json" ...
 
-The file of a target under the first of its names: by its sha256 digest, or by its sha512 digest if it has no other. Each name comes once.
+The file of a target under each of its names: by its sha256 digest, and by its sha512 digest. Only the last is needed, since the workflow goes on to it. Each line comes once.
   $ copy metadata/4.targets.json m/4.targets.json
   $ tufcheck next --state state --metadata m --targets t --now 2026-01-01T00:00:00Z dir/abc.txt b dir/abc.txt c
   maybe "2.root.json" 512000
-  need "dir/ba7816bf8f01cfea414140de5dae2223b00361a396177a9cb410ff61f20015ad.abc.txt" 3
+  maybe "dir/ba7816bf8f01cfea414140de5dae2223b00361a396177a9cb410ff61f20015ad.abc.txt" 3
+  need "dir/ddaf35a193617abacc417349ae20413112e6fa4e89a97ea20a9eeee64b55d39a2192992a274fc1a836ba3c23a3feebbd454d4423643ce80e2a9ac94fa54ca49f.abc.txt" 3
   need "5267768822ee624d48fce15ec5ca79cbd602cb7f4c2157a516556991f22ef8c7b5ef7b18d1ff41c59370efb0858651d44a936c11b7b144c48fe04df3c6a3e8da.b" 1
   $ tufcheck next --state state --metadata m --targets t --now 2026-01-01T00:00:00Z --only targets dir/abc.txt
-  need "dir/ba7816bf8f01cfea414140de5dae2223b00361a396177a9cb410ff61f20015ad.abc.txt" 3
+  maybe "dir/ba7816bf8f01cfea414140de5dae2223b00361a396177a9cb410ff61f20015ad.abc.txt" 3
+  need "dir/ddaf35a193617abacc417349ae20413112e6fa4e89a97ea20a9eeee64b55d39a2192992a274fc1a836ba3c23a3feebbd454d4423643ce80e2a9ac94fa54ca49f.abc.txt" 3
   $ tufcheck next --state state --metadata m --targets t --now 2026-01-01T00:00:00Z --only metadata dir/abc.txt
   maybe "2.root.json" 512000
 
-A file that lies under another of its names counts, and so does one with other bytes: a target file isn't read.
+A file that lies under its last name is enough, also one with other bytes, since a target file isn't read. The first name was looked up too.
   $ folder t/dir
   $ put t/dir/ddaf35a193617abacc417349ae20413112e6fa4e89a97ea20a9eeee64b55d39a2192992a274fc1a836ba3c23a3feebbd454d4423643ce80e2a9ac94fa54ca49f.abc.txt
   > xyz
   $ tufcheck next --state state --metadata m --targets t --now 2026-01-01T00:00:00Z dir/abc.txt b
   maybe "2.root.json" 512000
+  maybe "dir/ba7816bf8f01cfea414140de5dae2223b00361a396177a9cb410ff61f20015ad.abc.txt" 3
   need "5267768822ee624d48fce15ec5ca79cbd602cb7f4c2157a516556991f22ef8c7b5ef7b18d1ff41c59370efb0858651d44a936c11b7b144c48fe04df3c6a3e8da.b" 1
+  $ remove t/dir
+
+One that lies under its first name is enough too, and the second isn't looked up then.
+  $ folder t/dir
+  $ put t/dir/ba7816bf8f01cfea414140de5dae2223b00361a396177a9cb410ff61f20015ad.abc.txt
+  > xyz
+  $ tufcheck next --state state --metadata m --targets t --now 2026-01-01T00:00:00Z dir/abc.txt
+  maybe "2.root.json" 512000
   $ remove t/dir
 
 With nothing wanted, or nothing that is listed, no target file is named. Nothing was stored.
@@ -62,7 +73,8 @@ Paths from a file come after those of the command line.
   > dir/abc.txt
   $ tufcheck next --state state --metadata m --targets t --now 2026-01-01T00:00:00Z --only targets --paths-from list c
   need "5267768822ee624d48fce15ec5ca79cbd602cb7f4c2157a516556991f22ef8c7b5ef7b18d1ff41c59370efb0858651d44a936c11b7b144c48fe04df3c6a3e8da.b" 1
-  need "dir/ba7816bf8f01cfea414140de5dae2223b00361a396177a9cb410ff61f20015ad.abc.txt" 3
+  maybe "dir/ba7816bf8f01cfea414140de5dae2223b00361a396177a9cb410ff61f20015ad.abc.txt" 3
+  need "dir/ddaf35a193617abacc417349ae20413112e6fa4e89a97ea20a9eeee64b55d39a2192992a274fc1a836ba3c23a3feebbd454d4423643ce80e2a9ac94fa54ca49f.abc.txt" 3
 
 A cycle that stops for another fault needs no more files.
   $ tufcheck next --state state --metadata m --targets t --now 2040-01-01T00:00:00Z b

@@ -1,11 +1,11 @@
-use Rattle.std.proofs.Common.{◌≡◌, drop, fold, map}
+use Rattle.std.proofs.Common.{◌≡◌, drop, fold}
 use Rattle.needs.specs.Glue.{IsOnce}
-use Rattle.needs.specs.Needs.{file_need, is_in, noted}
+use Rattle.needs.specs.Needs.{is_in, noted_files}
 use Rattle.needs.proofs.list.note_files.Given as goal
 
 -- the files so far, and then those of the searches that are left
 abbrev pub invariant-loop-search : goal.invariant-loop-search
 invariant-loop-search g l = record {
   once : IsOnce l.once;
-  so_far : fold noted l.once.needs.items (map (file_need (is_in l.targets) l.consistent) (drop l.search-index l.searches)) ≡ fold noted l.initial.once.needs.items (map (file_need (is_in l.targets) l.consistent) l.searches);
+  so_far : fold (noted_files (is_in l.targets) l.consistent) l.once.needs.items (drop l.search-index l.searches) ≡ fold (noted_files (is_in l.targets) l.consistent) l.initial.once.needs.items l.searches;
 }
