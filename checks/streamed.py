@@ -27,9 +27,9 @@ All is signed, and by 0 and by 4 workers each:
              with a name that ends in `.json`, and once with another
 
 The bytes of the files of `one`, `twenty`, `files` and `mirror` are drawn by a seed, and their digests worked out by Python.
-The other large files have only holes. In each round of these four and of `holes`, after the programs, `sha256sum` reads
-all their files, and must print these digests. The last two columns are the median of its seconds, and how many times as long the program
-took.
+The other large files have only holes. In each round of these four and of `holes`, after the programs, `sha256sum -c`
+checks all their files against these digests. The last two columns are the median of its seconds, and how many times as
+long the program took.
 
 At the end it prints of each of these, if its cases were run, whether it holds. Sometimes that can't be decided: the
 true peak of a run may be less than what is measured where that isn't above the peak of this script, and a run that was
@@ -79,7 +79,7 @@ def write_drawn(path, size):
 
 
 def mirrored(write, paths, size, **more):
-    """Targets of that many bytes, and the expected lines of `sha256sum`."""
+    """Targets of that many bytes, and their digests as `sha256sum` lists them."""
     listed = {path: write(path, size) for path in paths}
     hostile.write_signed(listed)
     sums = (f"{it['hashes']['sha256']}  targets/{path}\n" for path, it in listed.items())
@@ -147,16 +147,15 @@ def cases(scale):
 
 
 def summed():
-    """A run of `sha256sum` of the files whose digests are expected."""
-    files = [line.split("  ")[1] for line in mirrors.read("due.sums").decode().splitlines()]
-    status, taken = mirrors.run(["sha256sum", *files], 0)
-    if status or not mirrors.is_same("lines", "due.sums"):
-        sys.exit(f"{mirrors.SCRIPT}: sha256sum has status {status}, or prints other lines than are due")
+    """A run of `sha256sum -c` over the files whose digests are listed."""
+    status, taken = mirrors.run(["sha256sum", "-c", "due.sums"], 0)
+    if status:
+        sys.exit(f"{mirrors.SCRIPT}: sha256sum has status {status}")
     return taken
 
 
 def measure(name, count, options):
-    """Runs the programs in turns, and `sha256sum` if its lines are expected. Prints a row for each number of workers, and
+    """Runs the programs in turns, and `sha256sum` if digests are listed. Prints a row for each number of workers, and
     returns what the last program took by each, and what `sha256sum` took, if anything."""
     sums = []
     beside = (lambda: sums.append(summed())) if os.path.exists("due.sums") else lambda: None

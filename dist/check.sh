@@ -10,7 +10,8 @@
 # For both: the help, the run without arguments, a repository that is made and verified, the man page, the completions of each
 # shell that is here, the libraries, and with strace every file that the program opens. Then the program runs in a root
 # folder that has nothing but it and its libraries (for the superuser, or where user namespaces are allowed), and the
-# release is packaged again from the unpacked program, which must make the same bytes.
+# release is packaged again from the unpacked program, which must make the same bytes. Last, dist/halves.sh compares the two
+# builds.
 set -u
 export LC_ALL=C
 top=$(cd "$(dirname "$0")/.." && pwd) || exit 1
@@ -211,6 +212,11 @@ else
     echo "not tried a session in a bare root folder: chroot isn't allowed"
 fi
 SOURCE_DATE_EPOCH=$(stat -c %Y "$root/bin/tufcheck") "$top/dist/package.sh" "$root/bin/tufcheck" "$work/again" > "$work/found" 2> "$work/seen" &&
-    diff -r "$from" "$work/again" > "$work/seen" 2>&1
+    diff -r -x build -x '*-dev*' -x 'libtufcheck*' "$from" "$work/again" > "$work/seen" 2>&1
 told $? "packaged again, the release has the same bytes"
+if [ -d "$from/build" ]; then
+    "$top/dist/halves.sh" "$from/build" || failed=1
+else
+    echo "not tried the two builds: no $from/build"
+fi
 exit $failed

@@ -4,7 +4,7 @@
 #
 #   dist/halves.sh [FOLDER]      what dist/build.sh built, dist/out/build unless given
 #
-# A third comparison is with the v3 build by Rattle's own compiler, if FOLDER has it as `tufcheck-own`. With qemu-x86_64
+# A third comparison is with the v3 build by Rattle's own compiler, `tufcheck-own`. With qemu-x86_64
 # (package qemu-user) the release's program also runs as on a processor without AVX2, where it must start the first build.
 # A line for each program and example; the status is 1 if something differs. It takes a minute.
 set -u

@@ -2,11 +2,13 @@
 # Makes a release of the library for other languages: a tarball and the Debian package libtufcheck-dev, and SHA256SUMS-dev of
 # both.
 #
-#   dist/package-dev.sh [LIBRARY [FOLDER]]      crates/tufcheck_c/out/libtufcheck_c.a and dist/out unless given
+#   dist/package-dev.sh [BUILT [FOLDER]]      what dist/build.sh built and dist/out unless given
 #
 # Both have libtufcheck.a and libtufcheck.so.1, the header, the pkg-config file, the Python module, the sources of the Rust
-# crates, the example updaters, the page on the library, and the licenses. The library contains an object of the Rattle kit
-# (see the page); ALLOCATOR=none in the environment leaves it out, and then there is no libtufcheck.so.1.
+# crates, the example updaters, the page on the library, and the licenses. The folder glibc-hwcaps/x86-64-v3 has the build
+# for x86-64-v3, whose libtufcheck.so.1 the loader takes on such a processor; the other build is for x86-64-v2. The library
+# contains an object of the Rattle kit (see the page); ALLOCATOR=none in the environment leaves it out, and then there is
+# no libtufcheck.so.1.
 #
 # The same files make the same bytes: times are SOURCE_DATE_EPOCH or else the last commit's, the owner is 0, and names are
 # sorted. (Another gzip, tar, dpkg or linker may do otherwise.) The status is 0, or 1 if something is refused, which is
@@ -16,7 +18,7 @@ version=1.0.0
 umask 022
 export LC_ALL=C
 top=$(cd "$(dirname "$0")/.." && pwd) || exit 1
-library=${1:-$top/crates/tufcheck_c/out/libtufcheck_c.a} out=${2:-$top/dist/out}
+built=${1:-$top/dist/out/build} out=${2:-$top/dist/out}
 name=libtufcheck-$version-x86_64-linux deb=libtufcheck-dev_${version}_amd64.deb
 work=$(mktemp -d) || exit 1
 trap 'rm -rf "$work"' EXIT
@@ -30,20 +32,26 @@ refused() {
 for tool in ar gzip tar sha256sum; do
     command -v $tool > "$work/found" || refused "$tool is missing"
 done
-[ -f "$library" ] || refused "no library at $library: \`rt lib\` in crates/tufcheck_c builds it"
-"$top/bindings/link.sh" "$work/lib" "$library" > "$work/names" 2>&1 || refused "the library can't be linked: $(cat "$work/names")"
+for cpu in v2 v3; do
+    library=$built/libtufcheck_c-$cpu.a
+    [ -f "$library" ] || refused "no library at $library: dist/build.sh builds it"
+    "$top/bindings/link.sh" "$work/$cpu" "$library" > "$work/names" 2>&1 || refused "the library can't be linked: $(cat "$work/names")"
+done
 when=${SOURCE_DATE_EPOCH:-$(git -C "$top" log -1 --format=%ct 2> "$work/found")}
 [[ $when =~ ^[0-9]+$ ]] || refused "no date: give SOURCE_DATE_EPOCH, or package in a clone with git"
 mkdir -p "$out" && rm -f "$out/$name.tar.gz" "$out/$deb" "$out/SHA256SUMS-dev" || exit 1
 
+# placed CPU FOLDER: one build of the library
+placed() {
+    install -D -m 644 "$work/$1/libtufcheck.a" "$2/libtufcheck.a" || return 1
+    [ ! -f "$work/$1/libtufcheck.so.1" ] || install -m 644 "$work/$1/libtufcheck.so.1" "$2/libtufcheck.so.1"
+}
+
 # laid ROOT LIB PYTHON SHARE DOC INCLUDE LIBDIR: the files of a release below ROOT; the last two go into the pkg-config file
 laid() {
     local lib=$1/$2 doc=$1/$5 crate
-    install -D -m 644 "$work/lib/libtufcheck.a" "$lib/libtufcheck.a" || return 1
-    if [ -f "$work/lib/libtufcheck.so.1" ]; then
-        install -m 644 "$work/lib/libtufcheck.so.1" "$lib/libtufcheck.so.1" &&
-            ln -s libtufcheck.so.1 "$lib/libtufcheck.so" || return 1
-    fi
+    placed v2 "$lib" && placed v3 "$lib/glibc-hwcaps/x86-64-v3" || return 1
+    [ ! -f "$lib/libtufcheck.so.1" ] || ln -s libtufcheck.so.1 "$lib/libtufcheck.so" || return 1
     mkdir -p "$lib/pkgconfig" &&
         sed "s,@INCLUDE@,$6,; s,@LIB@,$7,; s,@VERSION@,$version," "$top/bindings/c/tufcheck.pc.in" > "$lib/pkgconfig/tufcheck.pc" &&
         install -D -m 644 "$top/bindings/c/tufcheck.h" "$1/include/tufcheck.h" &&
@@ -76,7 +84,7 @@ if command -v dpkg-deb > "$work/found"; then
     root=$work/deb
     laid "$root/usr" lib/x86_64-linux-gnu lib/python3/dist-packages share/libtufcheck-dev share/doc/libtufcheck-dev /usr/include \
         /usr/lib/x86_64-linux-gnu || refused "a file of the release is missing"
-    least=$(objdump -T "$work/lib/libtufcheck.so.1" 2> "$work/found" | grep -o 'GLIBC_[0-9.]*' | sort -u -V | tail -1)
+    least=$(objdump -T "$work"/v[23]/libtufcheck.so.1 2> "$work/found" | grep -o 'GLIBC_[0-9.]*' | sort -u -V | tail -1)
     mkdir "$root/DEBIAN" || exit 1
     (cd "$root" && find usr -type f | sort | xargs md5sum) > "$root/DEBIAN/md5sums" || exit 1
     echo "activate-noawait ldconfig" > "$root/DEBIAN/triggers"
