@@ -1,8 +1,8 @@
 #!/bin/bash
-# Shows the speed of a verification beside what a user would take instead: Bouncy Castle, C over OpenSSL, C with four lanes of
-# SSE. checks/speed/README.md describes each, and lists the packages that it needs.
+# Shows the speed of a verification beside what a user would take instead: Bouncy Castle, C over OpenSSL, C with the lanes of
+# SSE and of AVX2. checks/speed/README.md describes each, and lists the packages that it needs.
 #
-#   checks/speed.sh [ROUNDS [BENCH]]      11 and crates/bench/out/bench unless given
+#   checks/speed.sh [ROUNDS [BENCH..]]      11 and crates/bench/out/bench unless given
 #
 # A round is some 500 verifications by one thread. The programs in C and Java verify the same 32 signatures, and check first
 # that each is accepted and that it is refused with a bit flipped; ours verifies the first of them. It prints a line for each
@@ -12,7 +12,9 @@
 set -u
 rounds=${1:-11}
 top=$(cd "$(dirname "$0")/.." && pwd) || exit 1
-bench=${2:-$top/crates/bench/out/bench} jar=${BCPROV:-/usr/share/java/bcprov.jar}
+[ $# -eq 0 ] || shift
+[ $# -gt 0 ] || set -- "$top/crates/bench/out/bench"
+jar=${BCPROV:-/usr/share/java/bcprov.jar}
 work=$(mktemp -d) || exit 1
 trap 'rm -rf "$work"' EXIT
 [[ $rounds =~ ^[1-9][0-9]{0,2}$ ]] || { echo "speed.sh: ROUNDS is 1 to 999" >&2; exit 1; }
@@ -21,9 +23,9 @@ status=0
 : > "$work/missing"
 : > "$work/signed"
 
-# lacks NAME WHAT: a program that isn't here
+# lacks NAME WHAT: a program that can't be timed here
 lacks() {
-    echo "$1: missing, for $2" >> "$work/missing"
+    echo "$1: not timed: this machine lacks $2" >> "$work/missing"
 }
 
 # failed NAME: a program that did something else
@@ -52,11 +54,11 @@ built() {
     gcc -O2 -o "$work/$file" "$top/checks/speed/lms.c" "$top/checks/speed/$file.c" "$@" > "$work/told" 2>&1 || { failed "$name"; return 1; }
 }
 
-# ours: the line of our own program, each round by a run of it
+# ours BENCH: the line of our own program, each round by a run of it
 ours() {
-    local name="tufcheck's lms" rates=()
+    local name="tufcheck's lms, $(basename "$1")" rates=()
     mapfile -t rates < <(for _ in $(seq "$rounds"); do
-        "$bench" all 2> "$work/told" | sed -n 's/^verify W8 H5: \([0-9]*\) per second$/\1/p'
+        "$1" all 2> "$work/told" | sed -n 's/^verify W8 H5: \([0-9]*\) per second$/\1/p'
     done | sort -n)
     if [ "${#rates[@]}" = "$rounds" ]; then
         echo "$name: ${rates[$((rounds / 2))]} verifications a second (median), ${rates[$((rounds - 1))]} at most" | tee -a "$work/rows"
@@ -65,33 +67,40 @@ ours() {
     fi
 }
 
+# in_lanes NAME FLAG FLAGS..: the program in C with that many lanes, if the processor has the first of the flags
+in_lanes() {
+    if grep -q -w "$2" /proc/cpuinfo; then
+        built "$1" lanes "${@:3}" && timed "$1" "$work/lanes"
+    else
+        lacks "$1" "$2 of the processor"
+    fi
+}
+
 if ! command -v java > "$work/found" || ! command -v javac > "$work/found"; then
-    lacks "Bouncy Castle" "want of a JDK"
+    lacks "Bouncy Castle" "a JDK"
 elif [ ! -f "$jar" ]; then
-    lacks "Bouncy Castle" "want of $jar (libbcprov-java); BCPROV may name another"
+    lacks "Bouncy Castle" "$jar (libbcprov-java; BCPROV may name another)"
 else
     timed "Bouncy Castle" java -cp "$jar" "$top/checks/speed/Speed.java"
 fi
 if ! command -v gcc > "$work/found"; then
-    lacks "C over OpenSSL" "want of gcc"
-    lacks "C with four lanes of SSE" "want of gcc"
+    lacks "each program in C" "gcc"
 else
     if ! echo '#include <openssl/sha.h>' | gcc -E - > "$work/found" 2>&1; then
-        lacks "C over OpenSSL" "want of openssl/sha.h (libssl-dev)"
+        lacks "C over OpenSSL" "openssl/sha.h (libssl-dev)"
     else
         built "C over OpenSSL" openssl -lcrypto && timed "C over OpenSSL" "$work/openssl"
     fi
-    if ! grep -q -w sse4_1 /proc/cpuinfo; then
-        lacks "C with four lanes of SSE" "want of SSE 4.1 in the processor"
+    in_lanes "C with four lanes of SSE" sse4_1 -msse4.1
+    in_lanes "C with eight lanes of AVX2" avx2 -mavx2
+fi
+for bench in "$@"; do
+    if [ -x "$bench" ]; then
+        ours "$bench"
     else
-        built "C with four lanes of SSE" lanes -msse4.1 && timed "C with four lanes of SSE" "$work/lanes"
+        lacks "tufcheck's lms" "$bench (\`rt run\` in crates/bench builds it)"
     fi
-fi
-if [ -x "$bench" ]; then
-    ours
-else
-    lacks "tufcheck's lms" "want of $bench: \`rt run\` in crates/bench builds it"
-fi
+done
 
 # A step is what takes the time, so a signature's steps make the rates comparable: ours verifies the first signature alone.
 mean=$(sed -n '1s/.* \([0-9.]*\) steps on average.*/\1/p' "$work/signed")
@@ -101,7 +110,7 @@ echo "| Program | verifications a second: median, at most | steps of a signature
 echo "|---|---|---|---|"
 while read -r line; do
     name=${line%%: *} steps=${mean:--}
-    [ "$name" = "tufcheck's lms" ] && steps=${first:--}
+    [[ $name = "tufcheck's lms"* ]] && steps=${first:--}
     awk -v name="$name" -v steps="$steps" '{
         ns = steps > 0 ? sprintf("%.0f, %.0f", 1e9 / ($1 * steps), 1e9 / ($6 * steps)) : "-"
         printf "| %s | %d, %d | %s | %s |\n", name, $1, $6, steps, ns

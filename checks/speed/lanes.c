@@ -1,10 +1,20 @@
-/* SHA-256 of four blocks at once, by the four lanes of SSE: four chains go on side by side, the longest first, and where
-   one is at its end the next takes its lane. */
+/* SHA-256 of several blocks at once, by the eight lanes of AVX2 or the four of SSE: as many chains go on side by side, the
+   longest first, and where one is at its end the next takes its lane. */
 #include "lms.h"
-#include <smmintrin.h>
+#include <immintrin.h>
 #include <string.h>
 
-typedef __m128i four;
+#ifdef __AVX2__
+#define LANES 8
+#define NAME "C with eight lanes of AVX2"
+#define WIDE(op) _mm256_##op
+typedef __m256i wide;
+#else
+#define LANES 4
+#define NAME "C with four lanes of SSE"
+#define WIDE(op) _mm_##op
+typedef __m128i wide;
+#endif
 
 static const uint32_t K[64] = {
     0x428a2f98, 0x71374491, 0xb5c0fbcf, 0xe9b5dba5, 0x3956c25b, 0x59f111f1, 0x923f82a4, 0xab1c5ed5, 0xd807aa98, 0x12835b01,
@@ -19,27 +29,42 @@ static const uint32_t START[8] = {
     0x6a09e667, 0xbb67ae85, 0x3c6ef372, 0xa54ff53a, 0x510e527f, 0x9b05688c, 0x1f83d9ab, 0x5be0cd19,
 };
 
-#define ADD _mm_add_epi32
+#ifdef __AVX2__
+#define XOR _mm256_xor_si256
+#define AND _mm256_and_si256
+#define OR _mm256_or_si256
+#define LOAD _mm256_loadu_si256
+#define STORE _mm256_storeu_si256
+#define ZERO _mm256_setzero_si256
+#define FIRST(x) _mm_cvtsi128_si32(_mm256_castsi256_si128(x))
+#else
 #define XOR _mm_xor_si128
 #define AND _mm_and_si128
 #define OR _mm_or_si128
-#define LEFT _mm_slli_epi32
-#define RIGHT _mm_srli_epi32
+#define LOAD _mm_loadu_si128
+#define STORE _mm_storeu_si128
+#define ZERO _mm_setzero_si128
+#define FIRST _mm_cvtsi128_si32
+#endif
+#define ADD WIDE(add_epi32)
+#define SET WIDE(set1_epi32)
+#define LEFT WIDE(slli_epi32)
+#define RIGHT WIDE(srli_epi32)
 #define TURN(x, n) OR(RIGHT(x, n), LEFT(x, 32 - (n)))
 
 /* One block in each lane: what is added to the state. */
-static inline __attribute__((always_inline)) void block(four state[8], four w[16]) {
-    four a = state[0], b = state[1], c = state[2], d = state[3], e = state[4], f = state[5], g = state[6], h = state[7];
+static inline __attribute__((always_inline)) void block(wide state[8], wide w[16]) {
+    wide a = state[0], b = state[1], c = state[2], d = state[3], e = state[4], f = state[5], g = state[6], h = state[7];
 #pragma GCC unroll 64
     for (int i = 0; i < 64; i++) {
         if (i >= 16) {
-            four x = w[(i + 1) & 15], y = w[(i + 14) & 15];
-            four s = XOR(XOR(TURN(x, 7), TURN(x, 18)), RIGHT(x, 3)), t = XOR(XOR(TURN(y, 17), TURN(y, 19)), RIGHT(y, 10));
+            wide x = w[(i + 1) & 15], y = w[(i + 14) & 15];
+            wide s = XOR(XOR(TURN(x, 7), TURN(x, 18)), RIGHT(x, 3)), t = XOR(XOR(TURN(y, 17), TURN(y, 19)), RIGHT(y, 10));
             w[i & 15] = ADD(ADD(w[i & 15], s), ADD(w[(i + 9) & 15], t));
         }
-        four one = ADD(ADD(h, XOR(XOR(TURN(e, 6), TURN(e, 11)), TURN(e, 25))),
-            ADD(ADD(XOR(g, AND(e, XOR(f, g))), _mm_set1_epi32(K[i])), w[i & 15]));
-        four two = ADD(XOR(XOR(TURN(a, 2), TURN(a, 13)), TURN(a, 22)), OR(AND(a, b), AND(c, OR(a, b))));
+        wide one = ADD(ADD(h, XOR(XOR(TURN(e, 6), TURN(e, 11)), TURN(e, 25))),
+            ADD(ADD(XOR(g, AND(e, XOR(f, g))), SET(K[i])), w[i & 15]));
+        wide two = ADD(XOR(XOR(TURN(a, 2), TURN(a, 13)), TURN(a, 22)), OR(AND(a, b), AND(c, OR(a, b))));
         h = g;
         g = f;
         f = e;
@@ -49,12 +74,12 @@ static inline __attribute__((always_inline)) void block(four state[8], four w[16
         b = a;
         a = ADD(one, two);
     }
-    four added[8] = { a, b, c, d, e, f, g, h };
+    wide added[8] = { a, b, c, d, e, f, g, h };
     for (int i = 0; i < 8; i++) state[i] = ADD(state[i], added[i]);
 }
 
 const char *name(void) {
-    return "C with four lanes of SSE";
+    return NAME;
 }
 
 static uint32_t word(const uint8_t *from) {
@@ -68,38 +93,38 @@ static void put(uint8_t *to, uint32_t value) {
     memcpy(to, &value, 4);
 }
 
-/* All four lanes do the same here. */
+/* All lanes do the same here. */
 void hash(uint8_t out[32], const uint8_t *bytes, size_t length) {
     uint8_t last[128] = { 0 };
     size_t whole = length / 64, rest = length % 64, ends = rest < 56 ? 1 : 2;
-    four state[8], w[16];
+    wide state[8], w[16];
     memcpy(last, bytes + 64 * whole, rest);
     last[rest] = 0x80;
     put(last + 64 * ends - 4, 8 * length);
-    for (int i = 0; i < 8; i++) state[i] = _mm_set1_epi32(START[i]);
+    for (int i = 0; i < 8; i++) state[i] = SET(START[i]);
     for (size_t at = 0; at < whole + ends; at++) {
         const uint8_t *from = at < whole ? bytes + 64 * at : last + 64 * (at - whole);
-        for (int i = 0; i < 16; i++) w[i] = _mm_set1_epi32(word(from + 4 * i));
+        for (int i = 0; i < 16; i++) w[i] = SET(word(from + 4 * i));
         block(state, w);
     }
-    for (int i = 0; i < 8; i++) put(out + 4 * i, _mm_cvtsi128_si32(state[i]));
+    for (int i = 0; i < 8; i++) put(out + 4 * i, FIRST(state[i]));
 }
 
 /* The bytes of the block are the head, two of the chain, one of the step, and the value: so the value's words lie a byte
    before the block's. */
 void carry(uint8_t values[CHAINS][32], const uint8_t head[20], const uint8_t steps[CHAINS]) {
-    uint32_t lanes[8][4] = { { 0 } }, marks[4] = { 0 };
-    int order[CHAINS], next = 0, open = 0, chain[4], left[4];
+    uint32_t lanes[8][LANES] = { { 0 } }, marks[LANES] = { 0 };
+    int order[CHAINS], next = 0, open = 0, chain[LANES], left[LANES];
     for (int i = 0; i < CHAINS; i++) {
         int at = i;
         for (; at > 0 && steps[order[at - 1]] > steps[i]; at--) order[at] = order[at - 1];
         order[at] = i;
     }
-    for (int lane = 0; lane < 4; lane++) chain[lane] = -1, left[lane] = 0;
+    for (int lane = 0; lane < LANES; lane++) chain[lane] = -1, left[lane] = 0;
     for (;;) {
         /* Each lane at its end stores its value, and takes the next chain. */
         int least = 256;
-        for (int lane = 0; lane < 4; lane++) {
+        for (int lane = 0; lane < LANES; lane++) {
             if (left[lane] == 0) {
                 if (chain[lane] >= 0) {
                     for (int i = 0; i < 8; i++) put(values[chain[lane]] + 4 * i, lanes[i][lane]);
@@ -118,22 +143,22 @@ void carry(uint8_t values[CHAINS][32], const uint8_t head[20], const uint8_t ste
             if (chain[lane] >= 0 && left[lane] < least) least = left[lane];
         }
         if (open == 0) return;
-        four t[8], mark = _mm_loadu_si128((const four *)marks);
-        for (int i = 0; i < 8; i++) t[i] = _mm_loadu_si128((const four *)lanes[i]);
+        wide t[8], mark = LOAD((const wide *)marks);
+        for (int i = 0; i < 8; i++) t[i] = LOAD((const wide *)lanes[i]);
         for (int step = 0; step < least; step++) {
-            four w[16];
-            for (int i = 0; i < 5; i++) w[i] = _mm_set1_epi32(word(head + 4 * i));
+            wide w[16];
+            for (int i = 0; i < 5; i++) w[i] = SET(word(head + 4 * i));
             w[5] = OR(mark, RIGHT(t[0], 24));
             for (int i = 0; i < 7; i++) w[6 + i] = OR(LEFT(t[i], 8), RIGHT(t[i + 1], 24));
-            w[13] = OR(LEFT(t[7], 8), _mm_set1_epi32(0x80));
-            w[14] = _mm_setzero_si128();
-            w[15] = _mm_set1_epi32(440);
-            for (int i = 0; i < 8; i++) t[i] = _mm_set1_epi32(START[i]);
+            w[13] = OR(LEFT(t[7], 8), SET(0x80));
+            w[14] = ZERO();
+            w[15] = SET(440);
+            for (int i = 0; i < 8; i++) t[i] = SET(START[i]);
             block(t, w);
-            mark = ADD(mark, _mm_set1_epi32(1 << 8));
+            mark = ADD(mark, SET(1 << 8));
         }
-        _mm_storeu_si128((four *)marks, mark);
-        for (int i = 0; i < 8; i++) _mm_storeu_si128((four *)lanes[i], t[i]);
-        for (int lane = 0; lane < 4; lane++) if (chain[lane] >= 0) left[lane] -= least;
+        STORE((wide *)marks, mark);
+        for (int i = 0; i < 8; i++) STORE((wide *)lanes[i], t[i]);
+        for (int lane = 0; lane < LANES; lane++) if (chain[lane] >= 0) left[lane] -= least;
     }
 }
