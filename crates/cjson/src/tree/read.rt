@@ -1,6 +1,6 @@
 //! Bytes as a tree of JSON, in one pass over the tokens.
 
-ghost use Rattle.std.specs.Prelude.{◌≡◌, ◌<◌, length, Some, None, Err, IfOk, OnOk};
+ghost use Rattle.std.specs.Prelude.{◌≡◌, ◌<◌, ◌∷◌, ◌++◌, [], length, Some, None, Err, IfOk, OnOk};
 ghost use Rattle.std.specs.Prelude.{string_bytes};
 ghost use Rattle.json.specs.Json.{value, items, members};
 ghost use Rattle.serde_json.specs.Data.{no_members, put};
@@ -93,10 +93,23 @@ fn read_items(alloc: Global, reader: &mut Reader<'_>, depth: usize) -> Result<Ve
     let mut found = Vec::new(alloc);
     'items: while !reader.take_end_array() {
         let item = read(alloc, reader, depth)?;
-        found.push(item)?;
+        push_item(&mut found, item)?;
     }
     found.shrink_to_fit();
     Ok(found)
+}
+
+/// Adds an item. The first one has room for itself alone, since a list of one item is then as long
+/// as it stays.
+#[inline(never)]
+fn push_item(found: &mut Vec<Tree>, item: Tree) -> Result<(), AllocError>
+    ensures { OnOk result (found.new.items ≡ found.old.items ++ item ∷ []) }
+{
+    if found.is_empty() {
+        found.reserve_exact(1)?;
+    }
+    found.push(item)?;
+    Ok(())
 }
 
 #[cycle(read)]
