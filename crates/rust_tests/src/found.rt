@@ -4,12 +4,14 @@ ghost use Rattle.std.specs.Prelude.{◌≡◌, ◌≤◌, ◌<◌, ◌⊎◌, �
 ghost use Rattle.folder.specs.Folders.{HasFailed};
 ghost use Rattle.folder.specs.Measures.{IsMeasure};
 
-use cycle::{Course, Cycle, Limits, Repo, Round, Trusted, follow_alone};
+use cycle::{Course, Cycle, Limits, Repo, Round, Trusted, follow_alone, has_consistent_names};
 use folder::{Folder, LoadFault, Measure, Need};
+use keys::Direct;
 use maker::make;
 use measured::{Readers, close};
 use moment::Moment;
 use report::tell;
+use rolechain::final_root;
 use std::alloc::{AllocError, Global};
 use std::collections::BTreeMap;
 use std::sync::atomic::{AtomicU64, Ordering};
@@ -179,15 +181,26 @@ impl Made {
 
 /// Runs the cycle up to the searches for these paths.
 pub(crate) fn course(alloc: Global, repo: &Repo, wanted: &[String]) -> Result<Course, Fail> {
-    let root = repo.metadata.get("1.root.json").ok_or("a first root")?;
-    let trusted = Trusted::from_root(alloc, root.as_slice())?;
-    let now = Moment::read("2026-01-01T00:00:00Z").ok_or("a moment")?;
+    let trusted = first_state(alloc, repo)?;
     Ok(follow_alone(&Cycle {
         alloc,
         trusted: &trusted,
-        round: Round { repo, now, wanted },
+        round: Round {
+            repo,
+            now: moment()?,
+            wanted,
+        },
         limits: Limits::new(32, 0).ok_or("limits")?,
     })?)
+}
+
+fn first_state(alloc: Global, repo: &Repo) -> Result<Trusted, Fail> {
+    let root = repo.metadata.get("1.root.json").ok_or("a first root")?;
+    Ok(Trusted::from_root(alloc, root.as_slice())?)
+}
+
+fn moment() -> Result<Moment, Fail> {
+    Ok(Moment::read("2026-01-01T00:00:00Z").ok_or("a moment")?)
 }
 
 /// Returns the wanted paths: two that are listed, the first of which is wanted twice, and one that
@@ -268,5 +281,35 @@ fn found_files_with_consistent_names_are_read_once(rt: HostRuntime) -> Result<()
         let is_once = are_read_once(&rt, rt.alloc(), row, is_shared, threads)?;
         assert!(rt; is_once, "{threads}");
     }
+    Ok(())
+}
+
+#[test]
+fn names_are_consistent_by_the_last_root(rt: HostRuntime) -> Result<(), Fail> {
+    let alloc = rt.alloc();
+    let script = format!(in alloc; "{PLAIN}consistent yes\nwrite root 2 1\n")?;
+    let made = Made::of(alloc, script.as_str(), true)?;
+    let trusted = first_state(alloc, &made.repo)?;
+    assert!(rt; !trusted.root().reading().consistent());
+    let wanted = wanted(alloc)?;
+    let round = Round {
+        repo: &made.repo,
+        now: moment()?,
+        wanted: wanted.as_slice(),
+    };
+    let cycle = Cycle {
+        alloc,
+        trusted: &trusted,
+        round,
+        limits: Limits::new(32, 0).ok_or("limits")?,
+    };
+    assert!(rt; has_consistent_names(&cycle)?);
+    let last = final_root(alloc, &trusted, &made.repo, moment()?, &mut Direct)?;
+    let second = made
+        .repo
+        .metadata
+        .get("2.root.json")
+        .ok_or("a second root")?;
+    assert!(rt; last.bytes() == second.as_slice());
     Ok(())
 }

@@ -167,7 +167,7 @@ impl<S: System, M: Folder, T: Folder, W: Write> Host<S, Folders<M, T>, W> {
     {
         let alloc = start.alloc;
         let opened = self.folders.open(alloc)?;
-        let wanted = wanted_of(threading, &start, &opened)?;
+        let wanted = wanted_of(&start, &opened)?;
         let start = wanting(start, wanted.as_slice());
         let done = self.end_into(threading, &start, opened, to);
         to.clear(alloc);

@@ -14,7 +14,7 @@ use crate::host::{Folders, HasWorld, Host};
 use crate::start::{Opened, Start, Terms, limits_of};
 use crate::state::keep_state;
 use crate::verification::outcome;
-use cycle::{Cycle, Gate, Round, Threading, Watch, follow};
+use cycle::{Cycle, Gate, Round, Threading, Watch, has_consistent_names};
 use failure::Failure;
 use folder::Folder;
 use paths::paths_of_names;
@@ -77,7 +77,7 @@ impl<S: System, M: Folder, T: Folder + Sync, W: Write> Host<S, Folders<M, T>, W>
             (⟦<Self as HasWorld>⟧.world self.old) (⟦<Self as HasWorld>⟧.world self.new)) }
     {
         let opened = self.folders.open(alloc)?;
-        let wanted = wanted_of(threading, &start, &opened)?;
+        let wanted = wanted_of(&start, &opened)?;
         let start = wanting(start, wanted.as_slice());
         let outcome = outcome(threading, &start, opened, &mut self.folders.targets)?;
         keep_state(alloc, &mut self.system, start.state, outcome.trusted())?;
@@ -97,14 +97,9 @@ pub(crate) fn wanting<'a>(start: Start<'a>, wanted: &'a [String]) -> Start<'a>
     Start { wanted, ..start }
 }
 
-/// The paths of these names, which are consistent if the root says so that is trusted once the
-/// metadata was examined. That is done without wanted paths here, and again with them after it,
-/// with the same result.
-pub(crate) fn wanted_of<R: Threads + Wait + Sync, N: Gate + Watch + Sync>(
-    threading: &Threading<'_, R, N>,
-    start: &Start<'_>,
-    opened: &Opened,
-) -> Result<Vec<String>, Failure>
+/// Returns the paths of the names that were listed, which are consistent if the root says so that
+/// is trusted once the metadata was examined.
+pub(crate) fn wanted_of(start: &Start<'_>, opened: &Opened) -> Result<Vec<String>, Failure>
     ensures paths { let s = start.now in
         let root = (advanced (file_in opened.now.repo.metadata) s.moment s.trusted).state.root in
         IfOk result (λ wanted. ArePathsOf root.reading.consistent
@@ -124,8 +119,7 @@ pub(crate) fn wanted_of<R: Threads + Wait + Sync, N: Gate + Watch + Sync>(
         round,
         limits,
     };
-    let course = follow(&cycle, threading, start.workers)?;
     let names = opened.names.as_slice();
-    let is_consistent = course.has_consistent_names();
+    let is_consistent = has_consistent_names(&cycle)?;
     Ok(paths_of_names(start.alloc, names, is_consistent)?)
 }
