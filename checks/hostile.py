@@ -223,6 +223,19 @@ def signatures(roles, keys):
     return Mirror(["abc.txt"], way=lambda path: ["targets", *names], script=script(*lines))
 
 
+def whole(targets, roles, keys):
+    """Each role lists the targets of a folder with both digests, and all keys sign it. Every file is wanted."""
+    names = [f"d{number:02}" for number in range(roles)]
+    paths = [f"{names[number * roles // targets]}/package-{number:05}.tar.gz" for number in range(targets)]
+    way = lambda path: ["targets", path.partition("/")[0]]
+    signers = ",".join(str(5 + number) for number in range(keys))
+    lines = [f"key {5 + number} 5" for number in range(keys)]
+    lines += [f"delegate targets {name} {keys} {signers} go paths {name}/*" for name in names]
+    lines += [f"target {way(path)[-1]} {path} {path.encode().hex()} both" for path in paths]
+    lines += [f"write {name} 1 {signers}" for name in names]
+    return Mirror(paths, way=way, script=script(*lines), whole=True)
+
+
 def large(size):
     """A targets file that lists as many targets as fit, of which the one in the middle is there."""
     names = [f"p{number:05}" for number in range((size - 3500) // 109)]
@@ -250,4 +263,5 @@ CASES = {
     "least": [("least", least, (), (1,))],
     "signatures": [("signatures", signatures, (32, 32), (1,))],
     "large": [(f"large {size}", large, (size,), (1,)) for size in (3_900_000, 5_000_000)],
+    "whole": [("whole", whole, (20_000, 32, 32), (20_000,))],
 }

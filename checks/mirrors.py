@@ -36,6 +36,7 @@ In an honest one all is signed, and all wanted paths are accepted:
   least      a key for each role, and one target
   signatures 1,024 signatures: 32 roles that 32 keys sign each, of which the last lists the target
   large      a targets file of 3,900,000 and one of 5,000,000 bytes, of which one target is wanted
+  whole      20,000 targets in 32 roles that 32 keys sign each, 5 MB of metadata, every file wanted by `--every`
 
 It takes some minutes, and up to a minute more for each run that is killed. Nothing else should run meanwhile.
 """
