@@ -14,9 +14,9 @@
 # `leaves` may also print `NoMemory` for one signature: the next one must then take the same leaf.
 # The script ends with status 1 at the first run that does otherwise.
 #
-# `rt run` proves and builds the two programs, once. A small library, made with `cc`, is loaded before the C library's `malloc`
-# and `realloc` and makes the Nth call fail. (`rt try --fail-alloc N` has the same results, and builds the program for
-# each N, which takes a minute or two.)
+# `rt run` proves and builds the two programs, once, unless PROGRAM and TRIALS in the environment name others. A small
+# library, made with `cc`, is loaded before the C library's `malloc` and `realloc` and makes the Nth call fail. (`rt try
+# --fail-alloc N` has the same results, and builds the program for each N, which takes a minute or two.)
 set -u
 first=${1:-1} last=${2:-100000} step=${3:-1}
 top=$(cd "$(dirname "$0")/.." && pwd) || exit 2
@@ -50,11 +50,14 @@ void *realloc(void *old, size_t size) {
 }
 END
 cc -shared -fPIC -O1 -o "$work/refuse.so" "$work/refuse.c" -ldl || exit 2
-(cd "$top/crates/tufcheck" && rt run) > "$work/built" 2>&1 || { tail -5 "$work/built"; exit 2; }
-(cd "$top/crates/trials" && rt run) > "$work/built" 2>&1
-[ -x "$top/crates/trials/out/trials" ] || { tail -5 "$work/built"; exit 2; }
+program=$(realpath -m "${PROGRAM:-$top/crates/tufcheck/out/tufcheck}")
+trials=$(realpath -m "${TRIALS:-$top/crates/trials/out/trials}")
+[ -n "${PROGRAM-}" ] || (cd "$top/crates/tufcheck" && rt run) > "$work/built" 2>&1 || { tail -5 "$work/built"; exit 2; }
+[ -n "${TRIALS-}" ] || (cd "$top/crates/trials" && rt run) > "$work/built" 2>&1
+[ -x "$trials" ] || { tail -5 "$work/built"; exit 2; }
 export MET="$work/met"
-cp "$top/crates/tufcheck/out/tufcheck" "$top/examples/first.script" "$top/crates/trials/data/cases/shared.script" "$work" && cd "$work" || exit 2
+cp "$program" "$work/tufcheck" || exit 2
+cp "$top/examples/first.script" "$top/crates/trials/data/cases/shared.script" "$work" && cd "$work" || exit 2
 
 # sweep NAME FILE STATE WORD..: sweeps the run with those words, which with ample memory prints that file, ends with the
 # status $good and, if it makes a file `new`, stores that state there.
@@ -123,7 +126,7 @@ sweep_row() {
     { echo "  $ $*" && cat expected; } > rows/cases/row.rows
     for ((n = first; n <= last; n += step)); do
         rm -f met
-        (cd rows && REFUSED=$n LD_PRELOAD="$work/refuse.so" "$top/crates/trials/out/trials" < /dev/null > ../printed 2> ../told)
+        (cd rows && REFUSED=$n LD_PRELOAD="$work/refuse.so" "$trials" < /dev/null > ../printed 2> ../told)
         status=$?
         if [ $status = 0 ] && [ ! -s told ]; then
             [ -e met ] || break

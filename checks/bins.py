@@ -17,7 +17,7 @@ import tempfile
 import time
 
 TOP = os.path.dirname(os.path.dirname(os.path.abspath(__file__)))
-PROGRAM = f"{TOP}/crates/tufcheck/out/tufcheck"
+PROGRAM = os.path.abspath(os.environ.get("PROGRAM", f"{TOP}/crates/tufcheck/out/tufcheck"))
 NOW = "2026-01-01T00:00:00Z"
 
 

@@ -18,7 +18,7 @@ import tempfile
 import tuf
 
 TOP = os.path.dirname(os.path.dirname(os.path.abspath(__file__)))
-PROGRAM = f"{TOP}/crates/tufcheck/out/tufcheck"
+PROGRAM = os.path.abspath(os.environ.get("PROGRAM", f"{TOP}/crates/tufcheck/out/tufcheck"))
 ABOVE = "\x80\x85\xa0\xad\xe9\u0301\u200b\u200e\u2028\u202e\ud7ff\ue000\ufeff\ufffd\uffff\U0001f600\U0010ffff"
 ODD = [chr(code) for code in range(1, 128) if chr(code) != "/"] + list(ABOVE)
 KEYS = [tuf.Key(1 + number) for number in range(len(ODD) // 30 + 2)]

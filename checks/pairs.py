@@ -24,7 +24,7 @@ import tempfile
 import time
 
 TOP = pathlib.Path(__file__).resolve().parent.parent
-PROGRAM = TOP / "crates/tufcheck/out/tufcheck"
+PROGRAM = pathlib.Path(os.environ.get("PROGRAM", TOP / "crates/tufcheck/out/tufcheck")).resolve()
 NOW = "2026-01-01T00:00:00Z"
 WAITING = 0.15
 

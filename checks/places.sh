@@ -8,7 +8,7 @@
 # the Nth call of a run fails with "no space left"): the run must print its failure and leave the old state or the new one,
 # and nothing beside it. Then the program is killed KILLS times at a random moment of a run. At last, for the superuser,
 # the state is in a file system of 64 KiB that is full. A small library, made with `cc`, is loaded before the C library's
-# calls. `rt run` in crates/tufcheck proves and builds the program, once.
+# calls. `rt run` in crates/tufcheck proves and builds the program, once, unless PROGRAM in the environment names another.
 set -u
 kills=${1:-500}
 top=$(cd "$(dirname "$0")/.." && pwd) || exit 2
@@ -61,8 +61,9 @@ int fchmod(int file, unsigned mode) { NEXT("fchmod", file, mode); }
 int rename(const char *from, const char *to) { NEXT("rename", from, to); }
 END
 cc -shared -fPIC -O1 -w -o "$work/refuse.so" "$work/refuse.c" -ldl || exit 2
-(cd "$top/crates/tufcheck" && rt run) > "$work/built" 2>&1 || { tail -5 "$work/built"; exit 2; }
-cp "$top/crates/tufcheck/out/tufcheck" "$top/examples/first.script" "$work" && cd "$work" || exit 2
+program=$(realpath -m "${PROGRAM:-$top/crates/tufcheck/out/tufcheck}")
+[ -n "${PROGRAM-}" ] || (cd "$top/crates/tufcheck" && rt run) > "$work/built" 2>&1 || { tail -5 "$work/built"; exit 2; }
+cp "$program" "$work/tufcheck" && cp "$top/examples/first.script" "$work" && cd "$work" || exit 2
 
 # verify FOLDER: brings the state FOLDER/s up to date
 verify() {

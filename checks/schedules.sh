@@ -4,17 +4,17 @@
 #   checks/schedules.sh [RUNS [SEED]]      5000 and 1 unless given
 #
 # For each of two repositories, that of one target and that of roles which share keys, the program `trials`, which is
-# proved and built first, makes RUNS runs: with up to 8 workers, plans of 3 or up to 4,096 checks, and gates that do
-# nothing, block each worker until the end, or make it wait for a drawn time. The script ends with status 1 if a run
-# printed something else, and with 2 if the program couldn't be built or run.
+# proved and built first unless TRIALS in the environment names it, makes RUNS runs: with up to 8 workers, plans of 3 or
+# up to 4,096 checks, and gates that do nothing, block each worker until the end, or make it wait for a drawn time. The
+# script ends with status 1 if a run printed something else, and with 2 if the program couldn't be built or run.
 set -u
 runs=${1:-5000} seed=${2:-1}
 top=$(cd "$(dirname "$0")/.." && pwd) || exit 2
 work=$(mktemp -d) || exit 2
 trap 'rm -rf "$work"' EXIT
-(cd "$top/crates/trials" && rt run) > "$work/built" 2>&1
-program=$top/crates/trials/out/trials cases=$top/crates/trials/data/cases
-[ -x "$program" ] || { tail -5 "$work/built"; exit 2; }
+[ -n "${TRIALS-}" ] || (cd "$top/crates/trials" && rt run) > "$work/built" 2>&1
+program=$(realpath -m "${TRIALS:-$top/crates/trials/out/trials}") cases=$top/crates/trials/data/cases
+[ -x "$program" ] || { echo "no program $program"; exit 2; }
 mkdir -p "$work/room/cases" && cp "$cases"/*.script "$work/room/cases" && cd "$work/room" || exit 2
 cat > cases/stress.rows <<CASE
   \$ make first

@@ -35,7 +35,7 @@ except ImportError:
     encode_canonical = None
 
 TOP = os.path.dirname(os.path.dirname(os.path.abspath(__file__)))
-PROGRAM = f"{TOP}/crates/tufcheck/out/tufcheck"
+PROGRAM = os.path.abspath(os.environ.get("PROGRAM", f"{TOP}/crates/tufcheck/out/tufcheck"))
 NOW = "2026-01-01T00:00:00Z"
 LATER = "2030-01-01T00:00:00Z"
 TIMES = [LATER, NOW, "2025-12-31T23:59:59Z", "2026-01-01T00:00:01Z", "0000-02-29T00:00:00Z"]
