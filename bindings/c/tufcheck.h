@@ -15,7 +15,7 @@
  *   TUFCHECK_NOTHING. A pointer is aligned for its type, and its memory is as long as its length or
  *   count says. No room overlaps another room, its own answer or any memory of the job, and nothing
  *   writes to the job's memory during a call.
- * - A stack of 256 KB. A file of nested JSON takes up to 125 KB of it, before any signature is
+ * - A stack of 256 KB. A file of nested JSON takes up to 90 KB of it, before any signature is
  *   checked, so any mirror can cause that.
  * - malloc, realloc and free of one allocator, which align a block to each power of two up to 16
  *   that divides its size. If one of them refuses memory, the call returns TUFCHECK_NO_MEMORY.

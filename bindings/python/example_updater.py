@@ -16,6 +16,7 @@ from __future__ import annotations
 import hashlib
 import os
 import pathlib
+import shutil
 import sys
 import tempfile
 import time
@@ -85,12 +86,12 @@ def replace(path: pathlib.Path, data: bytes) -> None:
 
 
 def keep(out: pathlib.Path, path: str, fetcher: Fetcher, listed: tufcheck.Listed) -> None:
-    """Moves the accepted target to its path: the download that has the listed digests."""
+    """Copies the accepted target to its path: the download that has the listed digests."""
     for (length, sha256, sha512), place in fetcher.places.items():
         if length == listed.length and listed.sha256 in (None, sha256) \
                 and listed.sha512 in (None, sha512):
             (out / path).parent.mkdir(parents=True, exist_ok=True)
-            (out / path).write_bytes(place.read_bytes())
+            shutil.copyfile(place, out / path)
             return
 
 
