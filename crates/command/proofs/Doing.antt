@@ -3,16 +3,16 @@ use Rattle.std.proofs.Common.{◌≡◌, ◌≢◌, ◌⊎◌, inl, inr, ℕ, Li
 use Rattle.failure.specs.declared.failure.Failure.{Failure}
 use Rattle.failure.specs.declared.failure.Failure.TheVariants.{Memory, Output}
 use Rattle.update.specs.Causes.{IsCauseToReplay, IsCauseToVerify}
-use Rattle.update.specs.Copies.{IsCauseToVerifyInto, IsEveryVerifiedInto, IsUntouchedInto, IsVerifiedInto, Kept}
+use Rattle.update.specs.Copies.{IsCauseToVerifyInto, IsUntouchedInto, IsVerifiedInto, Kept}
 use Rattle.update.specs.Cycles.{IsReplayed}
-use Rattle.update.specs.Every.{IsEveryVerified}
 use Rattle.update.specs.Fetching.{IsCauseOfNext, IsNext}
 use Rattle.update.specs.First.{IsRefused, IsTrusted}
 use Rattle.update.specs.Runs.{IsVerified}
 use Rattle.update.specs.World.{IsUntouched, Mirror, World}
 use Rattle.update.specs.declared.fetching.Wants.{Wants}
+use Rattle.update.specs.declared.replaying.Cycles.{Cycles}
 use Rattle.update.specs.declared.start.Terms.{Terms}
-use Rattle.command.specs.Done.{IsCauseOfFetching, IsCauseOfReplay, IsCauseOfVerify, IsCauseOfVerifyInto, IsEveryVerifiedIntoOf, IsEveryVerifiedOf, IsFirst, IsNextOf, IsReplayedOf, IsVerifiedIntoOf, IsVerifiedOf, system_with}
+use Rattle.command.specs.Done.{IsCauseOfFetching, IsCauseOfReplay, IsCauseOfVerify, IsCauseOfVerifyInto, IsFirst, IsNextOf, IsReplayedOf, IsVerifiedIntoOf, IsVerifiedOf, system_with}
 
 -- ---- a status
 
@@ -28,25 +28,15 @@ pub verified_of : (r : Result ℕ Failure) (terms : Terms) (m : Mirror) (ns : Li
 verified_of (Ok status) terms m ns old new is = record { mirror = m; then = is }
 verified_of (Err f) terms m ns old new is = tt
 
-pub every_verified_of : (r : Result ℕ Failure) (terms : Terms) (m : Mirror) (ns : List Mirror) (old new : Option (List ℕ))
-    → IfOk r (IsEveryVerified terms (system_with (m ∷ []) old) (system_with ns new)) → IfOk r (IsEveryVerifiedOf terms old new)
-every_verified_of (Ok status) terms m ns old new is = record { mirror = m; then = is }
-every_verified_of (Err f) terms m ns old new is = tt
-
 pub verified_into_of : (r : Result ℕ Failure) (terms : Terms) (m : Mirror) (ns : List Mirror) (old new : Option (List ℕ))
     → IfOk r (IsVerifiedInto terms (system_with (m ∷ []) old) (system_with ns new) (λ _ _. true) (λ _ _. true)) → IfOk r (IsVerifiedIntoOf terms old new)
 verified_into_of (Ok status) terms m ns old new is = record { mirror = m; afterwards = ns; then = is }
 verified_into_of (Err f) terms m ns old new is = tt
 
-pub every_verified_into_of : (r : Result ℕ Failure) (terms : Terms) (m : Mirror) (ns : List Mirror) (old new : Option (List ℕ))
-    → IfOk r (IsEveryVerifiedInto terms (system_with (m ∷ []) old) (system_with ns new) (λ _ _. true) (λ _ _. true)) → IfOk r (IsEveryVerifiedIntoOf terms old new)
-every_verified_into_of (Ok status) terms m ns old new is = record { mirror = m; afterwards = ns; then = is }
-every_verified_into_of (Err f) terms m ns old new is = tt
-
-pub replayed_of : (r : Result ℕ Failure) (terms : Terms) (count : ℕ) (ms ns : List Mirror) (old new : Option (List ℕ)) → length ms ≡ count
-    → IfOk r (IsReplayed terms (system_with ms old) (system_with ns new)) → IfOk r (IsReplayedOf terms count old new)
-replayed_of (Ok status) terms count ms ns old new each is = record { mirrors = ms; each = each; then = is }
-replayed_of (Err f) terms count ms ns old new each is = tt
+pub replayed_of : (r : Result ℕ Failure) (cycles : Cycles) (count : ℕ) (ms ns : List Mirror) (old new : Option (List ℕ)) → length ms ≡ count
+    → IfOk r (IsReplayed cycles (system_with ms old) (system_with ns new)) → IfOk r (IsReplayedOf cycles count old new)
+replayed_of (Ok status) cycles count ms ns old new each is = record { mirrors = ms; each = each; then = is }
+replayed_of (Err f) cycles count ms ns old new each is = tt
 
 pub next_of : (r : Result ℕ Failure) (w : Wants) (m : Mirror) (ns : List Mirror) (old new : Option (List ℕ)) → IfOk r (λ status. status ≡ 0)
     → OnOk r (IsNext w (system_with (m ∷ []) old) (system_with ns new)) → IfOk r (IsNextOf w old new)
@@ -75,10 +65,10 @@ pub cause_of_verify : (r : Result ℕ Failure) (terms : Terms) (ms ns : List Mir
 cause_of_verify (Ok status) terms ms ns old is = tt
 cause_of_verify (Err f) terms ms ns old is = record { before = ms; afterwards = ns; then = is }
 
-pub cause_of_replay : (r : Result ℕ Failure) (terms : Terms) (keep : ℕ) (ms ns : List Mirror) (old : Option (List ℕ))
-    → IfErr r (IsCauseToReplay terms keep (system_with ms old) (system_with ns old)) → IfErr r (IsCauseOfReplay terms keep old)
-cause_of_replay (Ok status) terms keep ms ns old is = tt
-cause_of_replay (Err f) terms keep ms ns old is = record { before = ms; afterwards = ns; then = is }
+pub cause_of_replay : (r : Result ℕ Failure) (cycles : Cycles) (ms ns : List Mirror) (old : Option (List ℕ))
+    → IfErr r (IsCauseToReplay cycles (system_with ms old) (system_with ns old)) → IfErr r (IsCauseOfReplay cycles old)
+cause_of_replay (Ok status) cycles ms ns old is = tt
+cause_of_replay (Err f) cycles ms ns old is = record { before = ms; afterwards = ns; then = is }
 
 pub cause_of_fetching : (r : Result ℕ Failure) (w : Wants) (ms ns : List Mirror) (old : Option (List ℕ))
     → IfErr r (IsCauseOfNext w (system_with ms old) (system_with ns old)) → IfErr r (IsCauseOfFetching w old)
@@ -94,19 +84,15 @@ verify_out_of_memory f terms old is = subst (IsCauseOfVerify terms old) (sym is)
 pub verify_into_out_of_memory : (f : Failure) (terms : Terms) (old : Option (List ℕ)) → f ≡ Memory → IsCauseOfVerifyInto terms old f
 verify_into_out_of_memory f terms old is = subst (IsCauseOfVerifyInto terms old) (sym is) (record { before = []; afterwards = []; then = inr (inl tt) })
 
-pub replay_out_of_memory : (f : Failure) (terms : Terms) (keep : ℕ) (old : Option (List ℕ)) → f ≡ Memory → IsCauseOfReplay terms keep old f
-replay_out_of_memory f terms keep old is = subst (IsCauseOfReplay terms keep old) (sym is) (record { before = []; afterwards = []; then = inl tt })
+pub replay_out_of_memory : (f : Failure) (cycles : Cycles) (old : Option (List ℕ)) → f ≡ Memory → IsCauseOfReplay cycles old f
+replay_out_of_memory f cycles old is = subst (IsCauseOfReplay cycles old) (sym is) (record { before = []; afterwards = []; then = inl tt })
 
 -- what is used of these for each run
 pub ruleset beginning = (first_of, quiet_of)
 
 pub ruleset verifying = (verified_of, quiet_of, cause_of_verify)
 
-pub ruleset verifying_every = (every_verified_of, quiet_of, cause_of_verify)
-
 pub ruleset verifying_into = (verified_into_of, quiet_into_of, cause_of_verify_into)
-
-pub ruleset verifying_every_into = (every_verified_into_of, quiet_into_of, cause_of_verify)
 
 pub ruleset replaying = (replayed_of, quiet_of, cause_of_replay)
 

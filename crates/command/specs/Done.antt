@@ -3,18 +3,18 @@ use Rattle.std.specs.Bool.{⊤}
 use Rattle.std.specs.Prelude.{◌≡◌, ◌⊎◌, ℕ, List, true, Option, length, option_map, [], ◌∷◌}
 use Rattle.failure.specs.declared.failure.Failure.{Failure}
 use Rattle.update.specs.Causes.{IsCauseOfFirst, IsCauseToReplay, IsCauseToVerify}
-use Rattle.update.specs.Copies.{IsCauseToVerifyInto, IsEveryVerifiedInto, IsVerifiedInto}
+use Rattle.update.specs.Copies.{IsCauseToVerifyInto, IsVerifiedInto}
 use Rattle.update.specs.Cycles.{IsReplayed}
-use Rattle.update.specs.Every.{IsEveryVerified}
 use Rattle.update.specs.Fetching.{IsCauseOfNext, IsNext}
 use Rattle.update.specs.declared.fetching.Wants.{Wants}
 use Rattle.update.specs.First.{IsRefused, IsTrusted}
 use Rattle.update.specs.Runs.{IsVerified}
 use Rattle.update.specs.Shown.{IsCauseToShow, IsShown}
 use Rattle.update.specs.World.{Mirror, World}
+use Rattle.update.specs.declared.replaying.Cycles.{Cycles}
 use Rattle.update.specs.declared.start.Terms.{Terms}
 use Rattle.command.specs.declared.subcommand.Subcommand.{Subcommand}
-use Rattle.command.specs.declared.subcommand.Subcommand.TheVariants.{Init, Verify, VerifyEvery, VerifyInto, VerifyEveryInto, Replay, Next, Show, Make}
+use Rattle.command.specs.declared.subcommand.Subcommand.TheVariants.{Init, Verify, VerifyInto, Replay, Next, Show, Make}
 
 -- # What a run works on.
 
@@ -61,24 +61,15 @@ abbrev pub IsVerifiedOf : Terms → Option (List ℕ) → Option (List ℕ) → 
 IsVerifiedOf terms old new status =
     OfOne (λ ms. IsVerified terms (system_with ms old) (system_with ms new) status)
 
--- every file of its targets folder is verified
-abbrev pub IsEveryVerifiedOf : Terms → Option (List ℕ) → Option (List ℕ) → ℕ → Type 0
-IsEveryVerifiedOf terms old new status =
-    OfOne (λ ms. IsEveryVerified terms (system_with ms old) (system_with ms new) status)
-
 -- the repository is verified, and copies of its good targets are stored in the folder
 abbrev pub IsVerifiedIntoOf : Terms → Option (List ℕ) → Option (List ℕ) → ℕ → Type 0
 IsVerifiedIntoOf terms old new status = OfOneAfter (λ ms ns. IsVerifiedInto terms
     (system_with ms old) (system_with ns new) (λ _ _. true) (λ _ _. true) status)
 
-abbrev pub IsEveryVerifiedIntoOf : Terms → Option (List ℕ) → Option (List ℕ) → ℕ → Type 0
-IsEveryVerifiedIntoOf terms old new status = OfOneAfter (λ ms ns. IsEveryVerifiedInto terms
-    (system_with ms old) (system_with ns new) (λ _ _. true) (λ _ _. true) status)
-
 -- so many repositories are verified, one after another
-abbrev pub IsReplayedOf : Terms → ℕ → Option (List ℕ) → Option (List ℕ) → ℕ → Type 0
-IsReplayedOf terms count old new status =
-    OfEach count (λ ms. IsReplayed terms (system_with ms old) (system_with ms new) status)
+abbrev pub IsReplayedOf : Cycles → ℕ → Option (List ℕ) → Option (List ℕ) → ℕ → Type 0
+IsReplayedOf cycles count old new status =
+    OfEach count (λ ms. IsReplayed cycles (system_with ms old) (system_with ms new) status)
 
 -- the files that the repository lacks are listed, with status 0
 abbrev pub IsNextOf : Wants → Option (List ℕ) → Option (List ℕ) → ℕ → Type 0
@@ -90,12 +81,9 @@ abbrev pub IsDone : Subcommand → Option (List ℕ) → Option (List ℕ) → �
 IsDone (Init root state) old new status =
     IsFirst root.now state.now (system_with [] old) (system_with [] new) status
 IsDone (Verify terms folders) old new status = IsVerifiedOf terms old new status
-IsDone (VerifyEvery terms folders) old new status = IsEveryVerifiedOf terms old new status
 IsDone (VerifyInto terms folders into) old new status = IsVerifiedIntoOf terms old new status
-IsDone (VerifyEveryInto terms folders into) old new status =
-    IsEveryVerifiedIntoOf terms old new status
-IsDone (Replay terms keep repositories) old new status =
-    IsReplayedOf terms (length repositories.items) old new status
+IsDone (Replay cycles repositories) old new status =
+    IsReplayedOf cycles (length repositories.items) old new status
 IsDone (Next wants folders) old new status = IsNextOf wants old new status
 IsDone (Show state before) old new status = IsShown state.now (option_map (λ t. t.now) before)
     (system_with [] old) (system_with [] new) status
@@ -117,9 +105,9 @@ abbrev pub IsCauseOfVerifyInto : Terms → Option (List ℕ) → Failure → Typ
 IsCauseOfVerifyInto terms old f =
     OfBoth (λ ms ns. IsCauseToVerifyInto terms (system_with ms old) (system_with ns old) f)
 
-abbrev pub IsCauseOfReplay : Terms → ℕ → Option (List ℕ) → Failure → Type 0
-IsCauseOfReplay terms keep old f =
-    OfBoth (λ ms ns. IsCauseToReplay terms keep (system_with ms old) (system_with ns old) f)
+abbrev pub IsCauseOfReplay : Cycles → Option (List ℕ) → Failure → Type 0
+IsCauseOfReplay cycles old f =
+    OfBoth (λ ms ns. IsCauseToReplay cycles (system_with ms old) (system_with ns old) f)
 
 abbrev pub IsCauseOfFetching : Wants → Option (List ℕ) → Failure → Type 0
 IsCauseOfFetching wants old f =
@@ -129,10 +117,8 @@ IsCauseOfFetching wants old f =
 abbrev pub IsCause : Subcommand → Option (List ℕ) → Failure → Type 0
 IsCause (Init root state) old f = IsCauseOfFirst root.now (system_with [] old) f
 IsCause (Verify terms folders) old f = IsCauseOfVerify terms old f
-IsCause (VerifyEvery terms folders) old f = IsCauseOfVerify terms old f
 IsCause (VerifyInto terms folders into) old f = IsCauseOfVerifyInto terms old f
-IsCause (VerifyEveryInto terms folders into) old f = IsCauseOfVerify terms old f
-IsCause (Replay terms keep repositories) old f = IsCauseOfReplay terms keep old f
+IsCause (Replay cycles repositories) old f = IsCauseOfReplay cycles old f
 IsCause (Next wants folders) old f = IsCauseOfFetching wants old f
 IsCause (Show state before) old f =
     IsCauseToShow state.now (option_map (λ t. t.now) before) (system_with [] old) f

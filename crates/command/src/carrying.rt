@@ -5,8 +5,8 @@ ghost use Rattle.command.specs.Done.{IsCause, IsDone, IsFirst, system_with};
 ghost use Rattle.update.specs.Causes.{IsCauseOfFirst};
 ghost use Rattle.update.specs.Shown.{IsCauseToShow, IsShown};
 
-use crate::folders::{next_in, replay_in, verify_every_in, verify_in};
-use crate::into::{verify_every_into_in, verify_into_in};
+use crate::folders::{next_in, replay_in, verify_in};
+use crate::into::verify_into_in;
 use crate::making::make;
 use crate::runtime::Runtime;
 use crate::subcommand::Subcommand;
@@ -38,22 +38,15 @@ pub fn carry_out<T: Threads + Wait + Sync, W: Write>(
     match subcommand {
         Subcommand::Init { root, state } => init(rt, alloc, root, state, out),
         Subcommand::Verify { terms, folders } => verify_in(run, terms, *folders, out),
-        Subcommand::VerifyEvery { terms, folders } => verify_every_in(run, terms, *folders, out),
         Subcommand::VerifyInto {
             terms,
             folders,
             into,
         } => verify_into_in(run, terms, *folders, into, out),
-        Subcommand::VerifyEveryInto {
-            terms,
-            folders,
-            into,
-        } => verify_every_into_in(run, terms, *folders, into, out),
         Subcommand::Replay {
-            terms,
-            keep,
+            cycles,
             repositories,
-        } => replay_in(run, terms, *keep, repositories.as_slice(), out),
+        } => replay_in(run, cycles, repositories.as_slice(), out),
         Subcommand::Next { wants, folders } => next_in(run, wants, *folders, out),
         Subcommand::Show { state, before } => show(rt, alloc, state, *before, out),
         Subcommand::Make { script, folder } => (make(rt, alloc, script, folder), out),

@@ -1,9 +1,8 @@
 //! Repositories in folders of the file system.
 
 ghost use Rattle.std.specs.Prelude.{◌≡◌, ◌≢◌, ◌≤◌, IfErr, IfOk, length};
-ghost use Rattle.command.specs.Done.{IsEveryVerifiedOf, IsReplayedOf, IsVerifiedOf};
 ghost use Rattle.command.specs.Done.{IsCauseOfFetching, IsCauseOfReplay, IsCauseOfVerify};
-ghost use Rattle.command.specs.Done.{IsNextOf};
+ghost use Rattle.command.specs.Done.{IsNextOf, IsReplayedOf, IsVerifiedOf};
 
 use crate::runtime::{CountedFolders, Runtime};
 use crate::subcommand::FolderPaths;
@@ -15,7 +14,7 @@ use std::io::Write;
 use std::sync::Wait;
 use std::thread::Threads;
 use system::Machine;
-use update::{Folders, Host, Terms, Wants};
+use update::{Cycles, Folders, Host, Terms, Wants};
 
 /// Verifies the repository in the folders.
 #[tactic(auto, using(crate::proofs::Doing::verifying))]
@@ -42,34 +41,6 @@ pub fn verify_in<T: Threads + Wait + Sync, W: Write>(
         out,
     };
     let done = host.verify(&run.threading(), run.alloc, terms);
-    (done, host.out)
-}
-
-/// Verifies every file of the folder of target files, by the paths of their names.
-#[tactic(auto, using(crate::proofs::Doing::verifying_every))]
-pub fn verify_every_in<T: Threads + Wait + Sync, W: Write>(
-    run: &Runtime<'_, T>,
-    terms: &Terms<'_>,
-    folders: FolderPaths<'_>,
-    out: W,
-) -> (Result<u8, Failure>, W)
-    ensures known { IfOk result.0 (λ status. status ≤ 2) }
-    ensures verified { IfOk result.0 (IsEveryVerifiedOf terms.now
-        (W.contents out) (W.contents result.1)) }
-    ensures quiet { IfErr result.0 (λ f. f ≢ Failure.Memory → f ≢ Failure.Output
-        → W.contents result.1 ≡ W.contents out) }
-    ensures cause { IfErr result.0 (IsCauseOfVerify terms.now (W.contents out)) }
-{
-    let folders = match two_folders(run, folders) {
-        Ok(folders) => folders,
-        Err(error) => return (Err(Failure::from(error)), out),
-    };
-    let mut host = Host {
-        system: Machine::new(run.host),
-        folders,
-        out,
-    };
-    let done = host.verify_every(&run.threading(), run.alloc, terms);
     (done, host.out)
 }
 
@@ -114,17 +85,16 @@ pub(crate) fn two_folders<'a, T>(
 #[tactic(auto, using(crate::proofs::Doing::replaying))]
 pub fn replay_in<T: Threads + Wait + Sync, W: Write>(
     run: &Runtime<'_, T>,
-    terms: &Terms<'_>,
-    keep: usize,
+    cycles: &Cycles<'_>,
     repositories: &[String],
     out: W,
 ) -> (Result<u8, Failure>, W)
     ensures known { IfOk result.0 (λ status. status ≤ 2) }
-    ensures replayed { IfOk result.0 (IsReplayedOf terms.now (length repositories.now)
+    ensures replayed { IfOk result.0 (IsReplayedOf cycles.now (length repositories.now)
         (W.contents out) (W.contents result.1)) }
     ensures quiet { IfErr result.0 (λ f. f ≢ Failure.Memory → f ≢ Failure.Output
         → W.contents result.1 ≡ W.contents out) }
-    ensures cause { IfErr result.0 (IsCauseOfReplay terms.now keep (W.contents out)) }
+    ensures cause { IfErr result.0 (IsCauseOfReplay cycles.now (W.contents out)) }
 {
     let folders = match all_folders(run, repositories) {
         Ok(folders) => folders,
@@ -135,7 +105,7 @@ pub fn replay_in<T: Threads + Wait + Sync, W: Write>(
         folders,
         out,
     };
-    let done = host.replay(&run.threading(), run.alloc, terms, keep);
+    let done = host.replay(&run.threading(), run.alloc, cycles);
     (done, host.out)
 }
 

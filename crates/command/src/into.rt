@@ -1,8 +1,7 @@
 //! Repositories in folders of the file system, with copies of their good targets.
 
 ghost use Rattle.std.specs.Prelude.{◌≡◌, ◌≢◌, ◌≤◌, IfErr, IfOk};
-ghost use Rattle.command.specs.Done.{IsCauseOfVerify, IsCauseOfVerifyInto};
-ghost use Rattle.command.specs.Done.{IsEveryVerifiedIntoOf, IsVerifiedIntoOf};
+ghost use Rattle.command.specs.Done.{IsCauseOfVerifyInto, IsVerifiedIntoOf};
 
 use crate::folders::two_folders;
 use crate::runtime::{CountedFolders, Runtime};
@@ -42,36 +41,6 @@ pub fn verify_into_in<T: Threads + Wait + Sync, W: Write>(
         out,
     };
     let done = host.verify_into(&run.threading(), run.alloc, terms, &mut to);
-    (done, host.out)
-}
-
-/// Verifies every file of the folder of target files, by the paths of their names, and stores
-/// copies of the good ones below `into`.
-#[tactic(auto, using(crate::proofs::Doing::verifying_every_into))]
-pub fn verify_every_into_in<T: Threads + Wait + Sync, W: Write>(
-    run: &Runtime<'_, T>,
-    terms: &Terms<'_>,
-    folders: FolderPaths<'_>,
-    into: &str,
-    out: W,
-) -> (Result<u8, Failure>, W)
-    ensures known { IfOk result.0 (λ status. status ≤ 2) }
-    ensures verified { IfOk result.0 (IsEveryVerifiedIntoOf terms.now
-        (W.contents out) (W.contents result.1)) }
-    ensures quiet { IfErr result.0 (λ f. f ≢ Failure.Memory → f ≢ Failure.Output
-        → W.contents result.1 ≡ W.contents out) }
-    ensures cause { IfErr result.0 (IsCauseOfVerify terms.now (W.contents out)) }
-{
-    let (folders, mut to) = match three_folders(run, folders, into) {
-        Ok(all) => all,
-        Err(error) => return (Err(Failure::from(error)), out),
-    };
-    let mut host = Host {
-        system: Machine::new(run.host),
-        folders,
-        out,
-    };
-    let done = host.verify_every_into(&run.threading(), run.alloc, terms, &mut to);
     (done, host.out)
 }
 

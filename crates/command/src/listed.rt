@@ -1,5 +1,6 @@
 //! Wanted paths that a file lists.
 
+use crate::terms::all_of;
 use clap::ArgMatches;
 use failure::{Failure, of_io};
 use paths::read_list;
@@ -8,24 +9,25 @@ use std::io::Read;
 use system::Machine;
 use update::read_file;
 
-/// Adds the paths of the file that `--paths-from` names, in order. Fails with `Input` if the file
-/// can't be read, and with `Words` if a path in it is empty or isn't UTF-8.
-pub fn push_listed(
+/// Returns the paths that are arguments, and then those of the file that `--paths-from` names, in
+/// order. Fails with `Input` if the file can't be read, and with `Words` if a path in it is empty
+/// or isn't UTF-8.
+pub fn given_paths(
     rt: &HostRuntime,
     alloc: Global,
     words: &ArgMatches<'_>,
-    wanted: &mut Vec<String>,
-) -> Result<(), Failure> {
+) -> Result<Vec<String>, Failure> {
+    let mut paths = all_of(alloc, words, "PATH")?;
     let Some(file) = words.get_str("paths-from") else {
-        return Ok(());
+        return Ok(paths);
     };
     let list = bytes_of(rt, alloc, file)?;
     let mark = if words.get_flag("null") { 0 } else { b'\n' };
     let listed = read_list(alloc, list.as_slice(), mark)?;
     for path in listed.ok_or(Failure::Words)? {
-        wanted.push(path)?;
+        paths.push(path)?;
     }
-    Ok(())
+    Ok(paths)
 }
 
 /// Returns the bytes of the file; `-` is standard input, up to its end.

@@ -1,15 +1,15 @@
 //! Subcommands, read from the command line.
 
-use crate::listed::push_listed;
+use crate::listed::given_paths;
 use crate::subcommand::{FolderPaths, Subcommand};
-use crate::terms::{all_of, number, terms, wants, word};
+use crate::terms::{all_of, number, settings, wants, word};
 use clap::ArgMatches;
 use failure::Failure;
 use std::alloc::Global;
-use update::Terms;
+use update::{Cycles, Terms, Wanted};
 
 /// Returns the subcommand that the arguments name. Reads the file of `--paths-from`, if there is
-/// one. Fails with `Words` if an argument is missing, and as [`push_listed`] does.
+/// one. Fails with `Words` if an argument is missing, and as [`given_paths`] does.
 pub fn read_subcommand<'a>(
     rt: &HostRuntime,
     alloc: Global,
@@ -60,8 +60,7 @@ fn next_of<'a>(
     alloc: Global,
     words: &ArgMatches<'a>,
 ) -> Result<Subcommand<'a>, Failure> {
-    let mut wants = wants(alloc, words)?;
-    push_listed(rt, alloc, words, &mut wants.wanted)?;
+    let wants = wants(words, given_paths(rt, alloc, words)?)?;
     let folders = folder_paths(words)?;
     Ok(Subcommand::Next { wants, folders })
 }
@@ -71,10 +70,15 @@ fn replay_of<'a>(
     alloc: Global,
     words: &ArgMatches<'a>,
 ) -> Result<Subcommand<'a>, Failure> {
-    Ok(Subcommand::Replay {
-        terms: all_terms(rt, alloc, words)?,
+    let cycles = Cycles {
+        settings: settings(words)?,
+        wanted: given_paths(rt, alloc, words)?,
         keep: number(words, "keep")?,
-        repositories: all_of(alloc, words, "DIR")?,
+    };
+    let repositories = all_of(alloc, words, "DIR")?;
+    Ok(Subcommand::Replay {
+        cycles,
+        repositories,
     })
 }
 
@@ -83,22 +87,27 @@ fn verify_of<'a>(
     alloc: Global,
     words: &ArgMatches<'a>,
 ) -> Result<Subcommand<'a>, Failure> {
-    let terms = all_terms(rt, alloc, words)?;
+    let terms = Terms {
+        settings: settings(words)?,
+        wanted: wanted_of(rt, alloc, words)?,
+    };
     let folders = folder_paths(words)?;
-    Ok(match (words.get_flag("every"), into_of(words)?) {
-        (false, None) => Subcommand::Verify { terms, folders },
-        (true, None) => Subcommand::VerifyEvery { terms, folders },
-        (false, Some(into)) => Subcommand::VerifyInto {
-            terms,
-            folders,
-            into,
-        },
-        (true, Some(into)) => Subcommand::VerifyEveryInto {
+    Ok(match into_of(words)? {
+        None => Subcommand::Verify { terms, folders },
+        Some(into) => Subcommand::VerifyInto {
             terms,
             folders,
             into,
         },
     })
+}
+
+/// Returns what `verify` wants.
+fn wanted_of(rt: &HostRuntime, alloc: Global, words: &ArgMatches<'_>) -> Result<Wanted, Failure> {
+    if words.get_flag("every") {
+        return Ok(Wanted::Every);
+    }
+    Ok(Wanted::Paths(given_paths(rt, alloc, words)?))
 }
 
 /// Returns the two folders of a repository.
@@ -115,15 +124,4 @@ fn into_of<'a>(words: &ArgMatches<'a>) -> Result<Option<&'a str>, Failure> {
         Some("") => Err(Failure::Words),
         into => Ok(into),
     }
-}
-
-/// Returns what both `verify` and `replay` name, with the paths of the file of `--paths-from`.
-fn all_terms<'a>(
-    rt: &HostRuntime,
-    alloc: Global,
-    words: &ArgMatches<'a>,
-) -> Result<Terms<'a>, Failure> {
-    let mut terms = terms(alloc, words)?;
-    push_listed(rt, alloc, words, &mut terms.wanted)?;
-    Ok(terms)
 }

@@ -1,6 +1,6 @@
 //! The subcommands and their arguments.
 
-use update::{Terms, Wants};
+use update::{Cycles, Terms, Wants};
 
 /// The paths of a repository's two folders.
 #[derive(Clone, Copy)]
@@ -28,13 +28,6 @@ pub enum Subcommand<'a> {
         /// The folders.
         folders: FolderPaths<'a>,
     },
-    /// Verifies every file of the folder of target files, by the paths of their names.
-    VerifyEvery {
-        /// What the arguments name, without wanted paths.
-        terms: Terms<'a>,
-        /// The folders.
-        folders: FolderPaths<'a>,
-    },
     /// Verifies the repository of two folders, and stores copies of the good targets.
     VerifyInto {
         /// What the arguments name, with the paths that a file lists.
@@ -44,21 +37,10 @@ pub enum Subcommand<'a> {
         /// The path of the folder for the copies.
         into: &'a str,
     },
-    /// Verifies every file of the folder of target files, and stores copies of the good ones.
-    VerifyEveryInto {
-        /// What the arguments name, without wanted paths.
-        terms: Terms<'a>,
-        /// The folders.
-        folders: FolderPaths<'a>,
-        /// The path of the folder for the copies.
-        into: &'a str,
-    },
     /// Verifies repositories, one after another.
     Replay {
         /// What the arguments name, with the paths that a file lists.
-        terms: Terms<'a>,
-        /// The number of files in the signature cache, 1 to 4,096.
-        keep: usize,
+        cycles: Cycles<'a>,
         /// The path of each repository, with the folders `metadata` and `targets` in it.
         repositories: Vec<String>,
     },

@@ -4,27 +4,26 @@ use clap::ArgMatches;
 use failure::Failure;
 use needs::Place;
 use std::alloc::{AllocError, Global};
-use update::{Terms, Wants};
+use update::{Settings, Wants};
 
-/// Returns what the arguments of `verify` and of `replay` name.
-pub fn terms<'a>(alloc: Global, matches: &ArgMatches<'a>) -> Result<Terms<'a>, Failure> {
-    Ok(Terms {
+/// Returns what the arguments of both `verify` and `replay` name.
+pub fn settings<'a>(matches: &ArgMatches<'a>) -> Result<Settings<'a>, Failure> {
+    Ok(Settings {
         state: word(matches, "state")?,
         moment: matches.get_str("now"),
         limit: number(matches, "limit")?,
         workers: number(matches, "workers")?,
         out: word(matches, "out")?,
-        wanted: all_of(alloc, matches, "PATH")?,
     })
 }
 
-/// Returns what the arguments of `next` name.
-pub fn wants<'a>(alloc: Global, matches: &ArgMatches<'a>) -> Result<Wants<'a>, Failure> {
+/// Returns what the arguments of `next` name, with these wanted paths.
+pub fn wants<'a>(matches: &ArgMatches<'a>, wanted: Vec<String>) -> Result<Wants<'a>, Failure> {
     Ok(Wants {
         state: word(matches, "state")?,
         moment: matches.get_str("now"),
         limit: number(matches, "limit")?,
-        wanted: all_of(alloc, matches, "PATH")?,
+        wanted,
         only: matches.get_str("only").map(place_of),
     })
 }

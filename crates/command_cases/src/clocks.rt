@@ -3,7 +3,7 @@
 ghost use Rattle.std.specs.Prelude.{◌≡◌, ◌≤◌, ◌<◌, ◌⊎◌, ◌^◌, ◌-◌, true, IsErr, OnErr};
 ghost use Rattle.folder.specs.Folders.{HasFailed};
 
-use crate::shell::{NOW, Shell};
+use crate::shell::{NOW, Shell, push_words};
 use anyhow::{Context, Result};
 use cycle::{Moment, Open, Threading, Trusted};
 use failure::{Failure, tell_failure};
@@ -16,7 +16,7 @@ use std::thread::Threads;
 use std::time::Duration;
 use std::{fs, io};
 use system::{System, store, whole_seconds};
-use update::{Folders, Host, Start, moment};
+use update::{Folders, Host, Start, Wanted, moment};
 
 /// The files of a session beside a clock that shows one time since 1970, or that can't be read.
 #[derive(Clone, Copy, Drop)]
@@ -179,12 +179,14 @@ pub fn failing<T: Threads + Wait + Sync>(shell: &Shell<'_, T>, step: &Step) -> R
         alloc: shell.alloc,
         trusted: Trusted::from_root(shell.alloc, root.as_slice())?,
         moment: Moment::read(NOW).context("no moment")?,
-        wanted: step.words_behind(3),
         limit: 32,
         workers: 2,
         state: step.word(2)?,
     };
-    verified(shell, &start, failing_folders(shell, step)?)
+    let mut paths = Vec::new(shell.alloc);
+    push_words(&mut paths, step.words_behind(3))?;
+    let wanted = Wanted::Paths(paths);
+    verified(shell, &start, &wanted, failing_folders(shell, step)?)
 }
 
 /// Returns the folders whose calls fail after the numbers that the step gives.
@@ -203,13 +205,14 @@ fn failing_folders<'a, T>(
 }
 
 /// Returns the lines and the status of a verification of these folders, or of its failure.
-fn verified<'a, T: Threads + Wait + Sync>(
+fn verified<'a, 'b, T: Threads + Wait + Sync>(
     shell: &Shell<'a, T>,
-    start: &Start<'_>,
+    start: &'b Start<'_>,
+    wanted: &'b Wanted,
     folders: Folders<FailingFolder<'a>, FailingFolder<'a>>,
 ) -> Result<Output> {
     let mut output = Output::nothing(shell.alloc);
-    match verify(shell, start, folders, &mut output.out) {
+    match verify(shell, start, wanted, folders, &mut output.out) {
         Ok(status) => output.status = status,
         Err(failure) => {
             tell_failure(failure, &mut output.err)?;
@@ -220,9 +223,10 @@ fn verified<'a, T: Threads + Wait + Sync>(
 }
 
 /// Verifies the folders, beside a clock that can't be read.
-fn verify<'a, T: Threads + Wait + Sync>(
+fn verify<'a, 'b, T: Threads + Wait + Sync>(
     shell: &Shell<'a, T>,
-    start: &Start<'_>,
+    start: &'b Start<'_>,
+    wanted: &'b Wanted,
     folders: Folders<FailingFolder<'a>, FailingFolder<'a>>,
     out: &mut Vec<u8>,
 ) -> Result<u8, Failure> {
@@ -239,5 +243,5 @@ fn verify<'a, T: Threads + Wait + Sync>(
         rt: shell.threads,
         watch: &Open,
     };
-    host.verify_from(&threading, start)
+    host.verify_from(&threading, start, wanted)
 }

@@ -4,8 +4,8 @@ use Rattle.std.specs.List.{AllZip}
 use Rattle.failure.specs.declared.failure.Failure.{Failure}
 use Rattle.failure.specs.declared.failure.Failure.TheVariants as failure
 use Rattle.folder.specs.Folders.{HasFailed}
-use Rattle.update.specs.Causes.{AreWrong, AreWrongToKeep, IsCauseFrom, IsCauseToRead, SomeFailed}
-use Rattle.update.specs.Same.{IsCauseToClose, IsCauseToEnd, IsSame}
+use Rattle.update.specs.Causes.{IsCauseFrom, IsCauseToRead, SomeFailed}
+use Rattle.update.specs.Same.{IsCauseToEnd, IsSame}
 use Rattle.update.specs.World.{Mirror}
 
 -- ---- folders
@@ -34,43 +34,31 @@ same_read a b c failure.Clock h is = absurd is
 same_read a b c failure.Output h is = absurd is
 same_read a b c failure.Memory h is = tt
 
-pub same_close : (wrong : Type 0) (a b c : List Mirror) (f : Failure) → AllZip IsSame a b → IsCauseToClose wrong b c f → IsCauseToClose wrong a c f
-same_close wrong a b c failure.Words h is = is
-same_close wrong a b c failure.Now h is = is
-same_close wrong a b c failure.State h is = is
-same_close wrong a b c (failure.Script line) h is = is
-same_close wrong a b c failure.Input h is = is
-same_close wrong a b c failure.Folder h is = same_failed a b c h is
-same_close wrong a b c failure.Clock h is = is
-same_close wrong a b c failure.Output h is = is
-same_close wrong a b c failure.Memory h is = is
+pub read_from : (wrong : Type 0) (old new : List Mirror) (f : Failure) → IsCauseToRead old new f → IsCauseFrom wrong old new f
+read_from wrong old new failure.Words is = absurd is
+read_from wrong old new failure.Now is = is
+read_from wrong old new failure.State is = is
+read_from wrong old new (failure.Script line) is = is
+read_from wrong old new failure.Input is = is
+read_from wrong old new failure.Folder is = is
+read_from wrong old new failure.Clock is = is
+read_from wrong old new failure.Output is = absurd is
+read_from wrong old new failure.Memory is = is
 
 -- what holds of an error holds of a result that is this error
 pub carried : {A : Type 0} (P : Failure → Type 0) (r : Result A Failure) (e : Failure) → r ≡ Err e → P e → IfErr r P
 carried P r e is p = subst (λ r. IfErr r P) (sym is) p
 
--- ---- cycles
-
-pub closing : (limit workers keep : ℕ) (old new : List Mirror) (f : Failure) → IsCauseToClose (AreWrong limit workers) old new f → IsCauseFrom (AreWrongToKeep limit workers keep) old new f
-closing limit workers keep old new failure.Words is = inl is
-closing limit workers keep old new failure.Now is = is
-closing limit workers keep old new failure.State is = is
-closing limit workers keep old new (failure.Script line) is = is
-closing limit workers keep old new failure.Input is = is
-closing limit workers keep old new failure.Folder is = is
-closing limit workers keep old new failure.Clock is = is
-closing limit workers keep old new failure.Output is = absurd is
-closing limit workers keep old new failure.Memory is = is
+-- ---- target files
 
 -- a failure of one repository's target files, among all
-pub ending_one : (wrong : Type 0) (old new : List Mirror) (before after : ℕ) (f : Failure) → (HasFailed before after → SomeFailed old new)
-    → IsCauseToEnd ⊥ before after f → IsCauseToClose wrong old new f
-ending_one wrong old new before after failure.Words failed is = absurd is
-ending_one wrong old new before after failure.Now failed is = is
-ending_one wrong old new before after failure.State failed is = is
-ending_one wrong old new before after (failure.Script line) failed is = is
-ending_one wrong old new before after failure.Input failed is = is
-ending_one wrong old new before after failure.Folder failed is = failed is
-ending_one wrong old new before after failure.Clock failed is = is
-ending_one wrong old new before after failure.Output failed is = is
-ending_one wrong old new before after failure.Memory failed is = tt
+pub ending_one : (old new : List Mirror) (before after : ℕ) (f : Failure) → (HasFailed before after → SomeFailed old new) → IsCauseToEnd before after f → IsCauseToRead old new f
+ending_one old new before after failure.Words failed is = is
+ending_one old new before after failure.Now failed is = is
+ending_one old new before after failure.State failed is = is
+ending_one old new before after (failure.Script line) failed is = is
+ending_one old new before after failure.Input failed is = is
+ending_one old new before after failure.Folder failed is = failed is
+ending_one old new before after failure.Clock failed is = is
+ending_one old new before after failure.Output failed is = is
+ending_one old new before after failure.Memory failed is = tt

@@ -1,5 +1,5 @@
 -- Copies that are stored one after another.
-use Rattle.std.proofs.Common.{◌≡◌, ◌≢◌, ◌∙◌, ◌<◌, ◌≤◌, ◌+◌, ◌⊎◌, inl, inr, ℕ, zero, suc, Bool, true, false, ◌||◌, if◌then◌else◌, List, [], ◌∷◌, ◌++◌, length, drop, take, Option, None, Some, IfSome, IsSomeAnd, Result, Ok, Err, IfOk, OnErr, Bor, get_or, option_map, string_bytes, map, bytes_eq, refl, sym, ap, subst, arith, add-one, append-nil, append_assoc}
+use Rattle.std.proofs.Common.{◌≡◌, ◌≢◌, ◌∙◌, ◌<◌, ◌≤◌, ◌+◌, ℕ, zero, suc, Bool, true, false, ◌||◌, if◌then◌else◌, List, [], ◌∷◌, ◌++◌, length, drop, take, Option, None, Some, IfSome, IsSomeAnd, Bor, get_or, option_map, string_bytes, map, bytes_eq, refl, sym, ap, subst, arith, add-one, append-nil, append_assoc}
 use Rattle.std.proofs.Math.Seq.{take-append_seam, take-length}
 use Rattle.std.proofs.lemmas.List.{drop_all, length-map}
 use Rattle.std.proofs.lemmas.List.Folds.{list_any-append}
@@ -10,25 +10,14 @@ use Rattle.std.specs.Prelude.{String}
 use Rattle.std.proofs.lemmas.Option.{slice_get-get_or, slice_get-map, slice_get_read}
 use Rattle.std.proofs.lemmas.Map.Text.{text_keys}
 use Rattle.copies.specs.Paths.{IsSameAt, is_below}
-use Rattle.cycle.specs.Workflow.{Course, Files, Outcome, Request, Target, searched, target_of}
+use Rattle.cycle.specs.Workflow.{Course, Files, Request, Target, searched, target_of}
 use Rattle.cycle.specs.Workflow.{course as course_of}
-use Rattle.measured.specs.Closed.{IsClosed}
 use Rattle.measured.specs.Copied as course
 use Rattle.cycle.specs.declared.verdict.Verdict.{Verdict}
 use Rattle.folder.specs.Seen.{is_named}
 use Rattle.measured.specs.Copied.{HasContentOf}
 use Rattle.report.specs.Lines.{is_good}
-use Rattle.examine.specs.Checks.{file_in}
-use Rattle.paths.specs.Names.{ArePathsOf}
-use Rattle.rolechain.specs.Advance.{advanced}
-use Rattle.update.specs.Every.{IsEveryStoredOn}
-use Rattle.update.specs.Copies.{AreBegun, AreCopied, AreFirstCopied, IsCopied, IsEnded, IsEveryKept, IsEveryKeptOn, IsEveryVerifiedInto, IsEveryVerifiedIntoFrom, IsKept, IsToldInto, IsVerifiedInto, IsVerifiedIntoFrom, Kept, good_paths, target_for}
-use Rattle.update.specs.Runs.{AreMetadata, IsMomentOf, IsOutcomeOn, IsRead, IsTold, Loaded, Moment, State, moment_text, start_from, start_of, state_text}
-use Rattle.update.specs.Same.{IsSame}
-use Rattle.update.specs.World.{IsUntouched, Mirror, World}
-use Rattle.update.specs.declared.start.Start as program
-use Rattle.update.specs.declared.start.Terms.{Terms}
-use Rattle.update.proofs.Storing.{closed_outcome, outcome_on}
+use Rattle.update.specs.Copies.{AreCopied, AreFirstCopied, IsCopied, Kept, good_paths, target_for}
 use Rattle.update.specs.Stored.{HasPaths, IsCopyFor, is_good_at}
 
 -- ---- one path more
@@ -238,215 +227,14 @@ copies_for target took [] search (p ∷ w) h = absurd h
 copies_for target took (c ∷ copies) search [] h = absurd h
 copies_for target took (c ∷ copies) search (p ∷ w) h = (h.0, copies_for target took copies search w h.1)
 
-same_limit : (s : Request) (metadata : Files) (most : ℕ) (c : Course) → c ≡ course_of (record s { limit = most }) metadata → most ≡ s.limit → c ≡ course_of s metadata
-same_limit s metadata most c is limit = is ∙ ap (λ n. course_of (record s { limit = n }) metadata) limit
+-- there is a copy for each path of a course, if there is one for a target
+pub copies_of : {K : Type 0} (took : K → List ℕ → Bool) (copies : List (Option K)) (r : Request) (metadata : Files) (c : Course) → c ≡ course_of r metadata
+    → course.AreCopiesFor took copies c.searches → AllZip (IsCopyFor took) copies (map (target_for r metadata) r.wanted)
+copies_of took copies r metadata c is h =
+    let now = course_of r metadata in
+    copies_for target_of took copies (searched metadata r.moment r.limit now.trusted now.end) r.wanted
+    (subst (λ (k : Course). course.AreCopiesFor took copies k.searches) is h)
 
-pub copies_in : {A E K : Type 0} (took : K → List ℕ → Bool) (items : A → List (Option K)) (s : Request) (metadata : Files) (most : ℕ) (c : Course) (r : Result A E)
-    → c ≡ course_of (record s { limit = most }) metadata → most ≡ s.limit → IfOk r (λ x. course.AreCopiesFor took (items x) c.searches)
-    → IfOk r (λ x. AllZip (IsCopyFor took) (items x) (map (target_for s metadata) s.wanted))
-copies_in took items s metadata most c (Ok x) is limit h =
-    let now = course_of s metadata in
-    copies_for target_of took (items x) (searched metadata s.moment s.limit now.trusted now.end) s.wanted
-    (subst (λ (k : Course). course.AreCopiesFor took (items x) k.searches) (same_limit s metadata most c is limit) h)
-copies_in took items s metadata most c (Err e) is limit h = tt
-
-pub outcome_in : {A E : Type 0} (out : A → Outcome) (lists : List (List ℕ) → Bool) (holds : List ℕ → List ℕ → Bool) (s : Request) (metadata : Files) (most : ℕ) (c : Course) (r : Result A E)
-    → c ≡ course_of (record s { limit = most }) metadata → most ≡ s.limit → IfOk r (λ x. IsClosed lists holds c (out x)) → IfOk r (λ x. IsOutcomeOn lists holds s metadata (out x))
-outcome_in {A} {E} out lists holds s metadata most c (Ok x) is limit h = closed_outcome {E = E} lists holds s metadata most c (Ok (out x)) is limit h
-outcome_in out lists holds s metadata most c (Err e) is limit h = tt
-
--- ---- what a verification stored and printed
-
-module _ {E : Type 0} (m : Mirror) (s : Request) (files : Files) (keeps : List ℕ → Bool) (o : Outcome) (r : Result ℕ E) (before after : Kept)
-    (of_workflow : IsOutcomeOn m.targets.lists m.targets.holds s files o) (kept : keeps (state_text o.trusted) ≡ true) where
-  pub told_into : (old new : World) → AreCopied (target_for s files) (good_paths s.wanted o.verdicts) before after
-      → IfOk r (λ status. IsTold o s.wanted status old.printed new.printed) → IfOk r (λ status. IsEnded m s files keeps (IsToldInto old new before after status s files))
-  told_into old new copied told = with_status r told
-    where
-      with_status : (r : Result ℕ E) → IfOk r (λ status. IsTold o s.wanted status old.printed new.printed) → IfOk r (λ status. IsEnded m s files keeps (IsToldInto old new before after status s files))
-      with_status (Ok status) t = record { outcome = o; of_workflow = of_workflow; kept = kept; more = record { told = t; copied = copied } }
-      with_status (Err e) t = tt
-
-  begun_first : AreFirstCopied (target_for s files) (good_paths s.wanted o.verdicts) before after → IsEnded m s files keeps (AreBegun before after s files)
-  begun_first first = record { outcome = o; of_workflow = of_workflow; kept = kept; more = first }
-
-  -- if the copies or the lines fail
-  pub begun_into : (untouched : Type 0) → OnErr r (AreFirstCopied (target_for s files) (good_paths s.wanted o.verdicts) before after)
-      → OnErr r (untouched ⊎ IsEnded m s files keeps (AreBegun before after s files))
-  begun_into untouched first = by r first
-    where
-      by : (r : Result ℕ E) → OnErr r (AreFirstCopied (target_for s files) (good_paths s.wanted o.verdicts) before after)
-          → OnErr r (untouched ⊎ IsEnded m s files keeps (AreBegun before after s files))
-      by (Ok x) f = tt
-      by (Err e) f = inr (begun_first f)
-
-pub all_first : {A E : Type 0} (found : List ℕ → Option Target) (paths : List (List ℕ)) (before after : Kept) (r : Result A E) → AreCopied found paths before after
-    → OnErr r (AreFirstCopied found paths before after)
-all_first found paths before after (Ok x) h = tt
-all_first found paths before after (Err e) h = (length paths, subst (λ l. AreCopied found l before after) (sym (take-length paths)) h)
-
--- ---- the same, seen from the worlds before
-
-pub map_ok : {A E : Type 0} (P Q : A → Type 0) (r : Result A E) → ((x : A) → P x → Q x) → IfOk r P → IfOk r Q
-map_ok P Q (Ok x) f h = f x h
-map_ok P Q (Err e) f h = tt
-
-pub map_err : {A E : Type 0} (P Q : Type 0) (r : Result A E) → (P → Q) → OnErr r P → OnErr r Q
-map_err P Q (Ok x) f h = tt
-map_err P Q (Err e) f h = f h
-
-pub either : {A B C D : Type 0} → (A → C) → (B → D) → A ⊎ B → C ⊎ D
-either f g (inl a) = inl (f a)
-either f g (inr b) = inr (g b)
-
-pub told_before : (old mid new : World) (b a later : Kept) (status : ℕ) (s : Request) (files : Files) (o : Outcome) → mid.printed ≡ old.printed → later ≡ a
-    → IsToldInto mid new b a status s files o → IsToldInto old new b later status s files o
-told_before old mid new b a later status s files o printed same h = record {
-  told = subst (λ p. IsTold o s.wanted status p new.printed) printed h.told;
-  copied = subst (AreCopied (target_for s files) (good_paths s.wanted o.verdicts) b) (sym same) h.copied;
-}
-
-pub begun_before : (b a later : Kept) (s : Request) (files : Files) (o : Outcome) → later ≡ a → AreBegun b a s files o → AreBegun b later s files o
-begun_before b a later s files o same h = (h.0, subst (AreCopied (target_for s files) (take h.0 (good_paths s.wanted o.verdicts)) b) (sym same) h.1)
-
-kept_map : (ms : List Mirror) (s : Request) (keeps : List ℕ → Bool) (F G : Files → Outcome → Type 0) → ((files : Files) (o : Outcome) → F files o → G files o)
-    → IsKept ms s keeps F → IsKept ms s keeps G
-kept_map [] s keeps F G f h = absurd h
-kept_map (m ∷ []) s keeps F G f h = record {
-  metadata = h.metadata;
-  in_metadata = h.in_metadata;
-  ended = record { outcome = h.ended.outcome; of_workflow = h.ended.of_workflow; kept = h.ended.kept; more = f _ _ h.ended.more };
-}
-kept_map (m ∷ n ∷ ms) s keeps F G f h = absurd h
-
-every_map : (ms : List Mirror) (trusted : State) (moment : Moment) (limit : ℕ) (keeps : List ℕ → Bool) (F G : Request → Files → Outcome → Type 0)
-    → ((s : Request) (files : Files) (o : Outcome) → F s files o → G s files o) → IsEveryKept ms trusted moment limit keeps F → IsEveryKept ms trusted moment limit keeps G
-every_map [] trusted moment limit keeps F G f h = absurd h
-every_map (m ∷ []) trusted moment limit keeps F G f h = record {
-  names = h.names;
-  listed = h.listed;
-  start = h.start;
-  begins = h.begins;
-  kept = kept_map (m ∷ []) h.start keeps _ _ (λ files o both. (both.0, f h.start files o both.1)) h.kept;
-}
-every_map (m ∷ n ∷ ms) trusted moment limit keeps F G f h = absurd h
-
-pub verified_from : {E : Type 0} (r : Result ℕ E) (terms : Terms) (p : program.Start) (old mid new : World) (b a : Kept) → IsRead (old.gives_locked terms.state.now) p.trusted
-    → IsMomentOf old.shows (moment_text terms) p.moment → start_of p ≡ start_from terms p.trusted p.moment → p.state.now ≡ terms.out.now → IsUntouched old mid → mid.mirrors ≡ old.mirrors
-    → IfOk r (IsVerifiedIntoFrom p mid new b a) → IfOk r (IsVerifiedInto terms old new b a)
-verified_from (Err e) terms p old mid new b a read moment start place untouched mirrors h = tt
-verified_from (Ok status) terms p old mid new b a read moment start place untouched mirrors h = record {
-  trusted = p.trusted;
-  moment = p.moment;
-  read = read;
-  of_moment = moment;
-  then =
-      let s = start_from terms p.trusted p.moment in
-      kept_map old.mirrors s (new.keeps terms.out.now) _ _ (λ files o. told_before old mid new b a a status s files o untouched.1 refl)
-      (subst (λ ms. IsKept ms s (new.keeps terms.out.now) (IsToldInto mid new b a status s)) mirrors
-      (subst (λ k. IsKept mid.mirrors s (new.keeps k) (IsToldInto mid new b a status s)) place
-      (subst (λ t. IsKept mid.mirrors t (new.keeps p.state.now) (IsToldInto mid new b a status t)) start h)));
-}
-
-pub every_verified_from : {E : Type 0} (r : Result ℕ E) (terms : Terms) (p : program.Start) (old mid new : World) (b a : Kept) → IsRead (old.gives_locked terms.state.now) p.trusted
-    → IsMomentOf old.shows (moment_text terms) p.moment → p.limit ≡ terms.limit → p.state.now ≡ terms.out.now → IsUntouched old mid → mid.mirrors ≡ old.mirrors
-    → IfOk r (IsEveryVerifiedIntoFrom p mid new b a) → IfOk r (IsEveryVerifiedInto terms old new b a)
-every_verified_from (Err e) terms p old mid new b a read moment limit place untouched mirrors h = tt
-every_verified_from (Ok status) terms p old mid new b a read moment limit place untouched mirrors h = record {
-  trusted = p.trusted;
-  moment = p.moment;
-  read = read;
-  of_moment = moment;
-  then =
-      every_map old.mirrors p.trusted p.moment terms.limit (new.keeps terms.out.now) _ _ (λ s files o. told_before old mid new b a a status s files o untouched.1 refl)
-      (subst (λ ms. IsEveryKept ms p.trusted p.moment terms.limit (new.keeps terms.out.now) (IsToldInto mid new b a status)) mirrors
-      (subst (λ k. IsEveryKept mid.mirrors p.trusted p.moment terms.limit (new.keeps k) (IsToldInto mid new b a status)) place
-      (subst (λ l. IsEveryKept mid.mirrors p.trusted p.moment l (new.keeps p.state.now) (IsToldInto mid new b a status)) limit h)));
-}
-
--- ---- every path
-
-state_of : (s : Request) (metadata : Files) (lists : List (List ℕ) → Bool) (holds : List ℕ → List ℕ → Bool) (o : Outcome) → IsOutcomeOn lists holds s metadata o
-    → o.trusted ≡ (course_of s metadata).trusted
-state_of s metadata lists holds o h =
-    ap (λ (x : Outcome). x.trusted) (h.of_files.outcome (record { metadata = metadata; targets = h.of_files.files }) (λ name. refl) h.of_files.are_seen)
-
-pub every_kept : (m n : Mirror) (p q : program.Start) (metadata : Loaded) (names : List (List ℕ)) (keeps : List ℕ → Bool) (F : Outcome → Type 0) (G : Request → Files → Outcome → Type 0)
-    → IsSame m n → AreMetadata m.metadata.lists m.metadata.holds metadata → m.targets.lists names ≡ true → q.trusted ≡ p.trusted → q.moment ≡ p.moment → q.limit ≡ p.limit
-    → ArePathsOf (advanced (file_in metadata) p.moment p.trusted).state.root.reading.consistent names (start_of q).wanted
-    → ((o : Outcome) → F o → G (start_of q) (file_in metadata) o) → IsEnded n (start_of q) (file_in metadata) keeps F → IsEveryKeptOn m p.trusted p.moment p.limit keeps G
-every_kept m n p q metadata names keeps F G same loaded listed trusted moment limit paths f h =
-    let files = file_in metadata in
-    let w : List (List ℕ) = (start_of q).wanted in
-    let at : State → Moment → ℕ → Request = λ t x l. record { trusted = t; moment = x; wanted = w; limit = l } in
-    let state : h.outcome.trusted ≡ (advanced files p.moment p.trusted).state =
-    state_of (start_of q) files n.targets.lists n.targets.holds h.outcome h.of_workflow
-    ∙ ap (λ t. (advanced files q.moment t).state) trusted ∙ ap (λ x. (advanced files x p.trusted).state) moment in
-    record {
-      names = names;
-      listed = listed;
-      start = start_of q;
-      begins = ap (λ t. at t q.moment q.limit) trusted ∙ ap (λ x. at p.trusted x q.limit) moment ∙ ap (at p.trusted p.moment) limit;
-      kept = record {
-        metadata = metadata;
-        in_metadata = loaded;
-        ended = record {
-          outcome = h.outcome;
-          of_workflow = outcome_on n.targets.lists m.targets.lists n.targets.holds m.targets.holds (start_of q) files h.outcome same.targets.lists same.targets.holds h.of_workflow;
-          kept = h.kept;
-          more = (subst (λ (t : State). ArePathsOf t.root.reading.consistent names w) (sym state) paths, f h.outcome h.more);
-        };
-      };
-    }
-
--- ---- worlds, written out
-
-abbrev pub mirror_of : {M T : Type 0} → (M → List (List ℕ) → Bool) → (M → List ℕ → List ℕ → Bool) → (M → ℕ) → (T → List (List ℕ) → Bool) → (T → List ℕ → List ℕ → Bool) → (T → ℕ)
-    → M → T → Mirror
-mirror_of ml mh mf tl th tf m t = record {
-  metadata = record { lists = ml m; holds = mh m; failures = mf m };
-  targets = record { lists = tl t; holds = th t; failures = tf t };
-}
-
-abbrev pub world_of : {S W : Type 0} → (S → List ℕ → List ℕ → Bool) → (S → List ℕ → List ℕ → Bool) → (S → List ℕ → Bool) → (S → List ℕ → Bool) → (S → ℕ → Bool)
-    → (S → List ℕ → List ℕ → Bool) → (W → Option (List ℕ)) → S → Mirror → W → World
-world_of gives gives_locked refuses locks shows keeps contents s m w = record {
-  gives = gives s;
-  gives_locked = gives_locked s;
-  refuses = refuses s;
-  locks = locks s;
-  shows = shows s;
-  keeps = keeps s;
-  mirrors = m ∷ [];
-  printed = contents w;
-}
-
--- the same without copies: its new state is stored, and more holds of its outcome
-pub every_stored : (m n : Mirror) (p q : program.Start) (metadata : Loaded) (names : List (List ℕ)) (keeps : List ℕ → Bool) (o : Outcome) (F : List (List ℕ) → Outcome → Type 0)
-    → IsSame m n → AreMetadata m.metadata.lists m.metadata.holds metadata → m.targets.lists names ≡ true → q.trusted ≡ p.trusted → q.moment ≡ p.moment → q.limit ≡ p.limit
-    → ArePathsOf (advanced (file_in metadata) p.moment p.trusted).state.root.reading.consistent names (start_of q).wanted
-    → IsOutcomeOn n.targets.lists n.targets.holds (start_of q) (file_in metadata) o → keeps (state_text o.trusted) ≡ true → F (start_of q).wanted o
-    → IsEveryStoredOn m p.trusted p.moment p.limit keeps F
-every_stored m n p q metadata names keeps o F same loaded listed trusted moment limit paths h kept follows =
-    let files = file_in metadata in
-    let w : List (List ℕ) = (start_of q).wanted in
-    let at : State → Moment → ℕ → Request = λ t x l. record { trusted = t; moment = x; wanted = w; limit = l } in
-    let begins : start_of q ≡ at p.trusted p.moment p.limit =
-    ap (λ t. at t q.moment q.limit) trusted ∙ ap (λ x. at p.trusted x q.limit) moment ∙ ap (at p.trusted p.moment) limit in
-    let state : o.trusted ≡ (advanced files p.moment p.trusted).state =
-    state_of (start_of q) files n.targets.lists n.targets.holds o h
-    ∙ ap (λ t. (advanced files q.moment t).state) trusted ∙ ap (λ x. (advanced files x p.trusted).state) moment in
-    record {
-      names = names;
-      listed = listed;
-      wanted = w;
-      stored = record {
-        metadata = metadata;
-        in_metadata = loaded;
-        outcome = o;
-        of_workflow = subst (λ (s : Request). IsOutcomeOn m.targets.lists m.targets.holds s files o) begins
-            (outcome_on n.targets.lists m.targets.lists n.targets.holds m.targets.holds (start_of q) files o same.targets.lists same.targets.holds h);
-        kept = kept;
-        then = (subst (λ (t : State). ArePathsOf t.root.reading.consistent names w) (sym state) paths, follows);
-      };
-    }
+-- all of them are the first so many
+pub all_first : (found : List ℕ → Option Target) (paths : List (List ℕ)) (before after : Kept) → AreCopied found paths before after → AreFirstCopied found paths before after
+all_first found paths before after h = (length paths, subst (λ l. AreCopied found l before after) (sym (take-length paths)) h)

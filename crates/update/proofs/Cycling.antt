@@ -1,12 +1,12 @@
 -- The outcomes of cycles, one after the other.
-use Rattle.std.proofs.Common.{◌≡◌, ◌∙◌, ◌⊎◌, inl, inr, Result, Ok, Err, IfOk, OnErr, OnOk, List, [], ◌∷◌, ◌++◌, ℕ, Bool, true, ◌+◌, ap, length, length-append, refl, subst, sym}
-use Rattle.std.specs.Bool.{⊤}
+use Rattle.std.proofs.Common.{◌≡◌, ◌∙◌, Global, Result, Ok, Err, IfOk, List, [], ◌∷◌, ◌++◌, ℕ, Bool, Option, String, true, ◌+◌, ap, length, length-append, map, refl, string_bytes, subst, sym}
 use Rattle.std.specs.List.{AllZip}
 use Rattle.examine.specs.Checks.{file_in}
-use Rattle.update.specs.Cycles.{AreOutcomesIn, AreOutcomesOn, AreStored, Contents, MayGive, after, from_state, last_state}
+use Rattle.update.specs.Cycles.{AreOutcomesIn, AreOutcomesOn, AreStored, AreTold, Contents, MayGive, after, first_of, from_state, last_state}
 use Rattle.update.specs.Runs.{AreMetadata, MayBeSeen, IsOutcomeIn, IsOutcomeOn, Loaded, Outcome, Request, State, state_text}
 use Rattle.update.specs.Same.{IsSame}
 use Rattle.update.specs.World.{Mirror}
+use Rattle.update.specs.declared.start.Start as program
 
 -- lists that fit fit with one more element each
 pub all_zip_push : {A B : Type 0} (R : A → B → Type 0) (xs : List A) (ys : List B) (x : A) (y : B)
@@ -50,26 +50,24 @@ counted_more xs ys x y is = length-append xs (x ∷ []) ∙ ap (λ n. n + 1) is 
 pub none_yet : (s : Request) (os : List Outcome) → os ≡ [] → AreOutcomesOn [] s os
 none_yet s os is = subst (AreOutcomesOn [] s) (sym is) (record { contents = []; given = tt; of_workflow = tt })
 
--- ---- the state after the cycles
+-- ---- the state after the cycles, with the wanted paths by another name
 
-module _ (ms : List Mirror) (start : Request) (keeps : List ℕ → Bool) (os : List Outcome) where
+module _ (ms : List Mirror) (s : program.Start) (paths wanted : List (String Global)) (keeps : List ℕ → Bool) (os : List Outcome) (same : paths ≡ wanted)
+    (are : AreOutcomesOn ms (first_of s paths) os) (kept : keeps (state_text (last_state (first_of s paths) os)) ≡ true) where
   -- it is stored, and more holds of the outcomes
-  pub replayed : (P : List Outcome → Type 0) → AreOutcomesOn ms start os → keeps (state_text (last_state start os)) ≡ true → P os
-      → AreStored ms start keeps P
-  replayed P are kept then = record { outcomes = os; of_cycles = are; kept = kept; then = then }
+  pub replayed : (P : List Outcome → Type 0) → P os → AreStored ms (first_of s wanted) keeps P
+  replayed P then = record {
+    outcomes = os;
+    of_cycles = subst (λ (l : List (String Global)). AreOutcomesOn ms (first_of s l) os) same are;
+    kept = subst (λ (l : List (String Global)). keeps (state_text (last_state (first_of s l) os)) ≡ true) same kept;
+    then = then;
+  }
 
-  pub replayed_answer : {E : Type 0} (P : List Outcome → ℕ → Type 0) (r : Result ℕ E) → AreOutcomesOn ms start os
-      → OnOk r (keeps (state_text (last_state start os)) ≡ true) → IfOk r (P os)
-      → IfOk r (λ status. AreStored ms start keeps (λ os. P os status))
-  replayed_answer P (Ok status) are kept then = replayed _ are kept then
-  replayed_answer P (Err e) are kept then = tt
-
-  pub replayed_failure : {E : Type 0} (Q : Type 0) (r : Result ℕ E) → AreOutcomesOn ms start os
-      → OnErr r (Q ⊎ (keeps (state_text (last_state start os)) ≡ true))
-      → OnErr r (Q ⊎ AreStored ms start keeps (λ _. ⊤))
-  replayed_failure Q (Ok status) are h = tt
-  replayed_failure Q (Err e) are (inl same) = inl same
-  replayed_failure Q (Err e) are (inr kept) = inr (replayed _ are kept tt)
+  -- and their lines were printed
+  pub replayed_told : {E : Type 0} (old new : Option (List ℕ)) (r : Result ℕ E) → IfOk r (λ status. AreTold os (map string_bytes paths) status old new)
+      → IfOk r (λ status. AreStored ms (first_of s wanted) keeps (λ os. AreTold os (map string_bytes wanted) status old new))
+  replayed_told old new (Ok status) told = replayed _ (subst (λ (l : List (String Global)). AreTold os (map string_bytes l) status old new) same told)
+  replayed_told old new (Err e) told = tt
 
 -- ---- folders that stay what they were
 

@@ -1,15 +1,11 @@
 -- What a verification stores, out of what its steps did.
-use Rattle.std.proofs.Common.{◌≡◌, ◌∙◌, ap, Result, Ok, Err, IfOk, IfSome, OnErr, OnOk, List, ℕ, Bool, true, subst, sym}
+use Rattle.std.proofs.Common.{◌≡◌, ◌∙◌, ap, Result, Ok, Err, IfOk, IfSome, OnErr, List, ℕ, Bool, true, subst, sym}
 use Rattle.cycle.specs.Workflow.{Course, Files, Outcome, closed_course, course}
 use Rattle.measured.specs.Closed.{IsClosed, is_found}
 use Rattle.cycle.proofs.Looking.{same_course}
 use Rattle.update.specs.Runs.{IsOutcomeOn, Request}
 
--- what holds anyway holds after an answer, and after a failure
-pub after_answer : {A E : Type 0} {P : Type 0} (r : Result A E) → P → OnOk r P
-after_answer (Ok x) p = p
-after_answer (Err e) p = tt
-
+-- what holds anyway holds after a failure
 pub after_failure : {A E : Type 0} {P : Type 0} (r : Result A E) → P → OnErr r P
 after_failure (Ok x) p = tt
 after_failure (Err e) p = p

@@ -1,6 +1,6 @@
 -- Why a run fails.
 use Rattle.std.specs.Bool.{⊤}
-use Rattle.std.specs.Prelude.{◌≡◌, ◌<◌, ◌⊎◌, ℕ, List, Bool, true, Err, ◌∷◌}
+use Rattle.std.specs.Prelude.{◌≡◌, ◌<◌, ◌⊎◌, ℕ, List, Bool, true, Option, Err, ◌∷◌}
 use Rattle.failure.specs.declared.failure.Failure.{Failure}
 use Rattle.failure.specs.declared.failure.Failure.TheVariants.{Words, Now, State, Input, Folder, Clock, Output, Memory}
 use Rattle.folder.specs.Folders.{HasFailed}
@@ -10,6 +10,7 @@ use Rattle.update.specs.Moments.{IsMomentOf, IsNoMoment, Moment}
 use Rattle.update.specs.Runs.{Begins, moment_text}
 pub use Rattle.update.specs.World.{Mirror, World}
 use Rattle.update.specs.declared.replaying.Cycles.{Cycles}
+use Rattle.update.specs.declared.start.Settings.{Settings}
 use Rattle.update.specs.declared.start.Start as program
 use Rattle.update.specs.declared.start.Terms.{Terms}
 
@@ -39,20 +40,21 @@ IsNoState gives is_refused = (is_refused ≡ true)
     ⊎ ((text : List ℕ) × (fault : StateFault) × ((gives text ≡ true) × (state_of text ≡ Err fault)))
 
 -- the moment was read, and the state can't be
-pub record HasNoState (terms : Terms) (old : World) : Type 0 where
+pub record HasNoState (text : Option (List ℕ)) (shows : ℕ → Bool) (gives : List ℕ → Bool)
+    (is_refused : Bool) : Type 0 where
   pub moment : Moment
-  pub of_moment : IsMomentOf old.shows (moment_text terms) moment
-  pub no_state : IsNoState (old.gives_locked terms.state.now) (old.refuses terms.state.now)
+  pub of_moment : IsMomentOf shows text moment
+  pub no_state : IsNoState gives is_refused
 
 -- # The cause of each failure. Any run may run out of memory, or not be able to write.
 
--- of reading the moment and the state that the words name
-abbrev pub IsCauseToBegin : Terms → World → Failure → Type 0
-IsCauseToBegin terms old Now = IsNoMoment (moment_text terms) Now
-IsCauseToBegin terms old Clock = IsNoMoment (moment_text terms) Clock
-IsCauseToBegin terms old State = HasNoState terms old
-IsCauseToBegin terms old Memory = ⊤
-IsCauseToBegin terms old _ = ⊥
+-- of reading the moment, and then the state
+abbrev pub IsCauseToBegin : Option (List ℕ) → (ℕ → Bool) → (List ℕ → Bool) → Bool → Failure → Type 0
+IsCauseToBegin text shows gives is_refused Now = IsNoMoment text Now
+IsCauseToBegin text shows gives is_refused Clock = IsNoMoment text Clock
+IsCauseToBegin text shows gives is_refused State = HasNoState text shows gives is_refused
+IsCauseToBegin text shows gives is_refused Memory = ⊤
+IsCauseToBegin text shows gives is_refused _ = ⊥
 
 -- of reading folders
 abbrev pub IsCauseToRead : List Mirror → List Mirror → Failure → Type 0
@@ -67,10 +69,11 @@ IsCauseFrom wrong old new Output = ⊤
 IsCauseFrom wrong old new f = IsCauseToRead old new f
 
 -- of a run from the state and the moment that the words name, which are read first
-abbrev pub IsCause : Type 0 → Terms → World → World → Failure → Type 0
-IsCause wrong terms old new f =
-    IsCauseToBegin terms old f
-    ⊎ Begins terms old (λ _ _. IsCauseFrom wrong old.mirrors new.mirrors f)
+abbrev pub IsCause : (program.Start → Type 0) → Settings → World → World → Failure → Type 0
+IsCause wrong settings old new f =
+    IsCauseToBegin (moment_text settings) old.shows (old.gives_locked settings.state.now)
+    (old.refuses settings.state.now) f
+    ⊎ Begins settings old (λ s. IsCauseFrom (wrong s) old.mirrors new.mirrors f)
 
 -- ---- verifications, and cycles one after the other
 
@@ -78,15 +81,10 @@ abbrev pub IsCauseToVerifyFrom : program.Start → World → World → Failure �
 IsCauseToVerifyFrom s old new = IsCauseFrom (AreWrong s.limit s.workers) old.mirrors new.mirrors
 
 abbrev pub IsCauseToVerify : Terms → World → World → Failure → Type 0
-IsCauseToVerify terms old new = IsCause (AreWrong terms.limit terms.workers) terms old new
+IsCauseToVerify terms = IsCause (λ s. AreWrong s.limit s.workers) terms.settings
 
-abbrev pub IsCauseToReplayFrom : Cycles → World → World → Failure → Type 0
-IsCauseToReplayFrom c old new =
-    IsCauseFrom (AreWrongToKeep c.start.limit c.start.workers c.keep) old.mirrors new.mirrors
-
-abbrev pub IsCauseToReplay : Terms → ℕ → World → World → Failure → Type 0
-IsCauseToReplay terms keep old new =
-    IsCause (AreWrongToKeep terms.limit terms.workers keep) terms old new
+abbrev pub IsCauseToReplay : Cycles → World → World → Failure → Type 0
+IsCauseToReplay c = IsCause (λ s. AreWrongToKeep s.limit s.workers c.keep) c.settings
 
 -- ---- a first root
 

@@ -2,11 +2,12 @@
 use Rattle.std.specs.List.{AllZip}
 use Rattle.std.specs.Bool.{⊤}
 use Rattle.std.specs.Io.KnownBytes.{Appends}
-use Rattle.std.specs.Prelude.{◌≡◌, ◌⊎◌, ℕ, List, Bool, true, Option, map, string_bytes, [], ◌∷◌}
+use Rattle.std.specs.Prelude.{◌≡◌, ◌⊎◌, ℕ, List, Bool, true, Option, String, map, string_bytes, [], ◌∷◌}
+use Rattle.std.specs.declared.alloc.Global.{Global}
 use Rattle.examine.specs.Checks.{file_in}
 use Rattle.report.specs.Lines.{last_status, cycles_text}
-use Rattle.update.specs.Runs.{AreMetadata, Begins, IsOutcomeIn, IsUntouched, Loaded, MayBeSeen, Mirror, Outcome, Request, Seen, State, World, start_from, start_of, state_text}
-use Rattle.update.specs.declared.start.Terms.{Terms}
+use Rattle.update.specs.Runs.{AreMetadata, Begins, IsOutcomeIn, IsUntouched, Loaded, MayBeSeen, Mirror, Outcome, Request, Seen, State, World, start_of, state_text}
+use Rattle.update.specs.declared.replaying.Cycles.{Cycles}
 use Rattle.update.specs.declared.start.Start as program
 
 -- what was read of a repository: its metadata files, and what was seen of its target files
@@ -18,6 +19,10 @@ pub record Contents : Type 0 where
 pub record MayGive (mirror : Mirror) (c : Contents) : Type 0 where
   pub metadata : AreMetadata mirror.metadata.lists mirror.metadata.holds c.metadata
   pub targets : MayBeSeen mirror.targets.lists mirror.targets.holds c.targets
+
+-- what the first cycle begins with
+abbrev pub first_of : program.Start → List (String Global) → Request
+first_of s wanted = start_of s (map string_bytes wanted)
 
 -- the same request from another state
 abbrev pub from_state : Request → State → Request
@@ -61,29 +66,18 @@ pub record AreStored (mirrors : List Mirror) (start : Request) (keeps : List ℕ
   pub kept : keeps (state_text (last_state start outcomes)) ≡ true
   pub then : follows outcomes
 
--- # The cycles on the repositories, in order.
+-- # The cycles on the repositories, in order, from the state and the moment that the words name.
 
 -- the state after them is stored, and more holds of their outcomes
-abbrev pub CyclesStoreFrom : program.Start → World → World → (List Outcome → Type 0) → Type 0
-CyclesStoreFrom s old new = AreStored old.mirrors (start_of s) (new.keeps s.state.now)
+abbrev pub CyclesStore : Cycles → World → World → (List Outcome → Type 0) → Type 0
+CyclesStore c old new follows = Begins c.settings old (λ s.
+    AreStored old.mirrors (first_of s c.wanted.items) (new.keeps s.state.now) follows)
 
 -- their lines were printed too, and this is the status
-abbrev pub IsReplayedFrom : program.Start → World → World → ℕ → Type 0
-IsReplayedFrom s old new status = CyclesStoreFrom s old new
-    (λ os. AreTold os (map string_bytes s.wanted.now) status old.printed new.printed)
+abbrev pub IsReplayed : Cycles → World → World → ℕ → Type 0
+IsReplayed c old new status = CyclesStore c old new
+    (λ os. AreTold os (map string_bytes c.wanted.items) status old.printed new.printed)
 
 -- nothing was stored or printed, or the last state was stored
-abbrev pub IsUntouchedOrCycledFrom : program.Start → World → World → Type 0
-IsUntouchedOrCycledFrom s old new = IsUntouched old new ⊎ CyclesStoreFrom s old new (λ _. ⊤)
-
--- the same from the state and the moment that the words name
-abbrev pub CyclesStore : Terms → World → World → (List Outcome → Type 0) → Type 0
-CyclesStore terms old new follows = Begins terms old (λ trusted moment.
-    AreStored old.mirrors (start_from terms trusted moment) (new.keeps terms.out.now) follows)
-
-abbrev pub IsReplayed : Terms → World → World → ℕ → Type 0
-IsReplayed terms old new status = CyclesStore terms old new
-    (λ os. AreTold os (map string_bytes terms.wanted.items) status old.printed new.printed)
-
-abbrev pub IsUntouchedOrCycled : Terms → World → World → Type 0
-IsUntouchedOrCycled terms old new = IsUntouched old new ⊎ CyclesStore terms old new (λ _. ⊤)
+abbrev pub IsUntouchedOrCycled : Cycles → World → World → Type 0
+IsUntouchedOrCycled c old new = IsUntouched old new ⊎ CyclesStore c old new (λ _. ⊤)

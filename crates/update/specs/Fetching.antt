@@ -1,18 +1,16 @@
 -- The files that have to be fetched next, printed.
-use Rattle.std.specs.Bool.{⊤}
 use Rattle.std.specs.Io.KnownBytes.{Appends}
 use Rattle.std.specs.Prelude.{◌≡◌, ◌⊎◌, ℕ, List, [], ◌∷◌, true, Option, is_some, option_map}
 use Rattle.examine.specs.Checks.{file_in}
 use Rattle.failure.specs.declared.failure.Failure.{Failure}
-use Rattle.failure.specs.declared.failure.Failure.TheVariants.{Now, State, Clock, Memory}
 use Rattle.folder.specs.Seen.{is_named}
 use Rattle.needs.specs.Needs.{needs}
 use Rattle.needs.specs.declared.need.Need.{Need}
 use Rattle.needs.specs.declared.need.Place.{Place}
 use Rattle.report.specs.Fetching.{needs_text}
 use Rattle.rolechain.specs.Advance as chain
-use Rattle.update.specs.Causes.{AreWrong, IsCauseFrom, IsNoState}
-use Rattle.update.specs.Moments.{IsMomentOf, IsNoMoment, Moment}
+use Rattle.update.specs.Causes.{AreWrong, IsCauseFrom, IsCauseToBegin}
+use Rattle.update.specs.Moments.{IsMomentOf, Moment}
 use Rattle.update.specs.Runs.{AreMetadata, Files, IsRead, Loaded, Request, course, request}
 pub use Rattle.update.specs.World.{Mirror, World}
 use Rattle.update.specs.declared.fetching.Wants.{Wants}
@@ -65,18 +63,10 @@ IsNext w old new = Starts w old (λ trusted moment.
 
 -- # Why it fails.
 
--- the moment was read, and the state can't be
-pub record HasNoState (w : Wants) (old : World) : Type 0 where
-  pub moment : Moment
-  pub of_moment : IsMomentOf old.shows (text_of w) moment
-  pub no_state : IsNoState (old.gives w.state.now) (old.refuses w.state.now)
-
+-- of reading the moment and the state
 abbrev pub IsCauseToStart : Wants → World → Failure → Type 0
-IsCauseToStart w old Now = IsNoMoment (text_of w) Now
-IsCauseToStart w old Clock = IsNoMoment (text_of w) Clock
-IsCauseToStart w old State = HasNoState w old
-IsCauseToStart w old Memory = ⊤
-IsCauseToStart w old _ = ⊥
+IsCauseToStart w old =
+    IsCauseToBegin (text_of w) old.shows (old.gives w.state.now) (old.refuses w.state.now)
 
 -- the number of roles is out of its range, a folder failed, or there is no memory or no output
 abbrev pub IsCauseToList : ℕ → List Mirror → List Mirror → Failure → Type 0

@@ -1,10 +1,41 @@
 -- What was loaded of a repository, for the contracts of private functions.
-use Rattle.std.specs.Prelude.{◌≡◌, true, map, string_bytes}
-use Rattle.update.specs.Runs.{AreMetadata}
+use Rattle.std.specs.Prelude.{◌≡◌, ℕ, List, String, true, map, string_bytes, [], ◌∷◌}
+use Rattle.std.specs.declared.alloc.Global.{Global}
+use Rattle.examine.specs.Checks.{file_in}
+use Rattle.update.specs.Runs.{AreMetadata, AreWanted, Loaded, course, start_of}
 use Rattle.update.specs.World.{Mirror}
+use Rattle.update.specs.declared.following.Followed.{Followed}
 use Rattle.update.specs.declared.start.Opened.{Opened}
+use Rattle.update.specs.declared.start.Start as program
+use Rattle.update.specs.declared.start.Wanted.{Wanted}
+use Rattle.update.specs.declared.start.Wanted.TheVariants.{Paths, Every}
 
 -- metadata files that the folder may give, and the names of a list that the other one may give
 pub record IsOpened (mirror : Mirror) (o : Opened) : Type 0 where
   pub metadata : AreMetadata mirror.metadata.lists mirror.metadata.holds o.repo.metadata
   pub names : mirror.targets.lists (map string_bytes o.names.items) ≡ true
+
+-- the paths that are given, or those that were listed
+abbrev pub paths_from : Wanted → List (String Global) → List (String Global)
+paths_from (Paths given) listed = given.items
+paths_from Every listed = listed
+
+-- the wanted paths of a course
+abbrev pub paths_of : Wanted → Followed → List (List ℕ)
+paths_of wanted f = map string_bytes (paths_from wanted f.listed.items)
+
+-- the course of the wanted paths in metadata files that the folder may give, and the names of a
+-- list that the other one may give
+pub record IsFollowedOn (mirror : Mirror) (s : program.Start) (wanted : Wanted) (f : Followed)
+    : Type 0 where
+  pub metadata : Loaded
+  pub in_metadata : AreMetadata mirror.metadata.lists mirror.metadata.holds metadata
+  pub names : mirror.targets.lists (map string_bytes f.names.items) ≡ true
+  pub are_wanted : AreWanted wanted f.course.trusted.root.reading.consistent
+      (map string_bytes f.names.items) (paths_of wanted f)
+  pub of_request : f.course ≡ course (start_of s (paths_of wanted f)) (file_in metadata)
+
+-- the same on the only repository
+abbrev pub IsFollowed : List Mirror → program.Start → Wanted → Followed → Type 0
+IsFollowed (m ∷ []) s wanted f = IsFollowedOn m s wanted f
+IsFollowed _ s wanted f = ⊥

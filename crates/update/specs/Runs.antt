@@ -12,26 +12,27 @@ pub use Rattle.cycle.specs.Workflow.{Files, Outcome, Repository, Request, course
 use Rattle.cycle.specs.Looked.{AreAlike, most_looked_at}
 use Rattle.folder.specs.Starts.{AreStarts}
 use Rattle.measured.specs.Closed.{is_found}
+use Rattle.paths.specs.Names.{ArePathsOf}
 use Rattle.report.specs.Lines.{outcome_status, outcome_text}
 pub use Rattle.folder.specs.Seen.{Seen, AreSeen, MayBeSeen}
 pub use Rattle.update.specs.Moments.{IsMomentOf, Moment}
 pub use Rattle.update.specs.World.{Mirror, World, IsUntouched}
-use Rattle.update.specs.declared.start.Terms.{Terms}
+use Rattle.update.specs.declared.start.Settings.{Settings}
 use Rattle.update.specs.declared.start.Start as program
+use Rattle.update.specs.declared.start.Terms.{Terms}
+use Rattle.update.specs.declared.start.Wanted.{Wanted}
+use Rattle.update.specs.declared.start.Wanted.TheVariants.{Paths, Every}
 
 -- # What it begins with.
 
--- what a value of the program requests
-abbrev pub start_of : program.Start → Request
-start_of s = request s.trusted s.moment s.wanted.now s.limit
-
--- what the words request, with a state and a moment that were read
-abbrev pub start_from : Terms → State → Moment → Request
-start_from terms trusted moment = request trusted moment terms.wanted.items terms.limit
+-- what a value of the program requests, for these paths
+abbrev pub start_of : program.Start → List (List ℕ) → Request
+start_of s paths =
+    record { trusted = s.trusted; moment = s.moment; wanted = paths; limit = s.limit }
 
 -- the text of the moment, if the words have one
-abbrev pub moment_text : Terms → Option (List ℕ)
-moment_text terms = option_map (λ t. t.now) terms.moment
+abbrev pub moment_text : Settings → Option (List ℕ)
+moment_text settings = option_map (λ t. t.now) settings.moment
 
 -- a trusted state that was read
 pub record IsRead (gives : List ℕ → Bool) (trusted : State) : Type 0 where
@@ -39,14 +40,26 @@ pub record IsRead (gives : List ℕ → Bool) (trusted : State) : Type 0 where
   pub given : gives text ≡ true
   pub of_text : state_of text ≡ Ok trusted
 
--- The moment and the trusted state that the words name were read, the latter while its file was
--- locked, and more follows from them.
-pub record Begins (terms : Terms) (old : World) (follows : State → Moment → Type 0) : Type 0 where
-  pub trusted : State
-  pub moment : Moment
-  pub read : IsRead (old.gives_locked terms.state.now) trusted
-  pub of_moment : IsMomentOf old.shows (moment_text terms) moment
-  pub then : follows trusted moment
+-- what the words name: the moment and the trusted state that were read, and the rest as it is
+pub record IsStart (settings : Settings) (gives : List ℕ → List ℕ → Bool) (shows : ℕ → Bool)
+    (s : program.Start) : Type 0 where
+  pub read : IsRead (gives settings.state.now) s.trusted
+  pub of_moment : IsMomentOf shows (moment_text settings) s.moment
+  pub limit : s.limit ≡ settings.limit
+  pub workers : s.workers ≡ settings.workers
+  pub place : s.state.now ≡ settings.out.now
+
+-- There is such a start, whose state was read while its file was locked, and more follows from it.
+pub record Begins (settings : Settings) (old : World) (follows : program.Start → Type 0)
+    : Type 0 where
+  pub start : program.Start
+  pub is_start : IsStart settings old.gives_locked old.shows start
+  pub then : follows start
+
+-- the paths that are given; or for every file, those of the names that the targets folder lists
+abbrev pub AreWanted : Wanted → Bool → List (List ℕ) → List (List ℕ) → Type 0
+AreWanted (Paths given) consistent names paths = paths ≡ map string_bytes given.items
+AreWanted Every consistent names paths = ArePathsOf consistent names paths
 
 -- # Its outcome.
 
@@ -89,21 +102,31 @@ pub record IsOutcomeOn (lists : List (List ℕ) → Bool) (holds : List ℕ → 
 unfoldable pub state_text : State → List ℕ
 state_text s = kept_text (kept_of s)
 
--- The outcome on the folders of a repository: its new state is stored, and more holds of it.
-pub record IsStoredOn (mirror : Mirror) (start : Request) (keeps : List ℕ → Bool)
-    (follows : Outcome → Type 0) : Type 0 where
+-- whether target files have consistent names, by the root that the outcome trusts
+abbrev pub has_consistent_names : Outcome → Bool
+has_consistent_names o = o.trusted.root.reading.consistent
+
+-- The outcome on the folders of a repository, for the paths that are wanted: its new state is
+-- stored, and more holds of the request, of the metadata and of it.
+pub record IsStoredOn (mirror : Mirror) (s : program.Start) (wanted : Wanted)
+    (keeps : List ℕ → Bool) (follows : Request → Files → Outcome → Type 0) : Type 0 where
   pub metadata : Loaded
   pub in_metadata : AreMetadata mirror.metadata.lists mirror.metadata.holds metadata
+  pub names : List (List ℕ)
+  pub listed : mirror.targets.lists names ≡ true
+  pub paths : List (List ℕ)
   pub outcome : Outcome
-  pub of_workflow :
-      IsOutcomeOn mirror.targets.lists mirror.targets.holds start (file_in metadata) outcome
+  pub are_wanted : AreWanted wanted (has_consistent_names outcome) names paths
+  pub of_workflow : IsOutcomeOn mirror.targets.lists mirror.targets.holds (start_of s paths)
+      (file_in metadata) outcome
   pub kept : keeps (state_text outcome.trusted) ≡ true
-  pub then : follows outcome
+  pub then : follows (start_of s paths) (file_in metadata) outcome
 
 -- the same on the only repository
-abbrev pub IsStored : List Mirror → Request → (List ℕ → Bool) → (Outcome → Type 0) → Type 0
-IsStored (m ∷ []) start keeps follows = IsStoredOn m start keeps follows
-IsStored _ start keeps follows = ⊥
+abbrev pub IsStored : List Mirror → program.Start → Wanted → (List ℕ → Bool)
+    → (Request → Files → Outcome → Type 0) → Type 0
+IsStored (m ∷ []) s wanted keeps follows = IsStoredOn m s wanted keeps follows
+IsStored _ s wanted keeps follows = ⊥
 
 -- the outcome's lines were printed, and the status is its own
 pub record IsTold (o : Outcome) (wanted : List (List ℕ)) (status : ℕ)
@@ -111,29 +134,38 @@ pub record IsTold (o : Outcome) (wanted : List (List ℕ)) (status : ℕ)
   pub lines : Appends old new (outcome_text o wanted)
   pub answered : status ≡ outcome_status o
 
+-- the same of the paths of the request
+abbrev pub IsToldOf : Option (List ℕ) → Option (List ℕ) → ℕ → Request → Files → Outcome → Type 0
+IsToldOf old new status r metadata o = IsTold o r.wanted status old new
+
 -- # A verification of the only repository.
 
+-- ---- from a state and a moment that were read
+
 -- its new state is stored, and more holds of its outcome
-abbrev pub StoresFrom : program.Start → World → World → (Outcome → Type 0) → Type 0
-StoresFrom s old new = IsStored old.mirrors (start_of s) (new.keeps s.state.now)
+abbrev pub StoresFrom : program.Start → Wanted → World → World
+    → (Request → Files → Outcome → Type 0) → Type 0
+StoresFrom s wanted old new = IsStored old.mirrors s wanted (new.keeps s.state.now)
 
 -- its lines were printed too, and this is its status
-abbrev pub IsVerifiedFrom : program.Start → World → World → ℕ → Type 0
-IsVerifiedFrom s old new status = StoresFrom s old new
-    (λ o. IsTold o (map string_bytes s.wanted.now) status old.printed new.printed)
+abbrev pub IsVerifiedFrom : program.Start → Wanted → World → World → ℕ → Type 0
+IsVerifiedFrom s wanted old new status =
+    StoresFrom s wanted old new (IsToldOf old.printed new.printed status)
 
 -- nothing was stored or printed, or the new state was stored
-abbrev pub IsUntouchedOrStoredFrom : program.Start → World → World → Type 0
-IsUntouchedOrStoredFrom s old new = IsUntouched old new ⊎ StoresFrom s old new (λ _. ⊤)
+abbrev pub IsUntouchedOrStoredFrom : program.Start → Wanted → World → World → Type 0
+IsUntouchedOrStoredFrom s wanted old new =
+    IsUntouched old new ⊎ StoresFrom s wanted old new (λ _ _ _. ⊤)
 
--- the same from the state and the moment that the words name
-abbrev pub Stores : Terms → World → World → (Outcome → Type 0) → Type 0
-Stores terms old new follows = Begins terms old (λ trusted moment.
-    IsStored old.mirrors (start_from terms trusted moment) (new.keeps terms.out.now) follows)
+-- ---- from those that the words name
+
+abbrev pub Stores : Terms → World → World → (Request → Files → Outcome → Type 0) → Type 0
+Stores terms old new follows =
+    Begins terms.settings old (λ s. StoresFrom s terms.wanted old new follows)
 
 abbrev pub IsVerified : Terms → World → World → ℕ → Type 0
-IsVerified terms old new status = Stores terms old new
-    (λ o. IsTold o (map string_bytes terms.wanted.items) status old.printed new.printed)
+IsVerified terms old new status =
+    Stores terms old new (IsToldOf old.printed new.printed status)
 
 abbrev pub IsUntouchedOrStored : Terms → World → World → Type 0
-IsUntouchedOrStored terms old new = IsUntouched old new ⊎ Stores terms old new (λ _. ⊤)
+IsUntouchedOrStored terms old new = IsUntouched old new ⊎ Stores terms old new (λ _ _ _. ⊤)

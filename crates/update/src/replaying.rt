@@ -4,18 +4,16 @@ ghost use Rattle.std.specs.Prelude.{◌≡◌, ◌≢◌, ◌≤◌, ◌<◌, �
 ghost use Rattle.std.specs.Prelude.{OnOk, length, map, slice_get, string_bytes};
 ghost use Rattle.std.specs.List.{AllZip};
 ghost use Rattle.examine.specs.Checks.{file_in};
-ghost use Rattle.update.specs.Causes.{AreWrong, IsCauseToRead, IsCauseToReplay};
-ghost use Rattle.update.specs.Causes.{IsCauseToReplayFrom};
-ghost use Rattle.update.specs.Cycles.{AreOutcomesOn, IsReplayed, IsReplayedFrom};
-ghost use Rattle.update.specs.Cycles.{IsUntouchedOrCycled, IsUntouchedOrCycledFrom};
-ghost use Rattle.update.specs.Cycles.{from_state, last_state};
+ghost use Rattle.update.specs.Causes.{IsCauseToRead, IsCauseToReplay};
+ghost use Rattle.update.specs.Cycles.{AreOutcomesOn, IsReplayed, IsUntouchedOrCycled};
+ghost use Rattle.update.specs.Cycles.{first_of, from_state, last_state};
 ghost use Rattle.update.specs.Opened.{IsOpened};
-ghost use Rattle.update.specs.Runs.{IsOutcomeOn, start_of};
-ghost use Rattle.update.specs.Same.{IsCauseToClose, IsCauseToEnd, IsSame};
+ghost use Rattle.update.specs.Runs.{IsOutcomeOn};
+ghost use Rattle.update.specs.Same.{IsCauseToEnd, IsSame};
 ghost use Rattle.update.specs.World.{IsUntouched, OthersKept};
 
 use crate::host::{Folders, HasMirrors, HasWorld, Host};
-use crate::start::{Opened, Start, Terms, limits_of};
+use crate::start::{Opened, Settings, Start, begin, limits_of};
 use crate::state::keep_state;
 use cycle::{Gate, Keeper, Limits, Outcome, Round, Threading, Watch};
 use failure::Failure;
@@ -31,45 +29,16 @@ use system::System;
 /// Maximum number of files in the verdict cache.
 const KEPT: usize = 4096;
 
-/// What a replay begins with: what its first cycle begins with, and the number of files whose
-/// verdicts are cached from cycle to cycle (1 to 4,096).
+/// What the arguments of a replay name: the settings, the wanted paths, in order, and the number of
+/// files whose verdicts are cached from cycle to cycle (1 to 4,096).
 #[derive(Drop)]
 pub struct Cycles<'a> {
-    pub start: Start<'a>,
+    pub settings: Settings<'a>,
+    pub wanted: Vec<String>,
     pub keep: usize,
 }
 
 impl<S: System, M: Folder, T: Folder + Sync, W: Write> Host<S, Vec<Folders<M, T>>, W> {
-    /// Replays what the terms name: reads the moment, locks and reads the state file, and then
-    /// reads the folders, as [`replay_from`](Host::replay_from) does. The file stays locked. If one
-    /// of them fails, nothing was stored or printed. If out of memory or by an output error, that
-    /// holds too, or the last state was stored whole. What is stored for other paths stays.
-    pub fn replay<R: Threads + Wait + Sync, N: Gate + Watch + Sync>(
-        &mut self,
-        threading: &Threading<'_, R, N>,
-        alloc: Global,
-        terms: &Terms<'_>,
-        keep: usize,
-    ) -> Result<u8, Failure>
-        ensures known { IfOk result (λ status. status ≤ 2) }
-        ensures locked { OnOk result
-            ((⟦<Self as HasWorld>⟧.world self.new).locks terms.now.state.now ≡ true) }
-        ensures replayed { IfOk result (IsReplayed terms.now
-            (⟦<Self as HasWorld>⟧.world self.old) (⟦<Self as HasWorld>⟧.world self.new)) }
-        ensures order { OnErr result (IsUntouchedOrCycled terms.now
-            (⟦<Self as HasWorld>⟧.world self.old) (⟦<Self as HasWorld>⟧.world self.new)) }
-        ensures others { OthersKept terms.now.out.now
-            (⟦<Self as HasWorld>⟧.world self.old).keeps
-            (⟦<Self as HasWorld>⟧.world self.new).keeps }
-        ensures quiet { IfErr result (λ f. f ≢ Failure.Memory → f ≢ Failure.Output → IsUntouched
-            (⟦<Self as HasWorld>⟧.world self.old) (⟦<Self as HasWorld>⟧.world self.new)) }
-        ensures cause { IfErr result (IsCauseToReplay terms.now keep
-            (⟦<Self as HasWorld>⟧.world self.old) (⟦<Self as HasWorld>⟧.world self.new)) }
-    {
-        let start = self.begin(alloc, terms)?;
-        self.replay_from(threading, &Cycles { start, keep })
-    }
-
     /// Verifies what each pair of folders holds, in order, each time from the state of the cycle
     /// before. Stores the last state, and prints for each cycle the line `cycle K`, counted from 1,
     /// and its lines. Returns the status of the last one, or 0 if there is none. Cached verdicts
@@ -77,44 +46,39 @@ impl<S: System, M: Folder, T: Folder + Sync, W: Write> Host<S, Vec<Folders<M, T>
     ///
     /// All metadata folders are loaded and the names of all target files are listed before the
     /// first cycle. A target file that a cycle's searches found is read in that cycle, and no other
-    /// is. Otherwise all is as for [`verify_from`](Host::verify_from), with the last state.
-    pub fn replay_from<R: Threads + Wait + Sync, N: Gate + Watch + Sync>(
+    /// is. Otherwise all is as for [`verify`](Host::verify), with the last state.
+    pub fn replay<R: Threads + Wait + Sync, N: Gate + Watch + Sync>(
         &mut self,
         threading: &Threading<'_, R, N>,
+        alloc: Global,
         cycles: &Cycles<'_>,
     ) -> Result<u8, Failure>
         ensures known { IfOk result (λ status. status ≤ 2) }
-        ensures locked { (⟦<Self as HasWorld>⟧.world self.new).locks
-            ≡ (⟦<Self as HasWorld>⟧.world self.old).locks }
-        ensures replayed { IfOk result (IsReplayedFrom cycles.now.start
+        ensures locked { OnOk result
+            ((⟦<Self as HasWorld>⟧.world self.new).locks cycles.now.settings.state.now ≡ true) }
+        ensures replayed { IfOk result (IsReplayed cycles.now
             (⟦<Self as HasWorld>⟧.world self.old) (⟦<Self as HasWorld>⟧.world self.new)) }
-        ensures order { OnErr result (IsUntouchedOrCycledFrom cycles.now.start
+        ensures order { OnErr result (IsUntouchedOrCycled cycles.now
             (⟦<Self as HasWorld>⟧.world self.old) (⟦<Self as HasWorld>⟧.world self.new)) }
-        ensures others { OthersKept cycles.now.start.state.now
+        ensures others { OthersKept cycles.now.settings.out.now
             (⟦<Self as HasWorld>⟧.world self.old).keeps
             (⟦<Self as HasWorld>⟧.world self.new).keeps }
         ensures quiet { IfErr result (λ f. f ≢ Failure.Memory → f ≢ Failure.Output → IsUntouched
             (⟦<Self as HasWorld>⟧.world self.old) (⟦<Self as HasWorld>⟧.world self.new)) }
-        ensures cause { IfErr result (IsCauseToReplayFrom cycles.now
+        ensures cause { IfErr result (IsCauseToReplay cycles.now
             (⟦<Self as HasWorld>⟧.world self.old) (⟦<Self as HasWorld>⟧.world self.new)) }
     {
-        let alloc = cycles.start.alloc;
+        let start = begin(alloc, &mut self.system, &cycles.settings)?;
         let opened = open_all(alloc, &mut self.folders)?;
-        let mut keeper = keeper_of(alloc, cycles)?;
-        let folders = &mut self.folders;
-        let outcomes = outcomes(threading, &cycles.start, opened, folders, &mut keeper)?;
-        keep_state(
-            alloc,
-            &mut self.system,
-            cycles.start.state,
-            keeper.trusted(),
-        )?;
-        tell_cycles(
-            alloc,
-            outcomes.as_slice(),
-            cycles.start.wanted,
-            &mut self.out,
-        )
+        let mut keeper = keeper_of(alloc, &start, cycles.keep)?;
+        let begun = Begun {
+            start: &start,
+            wanted: cycles.wanted.as_slice(),
+            limits: limits_of(&start)?,
+        };
+        let outcomes = outcomes(threading, &begun, opened, &mut self.folders, &mut keeper)?;
+        keep_state(alloc, &mut self.system, start.state, keeper.trusted())?;
+        tell_cycles(alloc, outcomes.as_slice(), begun.wanted, &mut self.out)
     }
 }
 
@@ -159,22 +123,23 @@ fn open_at<M: Folder, T: Folder>(
 
 /// Returns a keeper of the state that the cycles begin with. Fails with `Words` if the number of
 /// cached files is out of its range.
-fn keeper_of(alloc: Global, cycles: &Cycles<'_>) -> Result<Keeper, Failure>
-    ensures state { IfOk result (λ k. k ≡ cycles.now.start.trusted) }
+fn keeper_of(alloc: Global, start: &Start<'_>, keep: usize) -> Result<Keeper, Failure>
+    ensures state { IfOk result (λ k. k ≡ start.now.trusted) }
     ensures refused { IfErr result (λ f. (f ≡ Failure.Memory)
-        ⊎ ((f ≡ Failure.Words) × ((cycles.now.keep < 1) ⊎ (4096 < cycles.now.keep)))) }
+        ⊎ ((f ≡ Failure.Words) × ((keep < 1) ⊎ (4096 < keep)))) }
 {
-    if cycles.keep == 0 || cycles.keep > KEPT {
+    if keep == 0 || keep > KEPT {
         return Err(Failure::Words);
     }
-    let trusted = cycles.start.trusted.copy()?;
-    Ok(Keeper::new(alloc, trusted, cycles.keep)?)
+    let trusted = start.trusted.copy()?;
+    Ok(Keeper::new(alloc, trusted, keep)?)
 }
 
-/// What each cycle of a replay begins with, and its limits.
+/// What each cycle of a replay begins with, the wanted paths, and its limits.
 #[derive(Clone, Copy)]
 struct Begun<'a> {
     start: &'a Start<'a>,
+    wanted: &'a [String],
     limits: Limits,
 }
 
@@ -182,32 +147,29 @@ struct Begun<'a> {
 /// that the start names.
 fn outcomes<R: Threads + Wait + Sync, N: Gate + Watch + Sync, M: Folder, T: Folder + Sync>(
     threading: &Threading<'_, R, N>,
-    start: &Start<'_>,
+    begun: &Begun<'_>,
     opened: Vec<Opened>,
     folders: &mut Vec<Folders<M, T>>,
     keeper: &mut Keeper,
 ) -> Result<Vec<Outcome>, Failure>
-    requires state { keeper.old ≡ start.now.trusted }
+    requires state { keeper.old ≡ begun.now.start.now.trusted }
     requires opened { AllZip IsOpened
         (⟦<Vec<Folders<M, T>> as HasMirrors>⟧.mirrors folders.old) opened.items }
+    requires limit { begun.now.limits.roles ≡ begun.now.start.now.limit }
+    requires workers { begun.now.start.now.workers ≤ 64 }
     ensures outcomes { IfOk result (λ all. AreOutcomesOn
         (⟦<Vec<Folders<M, T>> as HasMirrors>⟧.mirrors folders.old)
-        (start_of start.now) all.items) }
+        (first_of begun.now.start.now begun.now.wanted.now) all.items) }
     ensures state { IfOk result (λ all. keeper.new
-        ≡ last_state (start_of start.now) all.items) }
-    ensures cause { IfErr result (IsCauseToClose
-        (AreWrong start.now.limit start.now.workers)
+        ≡ last_state (first_of begun.now.start.now begun.now.wanted.now) all.items) }
+    ensures cause { IfErr result (IsCauseToRead
         (⟦<Vec<Folders<M, T>> as HasMirrors>⟧.mirrors folders.old)
         (⟦<Vec<Folders<M, T>> as HasMirrors>⟧.mirrors folders.new)) }
 {
-    let begun = Begun {
-        start,
-        limits: limits_of(start)?,
-    };
-    let mut all = Vec::new(start.alloc);
+    let mut all = Vec::new(begun.start.alloc);
     for one in opened {
         let targets = &mut folders[all.len()].targets;
-        all.push(outcome(threading, &begun, one, targets, keeper)?)?;
+        all.push(outcome(threading, begun, one, targets, keeper)?)?;
     }
     Ok(all)
 }
@@ -224,20 +186,21 @@ fn outcome<R: Threads + Wait + Sync, N: Gate + Watch + Sync, T: Folder + Sync>(
     requires limit { begun.now.limits.roles ≡ begun.now.start.now.limit }
     requires workers { begun.now.start.now.workers ≤ 64 }
     ensures outcome { IfOk result (IsOutcomeOn (T.lists targets.old) (T.holds targets.old)
-        (from_state (start_of begun.now.start.now) keeper.old) (file_in one.repo.metadata)) }
+        (from_state (first_of begun.now.start.now begun.now.wanted.now) keeper.old)
+        (file_in one.repo.metadata)) }
     ensures state { IfOk result (λ o. keeper.new ≡ o.trusted) }
     ensures same_lists { T.lists targets.new ≡ T.lists targets.old }
     ensures same_bytes { T.holds targets.new ≡ T.holds targets.old }
     ensures counts { T.failures targets.old ≤ T.failures targets.new }
-    ensures cause { IfErr result (IsCauseToEnd ⊥ (T.failures targets.old)
-        (T.failures targets.new)) }
+    ensures cause { IfErr result
+        (IsCauseToEnd (T.failures targets.old) (T.failures targets.new)) }
 {
     let Opened { repo, names } = one;
     let start = begun.start;
     let round = Round {
         repo: &repo,
         now: start.moment,
-        wanted: start.wanted,
+        wanted: begun.wanted,
     };
     let course = keeper.follow(&round, &begun.limits, threading, start.workers)?;
     let readers = Readers {

@@ -3,20 +3,20 @@
 ghost use Rattle.std.specs.Prelude.{◌≡◌, ◌≤◌, true, IfErr, IfOk, OnOk, map, string_bytes};
 ghost use Rattle.std.specs.List.{AllZip};
 ghost use Rattle.update.specs.Causes.{AreWrong, IsCauseToBegin, IsCauseToRead};
-ghost use Rattle.update.specs.Moments.{IsMomentOf};
-ghost use Rattle.update.specs.Runs.{AreMetadata, IsRead, moment_text, start_from, start_of};
+ghost use Rattle.update.specs.Copies as spec;
+ghost use Rattle.update.specs.Opened.{paths_from};
+ghost use Rattle.update.specs.Runs.{AreMetadata, IsStart, moment_text};
 ghost use Rattle.update.specs.Same.{IsSame};
-ghost use Rattle.update.specs.World.{IsUntouched};
 
 use crate::clock::moment;
-use crate::host::{Folders, HasMirrors, HasWorld, Host};
+use crate::host::{Folders, HasMirrors};
 use crate::state::lock_state;
+use copies::are_below;
 use cycle::{Limits, Moment, Repo, Trusted};
 use failure::Failure;
 use folder::{Folder, load_starts};
 use std::alloc::Global;
 use std::collections::BTreeMap;
-use std::io::Write;
 use system::System;
 
 /// Maximum number of checks of a plan.
@@ -29,80 +29,93 @@ const MOST_LOOKED_AT: u64 = 5_000_001;
 /// Maximum number of workers of a run.
 const WORKERS: usize = 64;
 
-/// What the arguments name: the path of the file with the trusted state, the text of the moment,
-/// the maximum number of roles that a search visits (1 to 256), the number of threads that decide
-/// checks in advance (0 to 64), the path of the file for the new state, and the wanted paths, in
-/// order.
-#[derive(Drop)]
-pub struct Terms<'a> {
+/// What the arguments of a run name: the path of the file with the trusted state, the text of the
+/// moment, the maximum number of roles that a search visits (1 to 256), the number of threads that
+/// decide checks in advance (0 to 64), and the path of the file for the new state.
+#[derive(Clone, Copy)]
+pub struct Settings<'a> {
     pub state: &'a str,
     pub moment: Option<&'a str>,
     pub limit: usize,
     pub workers: usize,
     pub out: &'a str,
-    pub wanted: Vec<String>,
 }
 
-/// What a verification begins with: the allocator, the trusted state, the moment, the wanted paths,
-/// the maximum number of roles that a search visits (1 to 256), the number of threads that decide
-/// checks in advance (0 to 64), and the path of the file for the new state.
+/// The paths that a verification wants.
+#[derive(Drop)]
+pub enum Wanted {
+    /// These, in order.
+    Paths(Vec<String>),
+    /// The path of every name that the targets folder lists, each once, in byte order. Whether
+    /// names are consistent says the root that is trusted at the end.
+    Every,
+}
+
+impl Wanted {
+    /// Returns the paths that are given, or else those that were listed.
+    pub(crate) fn paths<'a>(&'a self, listed: &'a [String]) -> &'a [String]
+        ensures { result.now ≡ paths_from self.now listed.now }
+    {
+        match self {
+            Wanted::Paths(paths) => paths.as_slice(),
+            Wanted::Every => listed,
+        }
+    }
+
+    /// Returns whether a copy may have each path that is given.
+    pub(crate) fn may_be_copied(&self) -> bool
+        ensures { result ≡ spec.may_be_copied self.now }
+    {
+        match self {
+            Wanted::Paths(paths) => are_below(paths.as_slice()),
+            Wanted::Every => true,
+        }
+    }
+}
+
+/// What the arguments of a verification name.
+#[derive(Drop)]
+pub struct Terms<'a> {
+    pub settings: Settings<'a>,
+    pub wanted: Wanted,
+}
+
+/// What a verification begins with: the allocator, the trusted state, the moment, the maximum
+/// number of roles that a search visits (1 to 256), the number of threads that decide checks in
+/// advance (0 to 64), and the path of the file for the new state.
 #[derive(Drop)]
 pub struct Start<'a> {
     pub alloc: Global,
     pub trusted: Trusted,
     pub moment: Moment,
-    pub wanted: &'a [String],
     pub limit: usize,
     pub workers: usize,
     pub state: &'a str,
 }
 
-impl Start<'_> {
-    /// Returns the wanted paths.
-    pub(crate) fn wanted(&self) -> &[String]
-        ensures { result.now ≡ self.now.wanted.now }
-    {
-        self.wanted
-    }
-}
-
-impl<S: System, F: HasMirrors, W: Write> Host<S, F, W> {
-    /// Reads the moment, and then locks and reads the trusted state that the terms name.
-    pub(crate) fn begin<'a>(
-        &mut self,
-        alloc: Global,
-        terms: &'a Terms<'_>,
-    ) -> Result<Start<'a>, Failure>
-        ensures read { IfOk result (λ s. IsRead
-            ((⟦<Self as HasWorld>⟧.world self.old).gives_locked terms.now.state.now)
-            s.trusted) }
-        ensures locked { OnOk result
-            ((⟦<Self as HasWorld>⟧.world self.new).locks terms.now.state.now ≡ true) }
-        ensures untouched { IsUntouched (⟦<Self as HasWorld>⟧.world self.old)
-            (⟦<Self as HasWorld>⟧.world self.new) }
-        ensures mirrors { (⟦<Self as HasWorld>⟧.world self.new).mirrors
-            ≡ (⟦<Self as HasWorld>⟧.world self.old).mirrors }
-        ensures moment { IfOk result (λ s. IsMomentOf
-            (⟦<Self as HasWorld>⟧.world self.old).shows (moment_text terms.now) s.moment) }
-        ensures start { IfOk result
-            (λ s. start_of s ≡ start_from terms.now s.trusted s.moment) }
-        ensures place { IfOk result (λ s. s.state.now ≡ terms.now.out.now) }
-        ensures numbers { IfOk result (λ s. (s.limit ≡ terms.now.limit)
-            × (s.workers ≡ terms.now.workers)) }
-        ensures cause { IfErr result (IsCauseToBegin terms.now
-            (⟦<Self as HasWorld>⟧.world self.old)) }
-    {
-        let moment = moment(&self.system, terms.moment)?;
-        Ok(Start {
-            alloc,
-            trusted: lock_state(alloc, &mut self.system, terms.state)?,
-            moment,
-            wanted: terms.wanted.as_slice(),
-            limit: terms.limit,
-            workers: terms.workers,
-            state: terms.out,
-        })
-    }
+/// Reads the moment, and then locks and reads the trusted state that the settings name.
+pub(crate) fn begin<'a, S: System>(
+    alloc: Global,
+    system: &mut S,
+    settings: &Settings<'a>,
+) -> Result<Start<'a>, Failure>
+    ensures start { IfOk result
+        (IsStart settings.now (S.gives_locked system.old) (S.shows system.old)) }
+    ensures locked { OnOk result (S.locks system.new settings.now.state.now ≡ true) }
+    ensures kept { S.keeps system.new ≡ S.keeps system.old }
+    ensures cause { IfErr result (IsCauseToBegin (moment_text settings.now) (S.shows system.old)
+        (S.gives_locked system.old settings.now.state.now)
+        (S.refuses system.old settings.now.state.now)) }
+{
+    let moment = moment(system, settings.moment)?;
+    Ok(Start {
+        alloc,
+        trusted: lock_state(alloc, system, settings.state)?,
+        moment,
+        limit: settings.limit,
+        workers: settings.workers,
+        state: settings.out,
+    })
 }
 
 /// The metadata that was loaded of a repository, and the names of its target files.

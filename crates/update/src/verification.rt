@@ -1,20 +1,17 @@
 //! The verification of a repository in two folders.
 
 ghost use Rattle.std.specs.Prelude.{◌≡◌, ◌≢◌, ◌≤◌, true, IfErr, IfOk, OnErr, OnOk};
-ghost use Rattle.std.specs.Prelude.{map, string_bytes};
-ghost use Rattle.examine.specs.Checks.{file_in};
-ghost use Rattle.rolechain.specs.Advance.{advanced};
-ghost use Rattle.update.specs.Causes.{AreWrong, IsCauseToVerify, IsCauseToVerifyFrom};
-ghost use Rattle.update.specs.Same.{IsCauseToEnd};
-ghost use Rattle.update.specs.Runs.{IsOutcomeOn, IsUntouchedOrStored, IsUntouchedOrStoredFrom};
-ghost use Rattle.update.specs.Runs.{IsVerified, IsVerifiedFrom, start_of};
+ghost use Rattle.update.specs.Causes.{IsCauseToVerify, IsCauseToVerifyFrom};
+ghost use Rattle.update.specs.Runs.{IsUntouchedOrStored, IsUntouchedOrStoredFrom};
+ghost use Rattle.update.specs.Runs.{IsVerified, IsVerifiedFrom};
 ghost use Rattle.update.specs.World.{IsUntouched, OthersKept};
 
 use crate::answer::tell_outcome;
+use crate::following::Followed;
 use crate::host::{Folders, HasWorld, Host};
-use crate::start::{Opened, Start, Terms, limits_of};
+use crate::start::{Start, Terms, Wanted, begin};
 use crate::state::keep_state;
-use cycle::{Cycle, Gate, Outcome, Round, Threading, Watch, follow};
+use cycle::{Gate, Threading, Watch};
 use failure::Failure;
 use folder::Folder;
 use measured::{Readers, close};
@@ -38,12 +35,12 @@ impl<S: System, M: Folder, T: Folder + Sync, W: Write> Host<S, Folders<M, T>, W>
     ) -> Result<u8, Failure>
         ensures known { IfOk result (λ status. status ≤ 2) }
         ensures locked { OnOk result
-            ((⟦<Self as HasWorld>⟧.world self.new).locks terms.now.state.now ≡ true) }
+            ((⟦<Self as HasWorld>⟧.world self.new).locks terms.now.settings.state.now ≡ true) }
         ensures verified { IfOk result (IsVerified terms.now
             (⟦<Self as HasWorld>⟧.world self.old) (⟦<Self as HasWorld>⟧.world self.new)) }
         ensures order { OnErr result (IsUntouchedOrStored terms.now
             (⟦<Self as HasWorld>⟧.world self.old) (⟦<Self as HasWorld>⟧.world self.new)) }
-        ensures others { OthersKept terms.now.out.now
+        ensures others { OthersKept terms.now.settings.out.now
             (⟦<Self as HasWorld>⟧.world self.old).keeps
             (⟦<Self as HasWorld>⟧.world self.new).keeps }
         ensures quiet { IfErr result (λ f. f ≢ Failure.Memory → f ≢ Failure.Output → IsUntouched
@@ -51,8 +48,8 @@ impl<S: System, M: Folder, T: Folder + Sync, W: Write> Host<S, Folders<M, T>, W>
         ensures cause { IfErr result (IsCauseToVerify terms.now
             (⟦<Self as HasWorld>⟧.world self.old) (⟦<Self as HasWorld>⟧.world self.new)) }
     {
-        let start = self.begin(alloc, terms)?;
-        self.verify_from(threading, &start)
+        let start = begin(alloc, &mut self.system, &terms.settings)?;
+        self.verify_from(threading, &start, &terms.wanted)
     }
 
     /// Verifies the repository in the folders, stores the new state and prints the lines. Returns
@@ -68,17 +65,18 @@ impl<S: System, M: Folder, T: Folder + Sync, W: Write> Host<S, Folders<M, T>, W>
     /// On failure either nothing was stored or printed, or the new state was stored whole; the
     /// latter only if out of memory or by an output error. What is stored for other paths stays.
     /// Waits for its threads.
-    pub fn verify_from<R: Threads + Wait + Sync, N: Gate + Watch + Sync>(
+    pub fn verify_from<'a, R: Threads + Wait + Sync, N: Gate + Watch + Sync>(
         &mut self,
         threading: &Threading<'_, R, N>,
-        start: &Start<'_>,
+        start: &'a Start<'_>,
+        wanted: &'a Wanted,
     ) -> Result<u8, Failure>
         ensures known { IfOk result (λ status. status ≤ 2) }
         ensures locked { (⟦<Self as HasWorld>⟧.world self.new).locks
             ≡ (⟦<Self as HasWorld>⟧.world self.old).locks }
-        ensures verified { IfOk result (IsVerifiedFrom start.now
+        ensures verified { IfOk result (IsVerifiedFrom start.now wanted.now
             (⟦<Self as HasWorld>⟧.world self.old) (⟦<Self as HasWorld>⟧.world self.new)) }
-        ensures order { OnErr result (IsUntouchedOrStoredFrom start.now
+        ensures order { OnErr result (IsUntouchedOrStoredFrom start.now wanted.now
             (⟦<Self as HasWorld>⟧.world self.old) (⟦<Self as HasWorld>⟧.world self.new)) }
         ensures others { OthersKept start.now.state.now
             (⟦<Self as HasWorld>⟧.world self.old).keeps
@@ -89,46 +87,19 @@ impl<S: System, M: Folder, T: Folder + Sync, W: Write> Host<S, Folders<M, T>, W>
             (⟦<Self as HasWorld>⟧.world self.old) (⟦<Self as HasWorld>⟧.world self.new)) }
     {
         let alloc = start.alloc;
-        let opened = self.folders.open(alloc)?;
-        let outcome = outcome(threading, start, opened, &mut self.folders.targets)?;
+        let followed = self.folders.follow(threading, start, wanted)?;
+        let Followed {
+            course,
+            names,
+            listed,
+        } = followed;
+        let readers = Readers {
+            rt: threading.rt,
+            threads: start.workers,
+        };
+        let outcome = close(&readers, alloc, course, &mut self.folders.targets, names)?;
+        let paths = wanted.paths(listed.as_slice());
         keep_state(alloc, &mut self.system, start.state, outcome.trusted())?;
-        tell_outcome(alloc, &outcome, start.wanted, &mut self.out)
+        tell_outcome(alloc, &outcome, paths, &mut self.out)
     }
-}
-
-/// Returns the outcome of the workflow on metadata that was loaded and on the target files of a
-/// folder that has these names.
-pub(crate) fn outcome<R: Threads + Wait + Sync, N: Gate + Watch + Sync, T: Folder + Sync>(
-    threading: &Threading<'_, R, N>,
-    start: &Start<'_>,
-    opened: Opened,
-    targets: &mut T,
-) -> Result<Outcome, Failure>
-    requires listed { T.lists targets.old (map string_bytes opened.names.items) ≡ true }
-    ensures workflow { IfOk result (IsOutcomeOn (T.lists targets.old) (T.holds targets.old)
-        (start_of start.now) (file_in opened.repo.metadata)) }
-    ensures state { IfOk result (λ o. o.trusted
-        ≡ (advanced (file_in opened.repo.metadata) start.now.moment start.now.trusted).state) }
-    ensures cause { IfErr result (IsCauseToEnd (AreWrong start.now.limit start.now.workers)
-        (T.failures targets.old) (T.failures targets.new)) }
-{
-    let Opened { repo, names } = opened;
-    let limits = limits_of(start)?;
-    let round = Round {
-        repo: &repo,
-        now: start.moment,
-        wanted: start.wanted(),
-    };
-    let cycle = Cycle {
-        alloc: start.alloc,
-        trusted: &start.trusted,
-        round,
-        limits,
-    };
-    let course = follow(&cycle, threading, start.workers)?;
-    let readers = Readers {
-        rt: threading.rt,
-        threads: start.workers,
-    };
-    close(&readers, start.alloc, course, targets, names)
 }

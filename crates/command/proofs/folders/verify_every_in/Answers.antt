@@ -1,5 +1,0 @@
-use Rattle.command.proofs.Doing.{verify_out_of_memory}
-use Rattle.command.proofs.folders.verify_every_in.Goals as goal
-
-pub returns-in-Err-clause-cause : goal.returns-in-Err-clause-cause
-returns-in-Err-clause-cause g c = verify_out_of_memory c.from.result c.args.terms.now _ c.from.ensures
