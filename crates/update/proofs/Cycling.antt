@@ -2,7 +2,7 @@
 use Rattle.std.proofs.Common.{◌≡◌, ◌∙◌, Global, Result, Ok, Err, IfOk, List, [], ◌∷◌, ◌++◌, ℕ, Bool, Option, String, true, ◌+◌, ap, length, length-append, map, refl, string_bytes, subst, sym}
 use Rattle.std.specs.List.{AllZip}
 use Rattle.examine.specs.Checks.{file_in}
-use Rattle.update.specs.Cycles.{AreOutcomesIn, AreOutcomesOn, AreStored, AreTold, Contents, MayGive, after, first_of, from_state, last_state}
+use Rattle.update.specs.Cycles.{AreOutcomesIn, AreOutcomesOn, AreStored, ArePrinted, Contents, MayGive, after, first_of, from_state, last_state}
 use Rattle.update.specs.Runs.{AreMetadata, MayBeSeen, IsOutcomeIn, IsOutcomeOn, Loaded, Outcome, Request, State, state_text}
 use Rattle.update.specs.Same.{IsSame}
 use Rattle.update.specs.World.{Mirror}
@@ -64,10 +64,10 @@ module _ (ms : List Mirror) (s : program.Start) (paths wanted : List (String Glo
   }
 
   -- and their lines were printed
-  pub replayed_told : {E : Type 0} (old new : Option (List ℕ)) (r : Result ℕ E) → IfOk r (λ status. AreTold os (map string_bytes paths) status old new)
-      → IfOk r (λ status. AreStored ms (first_of s wanted) keeps (λ os. AreTold os (map string_bytes wanted) status old new))
-  replayed_told old new (Ok status) told = replayed _ (subst (λ (l : List (String Global)). AreTold os (map string_bytes l) status old new) same told)
-  replayed_told old new (Err e) told = tt
+  pub replayed_printed : {E : Type 0} (old new : Option (List ℕ)) (r : Result ℕ E) → IfOk r (λ status. ArePrinted os (map string_bytes paths) status old new)
+      → IfOk r (λ status. AreStored ms (first_of s wanted) keeps (λ os. ArePrinted os (map string_bytes wanted) status old new))
+  replayed_printed old new (Ok status) lines = replayed _ (subst (λ (l : List (String Global)). ArePrinted os (map string_bytes l) status old new) same lines)
+  replayed_printed old new (Err e) lines = tt
 
 -- ---- folders that stay what they were
 

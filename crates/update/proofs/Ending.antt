@@ -7,9 +7,9 @@ use Rattle.measured.specs.Closed.{IsClosed}
 use Rattle.cycle.specs.declared.verdict.Verdict.{Verdict}
 use Rattle.measured.specs.Copied.{AreCopiesFor}
 use Rattle.rolechain.specs.Advance.{advanced}
-use Rattle.update.specs.Copies.{AreBegun, AreCopied, AreFirstCopied, IsToldInto, Kept, good_paths, target_for}
+use Rattle.update.specs.Copies.{AreBegun, AreCopied, AreFirstCopied, IsPrintedInto, Kept, good_paths, target_for}
 use Rattle.update.specs.Opened.{IsFollowedOn, IsOpened, paths_from, paths_of}
-use Rattle.update.specs.Runs.{AreWanted, IsStoredOn, IsTold, IsToldOf, Request, State, start_of, state_text}
+use Rattle.update.specs.Runs.{AreWanted, IsStoredOn, IsPrinted, IsPrintedOf, Request, State, start_of, state_text}
 use Rattle.update.specs.Same.{IsSame}
 use Rattle.update.specs.Stored.{AreCopiesOf, AreFirstGoodCopied, AreGoodCopied, Lookup}
 use Rattle.update.specs.World.{Mirror}
@@ -64,10 +64,10 @@ module _ (m n : Mirror) (s : program.Start) (wanted : Wanted) (f : Followed) (o 
       }
 
   -- and its lines were printed
-  pub stored_told : {E : Type 0} (old new : Option (List ℕ)) (p : List (String Global)) (r : Result ℕ E) → p ≡ paths_from wanted f.listed.items
-      → IfOk r (λ status. IsTold o (map string_bytes p) status old new) → IfOk r (λ status. IsStoredOn m s wanted keeps (IsToldOf old new status))
-  stored_told old new p (Ok status) is told = stored (IsToldOf old new status) (subst (λ (l : List (String Global)). IsTold o (map string_bytes l) status old new) is told)
-  stored_told old new p (Err e) is told = tt
+  pub stored_printed : {E : Type 0} (old new : Option (List ℕ)) (p : List (String Global)) (r : Result ℕ E) → p ≡ paths_from wanted f.listed.items
+      → IfOk r (λ status. IsPrinted o (map string_bytes p) status old new) → IfOk r (λ status. IsStoredOn m s wanted keeps (IsPrintedOf old new status))
+  stored_printed old new p (Ok status) is lines = stored (IsPrintedOf old new status) (subst (λ (l : List (String Global)). IsPrinted o (map string_bytes l) status old new) is lines)
+  stored_printed old new p (Err e) is lines = tt
 
   -- ---- and copies were stored, of the paths by another name
 
@@ -88,12 +88,12 @@ module _ (m n : Mirror) (s : program.Start) (wanted : Wanted) (f : Followed) (o 
 
     pub stored_into : {E : Type 0} (old new : Option (List ℕ)) (r : Result ℕ E)
         → ((found : Lookup) → AreCopiesOf took found (map string_bytes p) given → AreGoodCopied found (map string_bytes p) verdicts mid after)
-        → IfOk r (λ status. IsTold o (map string_bytes p) status old new) → IfOk r (λ status. IsStoredOn m s wanted keeps (IsToldInto old new before after status))
-    stored_into old new (Ok status) copied told = stored (IsToldInto old new before after status) (record {
-      told = subst (λ l. IsTold o l status old new) (ap (map string_bytes) paths) told;
+        → IfOk r (λ status. IsPrinted o (map string_bytes p) status old new) → IfOk r (λ status. IsStoredOn m s wanted keeps (IsPrintedInto old new before after status))
+    stored_into old new (Ok status) copied lines = stored (IsPrintedInto old new before after status) (record {
+      is_printed = subst (λ l. IsPrinted o l status old new) (ap (map string_bytes) paths) lines;
       copied = as_copied AreCopied copied;
     })
-    stored_into old new (Err e) copied told = tt
+    stored_into old new (Err e) copied lines = tt
 
     pub begun_into : ((found : Lookup) → AreCopiesOf took found (map string_bytes p) given → AreFirstGoodCopied found (map string_bytes p) verdicts mid after)
         → IsStoredOn m s wanted keeps (AreBegun before after)

@@ -10,7 +10,7 @@ use Rattle.folder.specs.Seen.{is_named}
 use Rattle.measured.specs.Copied.{IsContentOf}
 use Rattle.report.specs.Lines.{is_good}
 use Rattle.update.specs.Causes.{IsCauseToVerify}
-use Rattle.update.specs.Runs.{Files, IsTold, IsUntouched, Outcome, Request, Stores, StoresFrom, World, course}
+use Rattle.update.specs.Runs.{Files, IsPrinted, IsUntouched, Outcome, Request, Stores, StoresFrom, World, course}
 use Rattle.update.specs.declared.start.Start as program
 use Rattle.update.specs.declared.start.Terms.{Terms}
 use Rattle.update.specs.declared.start.Wanted.{Wanted}
@@ -55,9 +55,9 @@ AreFirstCopied found paths old new = (n : ℕ) × AreCopied found (take n paths)
 -- # What a verification stores and prints.
 
 -- the lines were printed, this is the status, and the good paths were copied
-pub record IsToldInto (old new : Option (List ℕ)) (before after : Kept) (status : ℕ)
+pub record IsPrintedInto (old new : Option (List ℕ)) (before after : Kept) (status : ℕ)
     (start : Request) (metadata : Files) (o : Outcome) : Type 0 where
-  pub told : IsTold o start.wanted status old new
+  pub is_printed : IsPrinted o start.wanted status old new
   pub copied : AreCopied (target_for start metadata) (good_paths start.wanted o.verdicts)
       before after
 
@@ -76,7 +76,7 @@ IsUntouchedInto old new before after = IsUntouched old new × (after ≡ before)
 
 abbrev pub IsVerifiedIntoFrom : program.Start → Wanted → World → World → Kept → Kept → ℕ → Type 0
 IsVerifiedIntoFrom s wanted old new before after status =
-    StoresFrom s wanted old new (IsToldInto old.printed new.printed before after status)
+    StoresFrom s wanted old new (IsPrintedInto old.printed new.printed before after status)
 
 -- nothing was stored, copied or printed, or the new state was stored, and the first good paths were
 -- copied
@@ -88,7 +88,7 @@ IsUntouchedOrBegunFrom s wanted old new before after =
 
 abbrev pub IsVerifiedInto : Terms → World → World → Kept → Kept → ℕ → Type 0
 IsVerifiedInto terms old new before after status =
-    Stores terms old new (IsToldInto old.printed new.printed before after status)
+    Stores terms old new (IsPrintedInto old.printed new.printed before after status)
 
 abbrev pub IsUntouchedOrBegun : Terms → World → World → Kept → Kept → Type 0
 IsUntouchedOrBegun terms old new before after =

@@ -53,7 +53,7 @@ pub record AreOutcomesOn (mirrors : List Mirror) (start : Request) (os : List Ou
   pub of_workflow : AreOutcomesIn start contents os
 
 -- the lines of the cycles were printed, and the status is that of the last one
-pub record AreTold (os : List Outcome) (wanted : List (List ℕ)) (status : ℕ)
+pub record ArePrinted (os : List Outcome) (wanted : List (List ℕ)) (status : ℕ)
     (old new : Option (List ℕ)) : Type 0 where
   pub lines : Appends old new (cycles_text wanted os)
   pub answered : status ≡ last_status os
@@ -76,7 +76,7 @@ CyclesStore c old new follows = Begins c.settings old (λ s.
 -- their lines were printed too, and this is the status
 abbrev pub IsReplayed : Cycles → World → World → ℕ → Type 0
 IsReplayed c old new status = CyclesStore c old new
-    (λ os. AreTold os (map string_bytes c.wanted.items) status old.printed new.printed)
+    (λ os. ArePrinted os (map string_bytes c.wanted.items) status old.printed new.printed)
 
 -- nothing was stored or printed, or the last state was stored
 abbrev pub IsUntouchedOrCycled : Cycles → World → World → Type 0

@@ -129,14 +129,14 @@ IsStored (m ∷ []) s wanted keeps follows = IsStoredOn m s wanted keeps follows
 IsStored _ s wanted keeps follows = ⊥
 
 -- the outcome's lines were printed, and the status is its own
-pub record IsTold (o : Outcome) (wanted : List (List ℕ)) (status : ℕ)
+pub record IsPrinted (o : Outcome) (wanted : List (List ℕ)) (status : ℕ)
     (old new : Option (List ℕ)) : Type 0 where
   pub lines : Appends old new (outcome_text o wanted)
   pub answered : status ≡ outcome_status o
 
 -- the same of the paths of the request
-abbrev pub IsToldOf : Option (List ℕ) → Option (List ℕ) → ℕ → Request → Files → Outcome → Type 0
-IsToldOf old new status r metadata o = IsTold o r.wanted status old new
+abbrev pub IsPrintedOf : Option (List ℕ) → Option (List ℕ) → ℕ → Request → Files → Outcome → Type 0
+IsPrintedOf old new status r metadata o = IsPrinted o r.wanted status old new
 
 -- # A verification of the only repository.
 
@@ -150,7 +150,7 @@ StoresFrom s wanted old new = IsStored old.mirrors s wanted (new.keeps s.state.n
 -- its lines were printed too, and this is its status
 abbrev pub IsVerifiedFrom : program.Start → Wanted → World → World → ℕ → Type 0
 IsVerifiedFrom s wanted old new status =
-    StoresFrom s wanted old new (IsToldOf old.printed new.printed status)
+    StoresFrom s wanted old new (IsPrintedOf old.printed new.printed status)
 
 -- nothing was stored or printed, or the new state was stored
 abbrev pub IsUntouchedOrStoredFrom : program.Start → Wanted → World → World → Type 0
@@ -165,7 +165,7 @@ Stores terms old new follows =
 
 abbrev pub IsVerified : Terms → World → World → ℕ → Type 0
 IsVerified terms old new status =
-    Stores terms old new (IsToldOf old.printed new.printed status)
+    Stores terms old new (IsPrintedOf old.printed new.printed status)
 
 abbrev pub IsUntouchedOrStored : Terms → World → World → Type 0
 IsUntouchedOrStored terms old new = IsUntouched old new ⊎ Stores terms old new (λ _ _ _. ⊤)

@@ -6,4 +6,4 @@ use Rattle.command.proofs.sampling.verify.Goals as goal
 pub returns-clause-sampled : goal.returns-clause-sampled
 returns-clause-sampled g c =
     sampled (request c.in_ok-trusted.trusted c.in_ok-now.now c.args.wanted.now c.in_ok-limits.limits.roles) _ _ _ _ _
-    c.tell_outcome.result refl c.in_ok-outcome.ensures.workflow c.tell_outcome.ensures.told
+    c.tell_outcome.result refl c.in_ok-outcome.ensures.workflow c.tell_outcome.ensures.printed

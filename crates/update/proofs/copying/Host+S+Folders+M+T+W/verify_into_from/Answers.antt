@@ -19,7 +19,7 @@ returns-clause-verified g c =
     c.in_ok-followed.ensures.followed c.in_ok-followed.ensures.same.0 c.in_ok-copied.ensures.outcome c.trusted.ensures.value c.in_ok-keep_state.ensures.kept
     g.D.Temporary.Sink.took c.paths-paths.result.now c.in_ok-copied.copied.copies.items c.as_slice-2.result.now c.verdicts.result.now _ _ _
     (c.paths-paths.ensures ∙ ap (paths_from c.args.wanted.now) c.as_slice.ensures.value) c.as_slice-2.ensures.value c.verdicts.ensures.value c.in_ok-copied.ensures.kept c.in_ok-copied.ensures.copies
-    _ _ c.tell_outcome.result c.in_ok-store_copies.ensures.copied c.tell_outcome.ensures.told
+    _ _ c.tell_outcome.result c.in_ok-store_copies.ensures.copied c.tell_outcome.ensures.printed
 
 pub returns-clause-order : goal.returns-clause-order
 returns-clause-order g c =

@@ -1,13 +1,13 @@
 use Rattle.std.proofs.Common.{◌≡◌, ◌∙◌, IfOk, inr, map, rules, string_bytes, subst, true}
 use Rattle.std.specs.Bool.{⊤}
-use Rattle.update.specs.Cycles.{AreTold}
+use Rattle.update.specs.Cycles.{ArePrinted}
 use Rattle.update.specs.Runs.{state_text}
 use Rattle.update.proofs.Beginning.{begins, begins_ok}
 use Rattle.update.proofs.Causing.{carried, read_from, same_read}
-use Rattle.update.proofs.Cycling.{outcomes_before, replayed, replayed_told}
+use Rattle.update.proofs.Cycling.{outcomes_before, replayed, replayed_printed}
 use Rattle.update.proofs.Places.{all_opened_after}
 use Rattle.update.proofs.Storing.{after_failure}
-use Rattle.update.proofs.Telling.{told_all}
+use Rattle.update.proofs.Telling.{printed_all}
 use Rattle.update.proofs.replaying.Host+S+Vec+Folders+M+T+W.replay.Goals as goal
 
 pub outcomes-requires-clause-opened : goal.outcomes-requires-clause-opened
@@ -26,12 +26,12 @@ returns-clause-replayed g c =
     let new = g.W.Write.contents c.tell_cycles.new.out in
     let s = c.in_ok-start.start in
     begins_ok c.args.cycles.now.settings _ s c.in_ok-start.ensures.start _ c.tell_cycles.result
-    (replayed_told _ s c.as_slice.result.now c.args.cycles.now.wanted.items (g.S.System.keeps c.keep_state.new.system s.state.now) c.in_ok-outcomes.outcomes.items c.as_slice.ensures.value
+    (replayed_printed _ s c.as_slice.result.now c.args.cycles.now.wanted.items (g.S.System.keeps c.keep_state.new.system s.state.now) c.in_ok-outcomes.outcomes.items c.as_slice.ensures.value
     (outcomes_before _ _ _ c.in_ok-outcomes.outcomes.items c.in_ok-opened.ensures.same c.in_ok-outcomes.ensures.outcomes)
     (subst (λ t. g.S.System.keeps c.keep_state.new.system s.state.now (state_text t) ≡ true) (c.trusted.ensures.value ∙ c.in_ok-outcomes.ensures.state) c.in_ok-keep_state.ensures.kept)
     old new c.tell_cycles.result
-    (subst (λ os. IfOk c.tell_cycles.result (λ status. AreTold os (map string_bytes c.as_slice.result.now) status old new)) c.as_slice-2.ensures.value
-    (told_all c.as_slice-2.result.now (map string_bytes c.as_slice.result.now) old new c.tell_cycles.result c.tell_cycles.ensures.written c.tell_cycles.ensures.status)))
+    (subst (λ os. IfOk c.tell_cycles.result (λ status. ArePrinted os (map string_bytes c.as_slice.result.now) status old new)) c.as_slice-2.ensures.value
+    (printed_all c.as_slice-2.result.now (map string_bytes c.as_slice.result.now) old new c.tell_cycles.result c.tell_cycles.ensures.written c.tell_cycles.ensures.status)))
 
 pub returns-clause-order : goal.returns-clause-order
 returns-clause-order g c =
