@@ -31,10 +31,10 @@ impl<S: System, M: Folder, T: Folder, W: Write> Host<S, Folders<M, T>, W> {
     /// wanted paths, and then the lines are printed.
     ///
     /// Fails with `Words`, before anything is read, if a given path may not be that of a copy, and
-    /// with `Output` if a copy can't be written; for every file, also if an accepted path may not be
-    /// that of a copy. On failure nothing was stored, copied or printed; or if out of memory or by
-    /// an output error, the new state was stored, and copies of the first good paths. What is
-    /// stored for other paths stays.
+    /// with `Output` if a copy can't be written. If every file is wanted, an accepted path that may
+    /// not be that of a copy is one that can't be written. On failure nothing was stored, copied or
+    /// printed; or if out of memory or by an output error, the new state was stored, and copies of
+    /// the first good paths. What is stored for other paths stays.
     pub fn verify_into<R: Threads + Wait + Sync, N: Gate + Watch + Sync, D: Destination>(
         &mut self,
         threading: &Threading<'_, R, N>,
