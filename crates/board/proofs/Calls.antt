@@ -115,12 +115,12 @@ kept_looked me me' held published j n l seen same k = by_word l seen same
     by_word Invalid seen same = after (seen (inr refl))
 
 -- the verdict of the check that the seat has claimed
-pub told_of : (truths : List Bool) (right : Option ℕ) (verdict : Bool) (j : ℕ) → IfSome right (λ i. verdict ≡ truth truths i) → right ≡ Some j → verdict ≡ truth truths j
-told_of truths right verdict j told e = subst (λ o. IfSome o (λ i. verdict ≡ truth truths i)) e told
+pub claimed_truth : (truths : List Bool) (right : Option ℕ) (verdict : Bool) (j : ℕ) → IfSome right (λ i. verdict ≡ truth truths i) → right ≡ Some j → verdict ≡ truth truths j
+claimed_truth truths right verdict j h e = subst (λ o. IfSome o (λ i. verdict ≡ truth truths i)) e h
 
 -- what a seat keeps after a look, a claim and a publication
 pub ruleset looks = (kept_looked, keeps_all)
 
 pub ruleset claims = (kept_same, kept_holding, keeps_all)
 
-pub ruleset publishes = (kept_done, told_of, keeps_all)
+pub ruleset publishes = (kept_done, claimed_truth, keeps_all)

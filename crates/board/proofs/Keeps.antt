@@ -307,10 +307,10 @@ module _ (truths : List Bool) (slots id : ℕ) (me : Sat) where
           refl,
         )
 
-    looks_told : (s : St) → Rule truths s → get_elem? s.views id ≡ some me.0 → me.0.truths ≡ truths → (me' : Sat) → (IsDecided (check_word s.words j) → me' ≡ (having_found (check_word s.words j) (having_seen me.0 j), me.1))
+    looks_found : (s : St) → Rule truths s → get_elem? s.views id ≡ some me.0 → me.0.truths ≡ truths → (me' : Sat) → (IsDecided (check_word s.words j) → me' ≡ (having_found (check_word s.words j) (having_seen me.0 j), me.1))
         → (¬ IsDecided (check_word s.words j) → me' ≡ (having_found (check_word s.words j) me.0, me.1))
         → Looks (step slots (j + 1) 0 0 none) me (check_word s.words j) me'
-    looks_told s l at of me' seen same i e = subst (Sees me (check_word s.words j) me') is (record {
+    looks_found s l at of me' seen same i e = subst (Sees me (check_word s.words j) me') is (record {
       word = l.values j;
       valid = λ two. subst (λ (xs : List Bool). truth xs j ≡ true) (sym of) (l.valid j two);
       invalid = λ three. subst (λ (xs : List Bool). truth xs j ≡ false) (sym of) (l.invalid j three);
@@ -332,7 +332,7 @@ module _ (truths : List Bool) (slots id : ℕ) (me : Sat) where
           loads truths s (j + 1) id me w (stays truths s.words s.views l id me.0 at w refl refl
               (λ i c. ⊎_elim (λ (a : Contains me.0.seen i). l.decided id me.0 i at (inl a)) (λ (b : Contains (j ∷ []) i). subst (λ (k : ℕ). IsDecided (check_word s.words k)) (only j i b) d) (contains_append me.0.seen (j ∷ []) i c))
               (λ h. l.halted id me.0 at h)),
-          looks_told s l at of (w, me.1) (λ _. refl) (λ n. absurd (n d)),
+          looks_found s l at of (w, me.1) (λ _. refl) (λ n. absurd (n d)),
         )
 
     looks_open : (s : St) → Rule truths s → get_elem? s.views id ≡ some me.0 → me.0.truths ≡ truths → ¬ IsDecided (check_word s.words j) → Next truths s id me (j + 1) (check_word s.words j) (Looks (step slots (j + 1) 0 0 none) me)
@@ -342,7 +342,7 @@ module _ (truths : List Bool) (slots id : ℕ) (me : Sat) where
           keeps,
           tt,
           loads truths s (j + 1) id me w (stays truths s.words s.views l id me.0 at w refl refl (λ i c. l.decided id me.0 i at (inl c)) (λ h. l.halted id me.0 at h)),
-          looks_told s l at of (w, me.1) (λ d. absurd (n d)) (λ _. refl),
+          looks_found s l at of (w, me.1) (λ d. absurd (n d)) (λ _. refl),
         )
 
     pub looks : me.0.truths ≡ truths → Allows (Rule truths) slots id me (j + 1) (λ n. n) (Looks (step slots (j + 1) 0 0 none) me)

@@ -26,7 +26,7 @@ pub fn cuts<T: Threads + Wait + Sync>(shell: &Shell<'_, T>, step: &Step) -> Resu
     let whole = fs::read(shell.rt, name)?;
     let answers = answers_of(shell, step, size, whole.as_slice())?;
     fs::write(shell.rt, name, whole.as_slice())?;
-    all_told(shell.alloc, answers.as_slice())
+    all_printed(shell.alloc, answers.as_slice())
 }
 
 /// Returns the outputs for the beginnings of a file, whose lengths are the multiples of a step.
@@ -72,7 +72,7 @@ fn count(answers: &mut Vec<Answer>, output: Output) -> Result<()> {
 }
 
 /// Returns each output after the number of its lengths and its status.
-fn all_told(alloc: Global, answers: &[Answer]) -> Result<Output> {
+fn all_printed(alloc: Global, answers: &[Answer]) -> Result<Output> {
     let mut all = Output::nothing(alloc);
     for answer in answers {
         let (lengths, status) = (answer.lengths, answer.output.status);

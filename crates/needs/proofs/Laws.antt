@@ -17,15 +17,15 @@ use Rattle.needs.specs.Laws.{AreAbsent, HasEnough, are_optional, has_file, is_on
 use Rattle.needs.specs.Needs.{Names, Need, absent, end_need, file_needs, found_need, is_none_of, is_sought, metadata_needs, name_needs, needs, next_root, noted_files, role_below, root_need, search_need, step_need, target_need, target_needs}
 use Rattle.needs.specs.declared.need.Place.TheVariants as place
 use Rattle.needs.proofs.Lists.{Holds, IsOptional, holds-both, holds-each, holds-from, holds-list, holds-once, holds-somes, none-once, optional-from, optional-none, split}
-use Rattle.needs.proofs.Refusing.{searched-tells}
-use Rattle.needs.proofs.Stopping.{IsGone, IsTold, advanced-tells}
+use Rattle.needs.proofs.Refusing.{searched-lists}
+use Rattle.needs.proofs.Stopping.{IsGone, IsListed, advanced-lists}
 
--- ---- a file that is told is gone
+-- ---- a file that is listed is gone
 
--- what is told if something is short, and is nothing else
-told : (P : Need → Type 0) (files : Files) (short : Bool) (o : Option Need) → ((n : Need) → IsGone files n → P n) → (short ≡ true → IsTold files o) → (short ≡ false → o ≡ None) → Holds P o
-told P files true o p h none = let found = h refl in subst (Holds P) (sym found.1) (p found.0 found.2)
-told P files false o p h none = subst (Holds P) (sym (none refl)) tt
+-- what is listed if something is short, and is nothing else
+holds_listed : (P : Need → Type 0) (files : Files) (short : Bool) (o : Option Need) → ((n : Need) → IsGone files n → P n) → (short ≡ true → IsListed files o) → (short ≡ false → o ≡ None) → Holds P o
+holds_listed P files true o p h none = let found = h refl in subst (Holds P) (sym found.1) (p found.0 found.2)
+holds_listed P files false o p h none = subst (Holds P) (sym (none refl)) tt
 
 no_end : (s : State) (e : End) → is_short_end e ≡ false → end_need s e ≡ None
 no_end s Ready h = refl
@@ -46,13 +46,13 @@ module _ (P : Need → Type 0) (r : Request) (files : Files) (gone : (n : Need) 
   it = course r files
 
   holds-end : Holds P (end_need it.trusted it.end)
-  holds-end = told P files (is_short_end it.end) (end_need it.trusted it.end) gone (advanced-tells files r.moment r.trusted) (no_end it.trusted it.end)
+  holds-end = holds_listed P files (is_short_end it.end) (end_need it.trusted it.end) gone (advanced-lists files r.moment r.trusted) (no_end it.trusted it.end)
 
   holds-searches : (wanted : List (List ℕ)) → ByRecursion (Holds P) (map (search_need it.trusted) (map (searched files r.moment r.limit it.trusted it.end) wanted))
   holds-searches [] = tt
   holds-searches (path ∷ wanted) =
       let o = searched files r.moment r.limit it.trusted it.end path in
-      (told P files (is_short o) (search_need it.trusted o) gone (searched-tells files r.moment path r.limit it.trusted it.end) (no_search it.trusted o), holds-searches wanted)
+      (holds_listed P files (is_short o) (search_need it.trusted o) gone (searched-lists files r.moment path r.limit it.trusted it.end) (no_search it.trusted o), holds-searches wanted)
 
   pub holds-metadata : ByRecursion P (metadata_needs it)
   holds-metadata = holds-once P (end_need it.trusted it.end ∷ map (search_need it.trusted) it.searches) (holds-end, holds-searches r.wanted)
@@ -118,11 +118,11 @@ module _ (r : Request) (files : Files) (metadata targets : Names) (same : (name 
 
   -- ---- if all of them are optional
 
-  not_none : {P : Type 0} (o : Option Need) → IsTold files o → o ≡ None → P
+  not_none : {P : Type 0} (o : Option Need) → IsListed files o → o ≡ None → P
   not_none o t is = absurd (none-some t.0 (sym is ∙ t.1))
 
-  -- what isn't told isn't short
-  not_short : (b : Bool) (o : Option Need) → (b ≡ true → IsTold files o) → o ≡ None → b ≡ false
+  -- what isn't listed isn't short
+  not_short : (b : Bool) (o : Option Need) → (b ≡ true → IsListed files o) → o ≡ None → b ≡ false
   not_short true o h is = not_none o (h refl) is
   not_short false o h is = refl
 
@@ -131,7 +131,7 @@ module _ (r : Request) (files : Files) (metadata targets : Names) (same : (name 
   none_short [] h = refl
   none_short (path ∷ wanted) h =
       let o = searched files r.moment r.limit here.trusted here.end path in
-      and_from (not (is_short o)) _ (ap not (not_short (is_short o) (search_need here.trusted o) (searched-tells files r.moment path r.limit here.trusted here.end) h.0)) (none_short wanted h.1)
+      and_from (not (is_short o)) _ (ap not (not_short (is_short o) (search_need here.trusted o) (searched-lists files r.moment path r.limit here.trusted here.end) h.0)) (none_short wanted h.1)
 
   -- the last name is there if no other is and what is listed is optional
   one_there : (names : List (List ℕ)) (most : ℕ) → ByRecursion IsOptional (name_needs targets most names) → is_one_there targets names ≡ true
@@ -169,7 +169,7 @@ module _ (r : Request) (files : Files) (metadata targets : Names) (same : (name 
       let consistent = here.trusted.root.reading.consistent in
       let others_none = none-once (end_need here.trusted here.end ∷ map (search_need here.trusted) here.searches) (optional-none (metadata_needs here) parts.0 (holds-metadata IsNeeded r files (λ n g. g.needed))) in
       record {
-        end = not_short (is_short_end here.end) (end_need here.trusted here.end) (advanced-tells files r.moment r.trusted) others_none.0;
+        end = not_short (is_short_end here.end) (end_need here.trusted here.end) (advanced-lists files r.moment r.trusted) others_none.0;
         roles = none_short r.wanted others_none.1;
         targets = (files_there consistent [] here.searches parts.1).1;
       }

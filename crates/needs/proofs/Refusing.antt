@@ -18,7 +18,7 @@ use Rattle.cycle.specs.Workflow.{End, Ready, Stopped, searched}
 use Rattle.needs.specs.Laws.{is_short, is_short_found}
 use Rattle.needs.specs.Needs.{found_need, is_missing, role_need, search_need}
 use Rattle.needs.proofs.Missing.{is_miss, gone, targets_part-miss}
-use Rattle.needs.proofs.Stopping.{IsTold}
+use Rattle.needs.proofs.Stopping.{IsListed}
 
 module _ (files : Files) (top : Root) (snap : Snapshot) where
   -- a role that is refused because its file is missing has none
@@ -81,25 +81,25 @@ module _ (files : Files) (top : Root) (snap : Snapshot) where
 
 module _ (files : Files) (now : Moment) where
   -- the file of the role that a search was refused
-  told-found : (s : State) (snap : Part Snapshot) (found : Found) → s.snapshot ≡ Some snap → Lacks files s.root.reading snap.reading (Some found) → is_short_found found ≡ true → IsTold files (found_need s found)
-  told-found s snap (RoleRefused role fault) is h short = (
+  gone-found : (s : State) (snap : Part Snapshot) (found : Found) → s.snapshot ≡ Some snap → Lacks files s.root.reading snap.reading (Some found) → is_short_found found ≡ true → IsListed files (found_need s found)
+  gone-found s snap (RoleRefused role fault) is h short = (
     role_need s.root.reading snap.reading role,
     ap (λ b. if b then option_map (λ n. role_need s.root.reading n.reading role) s.snapshot else None) short ∙ ap (option_map (λ n. role_need s.root.reading n.reading role)) is,
     record { place = refl; needed = refl; absent = h short },
   )
-  told-found s snap (Listed role t visited) is h short = absurd (true≢false (sym short))
-  told-found s snap NotFound is h short = absurd (true≢false (sym short))
-  told-found s snap LimitReached is h short = absurd (true≢false (sym short))
+  gone-found s snap (Listed role t visited) is h short = absurd (true≢false (sym short))
+  gone-found s snap NotFound is h short = absurd (true≢false (sym short))
+  gone-found s snap LimitReached is h short = absurd (true≢false (sym short))
 
   module _ (path : List ℕ) (most : ℕ) (s : State) where
-    told-search : (n : Option (Part Snapshot)) (m : Option (Part Targets)) → s.snapshot ≡ n
+    listed-search : (n : Option (Part Snapshot)) (m : Option (Part Targets)) → s.snapshot ≡ n
         → let o = option_and_then (λ snap. option_map (λ m. search_from files now s.root.reading snap.reading path most m.reading) m) n in
-        is_short o ≡ true → IsTold files (search_need s o)
-    told-search None m is short = absurd (true≢false (sym short))
-    told-search (Some snap) None is short = absurd (true≢false (sym short))
-    told-search (Some snap) (Some m) is short = told-found s snap _ is (lacks-search files s.root.reading snap.reading now path most m.reading) short
+        is_short o ≡ true → IsListed files (search_need s o)
+    listed-search None m is short = absurd (true≢false (sym short))
+    listed-search (Some snap) None is short = absurd (true≢false (sym short))
+    listed-search (Some snap) (Some m) is short = gone-found s snap _ is (lacks-search files s.root.reading snap.reading now path most m.reading) short
 
     -- a search that is refused because a file is missing
-    pub searched-tells : (e : End) → is_short (searched files now most s e path) ≡ true → IsTold files (search_need s (searched files now most s e path))
-    searched-tells Ready short = told-search s.snapshot s.targets refl short
-    searched-tells (Stopped at fault) short = absurd (true≢false (sym short))
+    pub searched-lists : (e : End) → is_short (searched files now most s e path) ≡ true → IsListed files (search_need s (searched files now most s e path))
+    searched-lists Ready short = listed-search s.snapshot s.targets refl short
+    searched-lists (Stopped at fault) short = absurd (true≢false (sym short))

@@ -146,33 +146,33 @@ module _ (f g : Files) (kept : (name : List ℕ) → IfSome (f name) (λ bytes. 
 
 module _ (f g : Files) (kept : (name : List ℕ) → IfSome (f name) (λ bytes. g name ≡ Some bytes)) (now : Moment) where
   -- the file that a search was refused for is missing in both
-  abbrev Told : State → Option Search → Type 0
-  Told s o = (n : Need) → search_need s o ≡ Some n → g n.name ≡ None
+  abbrev AreGone : State → Option Search → Type 0
+  AreGone s o = (n : Need) → search_need s o ≡ Some n → g n.name ≡ None
 
-  told-found : (s : State) (snap : Part Snapshot) (found : Found) → s.snapshot ≡ Some snap → ((n : Need) → found_need s found ≡ Some n → g n.name ≡ None) → Lacks g s.root.reading snap.reading (Some found)
-  told-found s snap (RoleRefused role fault) is h = λ miss.
+  gone-found : (s : State) (snap : Part Snapshot) (found : Found) → s.snapshot ≡ Some snap → ((n : Need) → found_need s found ≡ Some n → g n.name ≡ None) → Lacks g s.root.reading snap.reading (Some found)
+  gone-found s snap (RoleRefused role fault) is h = λ miss.
       h (role_need s.root.reading snap.reading role)
       (ap (λ b. if b then option_map (λ n. role_need s.root.reading n.reading role) s.snapshot else None) miss ∙ ap (option_map (λ n. role_need s.root.reading n.reading role)) is)
-  told-found s snap (Listed role t visited) is h = tt
-  told-found s snap NotFound is h = tt
-  told-found s snap LimitReached is h = tt
+  gone-found s snap (Listed role t visited) is h = tt
+  gone-found s snap NotFound is h = tt
+  gone-found s snap LimitReached is h = tt
 
   module _ (path : List ℕ) (most : ℕ) (s : State) where
     searched_by : Files → Option (Part Snapshot) → Option (Part Targets) → Option Search
     searched_by files n m = option_and_then (λ snap. option_map (λ m. search_from files now s.root.reading snap.reading path most m.reading) m) n
 
-    same_in : (n : Option (Part Snapshot)) (m : Option (Part Targets)) → s.snapshot ≡ n → Told s (searched_by f n m) → searched_by f n m ≡ searched_by g n m
+    same_in : (n : Option (Part Snapshot)) (m : Option (Part Targets)) → s.snapshot ≡ n → AreGone s (searched_by f n m) → searched_by f n m ≡ searched_by g n m
     unfolding searched_by
     same_in None m is h = refl
     same_in (Some snap) None is h = refl
-    same_in (Some snap) (Some m) is h = ap Some (same_search f g kept s.root.reading snap.reading now path most m.reading (told-found s snap _ is h))
+    same_in (Some snap) (Some m) is h = ap Some (same_search f g kept s.root.reading snap.reading now path most m.reading (gone-found s snap _ is h))
 
-    same_searched : (e : End) → Told s (searched f now most s e path) → searched f now most s e path ≡ searched g now most s e path
+    same_searched : (e : End) → AreGone s (searched f now most s e path) → searched f now most s e path ≡ searched g now most s e path
     unfolding searched_by
     same_searched Ready h = same_in s.snapshot s.targets refl h
     same_searched (Stopped at fault) h = refl
 
-  same_searches : (most : ℕ) (s : State) (e : End) (wanted : List (List ℕ)) → ByRecursion (λ o. Told s o) (map (searched f now most s e) wanted) → map (searched f now most s e) wanted ≡ map (searched g now most s e) wanted
+  same_searches : (most : ℕ) (s : State) (e : End) (wanted : List (List ℕ)) → ByRecursion (λ o. AreGone s o) (map (searched f now most s e) wanted) → map (searched f now most s e) wanted ≡ map (searched g now most s e) wanted
   same_searches most s e [] h = refl
   same_searches most s e (path ∷ wanted) h =
       ap (λ o. o ∷ map (searched f now most s e) wanted) (same_searched path most s e h.0)
@@ -279,16 +279,16 @@ module _ (r : Request) (files : Files) (metadata targets : Names) (same : (name 
         no_next t.root.reading
         (subst (λ (p : Part Root). ByRecursion IsOut (option_to_list (root_need metadata r.trusted.root.reading p.reading))) (sym (last-root files r.moment r.trusted t is)) out.0) less
 
-    told : (searches : List (Option Search)) → ByRecursion (Holds (λ n. more n.name ≡ None)) (map (search_need here.trusted) searches) → ByRecursion (λ o. Told files more m.kept r.moment here.trusted o) searches
-    told [] h = tt
-    told (o ∷ searches) h = ((λ n is. holds-some (λ n. more n.name ≡ None) (search_need here.trusted o) n h.0 is), told searches h.1)
+    all_gone : (searches : List (Option Search)) → ByRecursion (Holds (λ n. more n.name ≡ None)) (map (search_need here.trusted) searches) → ByRecursion (λ o. AreGone files more m.kept r.moment here.trusted o) searches
+    all_gone [] h = tt
+    all_gone (o ∷ searches) h = ((λ n is. holds-some (λ n. more n.name ≡ None) (search_need here.trusted o) n h.0 is), all_gone searches h.1)
 
     pub same_course : course r more ≡ course r files
     unfolding made of
     same_course =
         let a : Advanced = advanced files r.moment r.trusted in
         ap (of more r) (ap ended (sym (same_steps files more m.kept r.moment r.trusted last known)))
-        ∙ ap (made a.state a.end) (sym (same_searches files more m.kept r.moment r.limit a.state a.end r.wanted (told here.searches missing.1)))
+        ∙ ap (made a.state a.end) (sym (same_searches files more m.kept r.moment r.limit a.state a.end r.wanted (all_gone here.searches missing.1)))
 
   -- no other files change the course
   pub is_settled : IsSettled r files listed

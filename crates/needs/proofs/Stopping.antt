@@ -24,8 +24,8 @@ pub record IsGone (files : Files) (n : Need) : Type 0 where
   pub absent : files n.name ≡ None
 
 -- the need is that of a file that is gone
-abbrev pub IsTold : Files → Option Need → Type 0
-IsTold files o = (n : Need) × (o ≡ Some n) × IsGone files n
+abbrev pub IsListed : Files → Option Need → Type 0
+IsListed files o = (n : Need) × (o ≡ Some n) × IsGone files n
 
 -- the file that a step stops for
 abbrev pub stopped_for : Result State Advanced → Option Need
@@ -37,20 +37,20 @@ is_short (Ok s) = false
 is_short (Err a) = is_short_end a.end
 
 -- a step that stops because a file is missing
-abbrev pub Tells : Files → Result State Advanced → Type 0
-Tells files r = is_short r ≡ true → IsTold files (stopped_for r)
+abbrev pub Lists : Files → Result State Advanced → Type 0
+Lists files r = is_short r ≡ true → IsListed files (stopped_for r)
 
 module _ (files : Files) where
-  tells-next : (r : Result State Advanced) (k : State → Result State Advanced) → Tells files r → ((s : State) → Tells files (k s)) → Tells files (r >>= k)
-  tells-next (Ok s) k t more = more s
-  tells-next (Err a) k t more = t
+  lists-next : (r : Result State Advanced) (k : State → Result State Advanced) → Lists files r → ((s : State) → Lists files (k s)) → Lists files (r >>= k)
+  lists-next (Ok s) k t more = more s
+  lists-next (Err a) k t more = t
 
   -- a step that goes on from what was examined
-  tells-step : {A : Type 0} (s : State) (at : Step) (r : Result A Fault) (w : A → State) → (is_miss r ≡ true → IsTold files (step_need s at)) → Tells files (or_stop s at r >>= λ x. Ok (w x))
+  lists-step : {A : Type 0} (s : State) (at : Step) (r : Result A Fault) (w : A → State) → (is_miss r ≡ true → IsListed files (step_need s at)) → Lists files (or_stop s at r >>= λ x. Ok (w x))
   unfolding is_miss
-  tells-step s at (Ok x) w h short = absurd (true≢false (sym short))
-  tells-step s at (Err fault) w h short =
-      let told = h short in (told.0, ap (λ b. if b then step_need s at else None) short ∙ told.1, told.2)
+  lists-step s at (Ok x) w h short = absurd (true≢false (sym short))
+  lists-step s at (Err fault) w h short =
+      let listed = h short in (listed.0, ap (λ b. if b then step_need s at else None) short ∙ listed.1, listed.2)
 
   module _ (now : Moment) where
     -- ---- roots
@@ -69,25 +69,25 @@ module _ (files : Files) where
         last true q h = passes _
         last false q h = h
 
-    after_root : (most : ℕ) (s : State) (r : Result (Option (Part Root)) Fault) → is_miss r ≡ false → ((next : Part Root) → Tells files (followed files most (with_root s next)))
-        → Tells files (or_stop s step.Root r >>= λ next. option_map_or (λ next. followed files most (with_root s next)) next (Ok s))
+    after_root : (most : ℕ) (s : State) (r : Result (Option (Part Root)) Fault) → is_miss r ≡ false → ((next : Part Root) → Lists files (followed files most (with_root s next)))
+        → Lists files (or_stop s step.Root r >>= λ next. option_map_or (λ next. followed files most (with_root s next)) next (Ok s))
     unfolding is_miss
     after_root most s (Err fault) h more short = absurd (true≢false (sym short ∙ h))
     after_root most s (Ok None) h more short = absurd (true≢false (sym short))
     after_root most s (Ok (Some next)) h more short = more next short
 
-    followed-tells : (most : ℕ) (s : State) → Tells files (followed files most s)
+    followed-lists : (most : ℕ) (s : State) → Lists files (followed files most s)
     unfolding followed
-    followed-tells zero s = λ short. absurd (true≢false (sym short))
-    followed-tells (suc most) s = after_root most s (successor files s.root.reading) (successor-sure s.root.reading) (λ next. followed-tells most (with_root s next))
+    followed-lists zero s = λ short. absurd (true≢false (sym short))
+    followed-lists (suc most) s = after_root most s (successor files s.root.reading) (successor-sure s.root.reading) (λ next. followed-lists most (with_root s next))
 
     never : {A : Type 0} {P : Type 0} (r : Result A Fault) → is_miss r ≡ false → is_miss r ≡ true → P
     never r not_so so = absurd (true≢false (sym so ∙ not_so))
 
-    root_step-tells : (s : State) → Tells files (root_step files now s)
-    root_step-tells s =
-        tells-next (followed files most_roots s) (unexpired files now) (followed-tells most_roots s)
-        (λ s. tells-step s step.Root (expiry_check s.root.reading.header now) (λ _. s) (never (expiry_check s.root.reading.header now) (expiry-sure files s.root.reading.header now)))
+    root_step-lists : (s : State) → Lists files (root_step files now s)
+    root_step-lists s =
+        lists-next (followed files most_roots s) (unexpired files now) (followed-lists most_roots s)
+        (λ s. lists-step s step.Root (expiry_check s.root.reading.header now) (λ _. s) (never (expiry_check s.root.reading.header now) (expiry-sure files s.root.reading.header now)))
 
     -- ---- the timestamp
 
@@ -97,9 +97,9 @@ module _ (files : Files) where
         still (next_timestamp (due_timestamp r) old.reading files now) _ (λ newer. one_then (not (is_some newer) && is_expired old.reading.header now) Expired newer refl)
         ∙ next_timestamp-miss files (due_timestamp r) old.reading now
 
-    timestamp_step-tells : (s : State) → Tells files (timestamp_step files now s)
-    timestamp_step-tells s =
-        tells-step s step.Timestamp (newer_timestamp files now s.root.reading s.timestamp) (with_newer s)
+    timestamp_step-lists : (s : State) → Lists files (timestamp_step files now s)
+    timestamp_step-lists s =
+        lists-step s step.Timestamp (newer_timestamp files now s.root.reading s.timestamp) (with_newer s)
         (λ miss. (
           timestamp_need,
           refl,
@@ -112,10 +112,10 @@ module _ (files : Files) where
 
     -- ---- the snapshot
 
-    snapshot-tells : (r : Root) (old : Option Snapshot) (t : Option (Part Timestamp)) → is_miss (or_refuse (reading_in t) NotListed >>= λ t. snapshot_part (due_snapshot r t.snapshot) old files now) ≡ true
-        → IsTold files (option_map (λ t. snapshot_need r t.reading.snapshot) t)
-    snapshot-tells r old None miss = never _ (denied (Part Snapshot) NotListed refl) miss
-    snapshot-tells r old (Some t) miss = (
+    snapshot-lists : (r : Root) (old : Option Snapshot) (t : Option (Part Timestamp)) → is_miss (or_refuse (reading_in t) NotListed >>= λ t. snapshot_part (due_snapshot r t.snapshot) old files now) ≡ true
+        → IsListed files (option_map (λ t. snapshot_need r t.reading.snapshot) t)
+    snapshot-lists r old None miss = never _ (denied (Part Snapshot) NotListed refl) miss
+    snapshot-lists r old (Some t) miss = (
       snapshot_need r t.reading.snapshot,
       refl,
       record {
@@ -125,15 +125,15 @@ module _ (files : Files) where
       },
     )
 
-    snapshot_step-tells : (s : State) → Tells files (snapshot_step files now s)
-    snapshot_step-tells s = tells-step s step.Snapshot (listed_snapshot files now s) (with_snapshot s) (snapshot-tells s.root.reading (reading_in s.snapshot) s.timestamp)
+    snapshot_step-lists : (s : State) → Lists files (snapshot_step files now s)
+    snapshot_step-lists s = lists-step s step.Snapshot (listed_snapshot files now s) (with_snapshot s) (snapshot-lists s.root.reading (reading_in s.snapshot) s.timestamp)
 
     -- ---- the top-level targets file
 
-    targets-tells : (r : Root) (n : Option (Part Snapshot)) → is_miss (or_refuse (reading_in n) NotListed >>= λ n. targets_part (top_targets r n) files now) ≡ true
-        → IsTold files (option_map (λ n. role_need r n.reading (codes "targets")) n)
-    targets-tells r None miss = never _ (denied (Part Targets) NotListed refl) miss
-    targets-tells r (Some n) miss = (
+    targets-lists : (r : Root) (n : Option (Part Snapshot)) → is_miss (or_refuse (reading_in n) NotListed >>= λ n. targets_part (top_targets r n) files now) ≡ true
+        → IsListed files (option_map (λ n. role_need r n.reading (codes "targets")) n)
+    targets-lists r None miss = never _ (denied (Part Targets) NotListed refl) miss
+    targets-lists r (Some n) miss = (
       role_need r n.reading (codes "targets"),
       refl,
       record {
@@ -143,22 +143,22 @@ module _ (files : Files) where
       },
     )
 
-    targets_step-tells : (s : State) → Tells files (targets_step files now s)
-    targets_step-tells s = tells-step s step.Targets (listed_targets files now s) (with_targets s) (targets-tells s.root.reading s.snapshot)
+    targets_step-lists : (s : State) → Lists files (targets_step files now s)
+    targets_step-lists s = lists-step s step.Targets (listed_targets files now s) (with_targets s) (targets-lists s.root.reading s.snapshot)
 
     -- ---- the whole
 
-    steps-tells : (s : State) → Tells files (steps files now s)
+    steps-lists : (s : State) → Lists files (steps files now s)
     unfolding steps
-    steps-tells s =
-        tells-next (root_step files now s) _ (root_step-tells s)
-        (λ s. tells-next (timestamp_step files now s) _ (timestamp_step-tells s)
-        (λ s. tells-next (snapshot_step files now s) _ (snapshot_step-tells s) targets_step-tells))
+    steps-lists s =
+        lists-next (root_step files now s) _ (root_step-lists s)
+        (λ s. lists-next (timestamp_step files now s) _ (timestamp_step-lists s)
+        (λ s. lists-next (snapshot_step files now s) _ (snapshot_step-lists s) targets_step-lists))
 
-    ended-tells : (r : Result State Advanced) → Tells files r → is_short_end (ended r).end ≡ true → IsTold files (end_need (ended r).state (ended r).end)
-    ended-tells (Ok s) t short = absurd (true≢false (sym short))
-    ended-tells (Err a) t short = t short
+    ended-lists : (r : Result State Advanced) → Lists files r → is_short_end (ended r).end ≡ true → IsListed files (end_need (ended r).state (ended r).end)
+    ended-lists (Ok s) t short = absurd (true≢false (sym short))
+    ended-lists (Err a) t short = t short
 
     -- a cycle that stops because a file is missing
-    pub advanced-tells : (s : State) → is_short_end (advanced files now s).end ≡ true → IsTold files (end_need (advanced files now s).state (advanced files now s).end)
-    advanced-tells s = ended-tells (steps files now s) (steps-tells s)
+    pub advanced-lists : (s : State) → is_short_end (advanced files now s).end ≡ true → IsListed files (end_need (advanced files now s).state (advanced files now s).end)
+    advanced-lists s = ended-lists (steps files now s) (steps-lists s)

@@ -34,7 +34,7 @@ fn lines_are_put(rt: HostRuntime) -> Result<(), Fail> {
 }
 
 #[test]
-fn failures_are_told(rt: HostRuntime) -> Result<(), Fail> {
+fn failures_are_printed(rt: HostRuntime) -> Result<(), Fail> {
     let rows = [
         (Failure::Words, 3, "tufcheck: words\n"),
         (Failure::Now, 3, "tufcheck: now\n"),

@@ -28,7 +28,7 @@ pub fn lines<F: Files + AllocGlobal + Clone + Drop, T: Threads + Wait + Sync>(
     let asked = Asked::of_step(step)?;
     let made = read(files, alloc, step.word(0)?)?;
     let gate = Schedule::new(asked.rule);
-    told_by_run(rt, alloc, &made, asked, step.words_behind(4), &gate)
+    lines_of_run(rt, alloc, &made, asked, step.words_behind(4), &gate)
 }
 
 /// Returns the lines and the status of a cycle on one thread.
@@ -38,7 +38,7 @@ pub fn alone<R: Files + AllocGlobal + Clone + Drop>(
     step: &Step,
 ) -> Result<Output> {
     let made = read(rt, alloc, step.word(0)?)?;
-    told_alone(alloc, &made, step.words_behind(1))
+    lines_alone(alloc, &made, step.words_behind(1))
 }
 
 /// Returns the same lines and status for the workflow up to the searches, ended by the target
@@ -113,15 +113,15 @@ pub fn agrees<F: Files + AllocGlobal + Clone + Drop, T: Threads + Wait + Sync>(
     let made = read(files, alloc, step.word(0)?)?;
     let wanted = step.words_behind(4);
     let gate = Schedule::new(asked.rule);
-    let alone = told_alone(alloc, &made, wanted)?;
-    let is_same = tells(rt, alloc, &made, asked, wanted, &gate, &alone)?;
+    let alone = lines_alone(alloc, &made, wanted)?;
+    let is_same = prints_the_same(rt, alloc, &made, asked, wanted, &gate, &alone)?;
     let word = if is_same { "yes" } else { "no" };
     let text = format!(in alloc; "{word}\nlate {}\n", gate.late())?;
     Ok(Output::printed(alloc, text))
 }
 
 /// Returns whether a run with workers prints this.
-pub fn tells<R: Threads + Wait + Sync>(
+pub fn prints_the_same<R: Threads + Wait + Sync>(
     rt: &R,
     alloc: Global,
     made: &Made,
@@ -130,11 +130,11 @@ pub fn tells<R: Threads + Wait + Sync>(
     gate: &Schedule,
     alone: &Output,
 ) -> Result<bool> {
-    let output = told_by_run(rt, alloc, made, asked, wanted, gate)?;
+    let output = lines_of_run(rt, alloc, made, asked, wanted, gate)?;
     Ok(output.status == alone.status && output.out == alone.out)
 }
 
-fn told_by_run<R: Threads + Wait + Sync>(
+fn lines_of_run<R: Threads + Wait + Sync>(
     rt: &R,
     alloc: Global,
     made: &Made,
@@ -147,7 +147,7 @@ fn told_by_run<R: Threads + Wait + Sync>(
 }
 
 /// Returns what a cycle on one thread prints.
-pub fn told_alone(alloc: Global, made: &Made, wanted: &[String]) -> Result<Output> {
+pub fn lines_alone(alloc: Global, made: &Made, wanted: &[String]) -> Result<Output> {
     let outcome = ran_alone(alloc, made, wanted)?;
     output(alloc, &outcome, wanted)
 }

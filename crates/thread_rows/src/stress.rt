@@ -3,7 +3,7 @@
 use crate::asked::Asked;
 use crate::gates::{Rule, Schedule, mixed};
 use crate::repositories::{Made, read};
-use crate::runs::{tells, told_alone};
+use crate::runs::{lines_alone, prints_the_same};
 use anyhow::Result;
 use sessions::{Output, Step};
 use std::alloc::Global;
@@ -34,12 +34,12 @@ fn differing<R: Threads + Wait + Sync>(
     runs: u64,
     seed: u64,
 ) -> Result<u64> {
-    let alone = told_alone(alloc, made, wanted)?;
+    let alone = lines_alone(alloc, made, wanted)?;
     let mut differing: u64 = 0;
     for run in 0..runs {
         let asked = drawn(mixed(seed ^ run));
         let gate = Schedule::new(asked.rule);
-        if !tells(rt, alloc, made, asked, wanted, &gate, &alone)? {
+        if !prints_the_same(rt, alloc, made, asked, wanted, &gate, &alone)? {
             differing = differing.saturating_add(1);
         }
     }

@@ -8,8 +8,8 @@ lanes-preserved g c =
     let call = c.prefix_word in
     record {
       size = search rules;
-      told = λ i lt. elim (cases_lt i c.lanes.i) [
-        | inl before ↦ c.lanes.invariant.told i before
+      each = λ i lt. elim (cases_lt i c.lanes.i) [
+        | inl before ↦ c.lanes.invariant.each i before
         | inr after ↦
             let e : c.lanes.i ≡ i = omega arith in
             rw (← e) call.ensures.size

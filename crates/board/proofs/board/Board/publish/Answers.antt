@@ -2,7 +2,7 @@ use Rattle.std.proofs.Common.{◌≡◌, ◌<◌, length, sym, ap, ◌∙◌, su
 use Rattle.board.specs.Board.{truth, BoardValue, Sat}
 use Rattle.board.proofs.SeatLemmas.{all_done}
 use Rattle.board.proofs.Keeps.{publishes}
-use Rattle.board.proofs.Calls.{same_table, same_truths, right_of, told_of, verdict_is, keeps_seat, kept_done}
+use Rattle.board.proofs.Calls.{same_table, same_truths, right_of, claimed_truth, verdict_is, keeps_seat, kept_done}
 use Rattle.board.proofs.board.Board.publish.Goals as goal
 use Rattle.board.proofs.board.Board.publish.Goals.{then-verdict, else-verdict}
 
@@ -12,8 +12,8 @@ store-requires c =
     let of = same_truths _ _ _ _ c.self.view_is c.seat.view_is c.requires.seat in
     let right = sym c.seat.invariant.holds ∙ c.in-Some.is in
     let within : j < length c.self.inside.table.shared.key.list = subst (λ xs. j < length xs) of (c.seat.invariant.within j c.in-Some.is) in
-    let told = told_of _ _ _ _ c.requires.truth (sym (right_of _ _ c.seat.view_is) ∙ right) in
-    let true_here = subst (λ (b : BoardValue). c.args.verdict ≡ truth b.truths j) (sym c.self.view_is) told in
+    let is_true = claimed_truth _ _ _ _ c.requires.truth (sym (right_of _ _ c.seat.view_is) ∙ right) in
+    let true_here = subst (λ (b : BoardValue). c.args.verdict ≡ truth b.truths j) (sym c.self.view_is) is_true in
     let w = verdict_is c.args.verdict (truth c.self.inside.table.shared.key.list j) c.if-verdict.word true_here
     (λ t. elim c.if-verdict.branch [ then-verdict w ↦ w.word-is | else-verdict w ↦ absurd (true≢false (sym t ∙ w.if-verdict.false)) ])
     (λ f. elim c.if-verdict.branch [ then-verdict w ↦ absurd (true≢false (sym w.if-verdict.true ∙ f)) | else-verdict w ↦ w.word-is ]) in
@@ -25,12 +25,12 @@ store-requires c =
 
 pub invariant_of-seat : goal.invariant_of-seat
 invariant_of-seat c =
-    let told = c.store.ensures.2 c.in-Some.j refl in
-    let fits = told.1.1 in
-    let same = ap (λ (m : Sat). length m.0.truths) told.0 in
+    let stored = c.store.ensures.2 c.in-Some.j refl in
+    let fits = stored.1.1 in
+    let same = ap (λ (m : Sat). length m.0.truths) stored.0 in
     let all = ap length (same_truths _ _ _ _ c.self.view_is c.seat.view_is c.requires.seat) in
     let most = c.self.invariant.1 in
-    kept_done _ _ _ _ c.seat.invariant c.in-Some.j told.0 told.1.0 (omega arith)
+    kept_done _ _ _ _ c.seat.invariant c.in-Some.j stored.0 stored.1.0 (omega arith)
 
 pub returns-clause-kept : goal.returns-clause-kept
 returns-clause-kept c =
