@@ -17,19 +17,37 @@ pub fn parse<'a>(alloc: Global, words: &'a [String]) -> Result<ArgMatches<'a>, E
 }
 
 fn tufcheck<'a>(alloc: Global) -> Result<Command<'a>, AllocError> {
-    Command::new(alloc, "tufcheck")
+    let command = Command::new(alloc, "tufcheck")
         .about("Verifies an update repository of TUF 1.0 with LMS signatures")
         .version(VERSION)
         .after_help(HELP_END)
-        .bin_name("tufcheck")?
         .no_binary_name(true)
-        .subcommand_required(true)
-        .subcommand(init_command(alloc)?)?
-        .subcommand(verify_command(alloc)?)?
-        .subcommand(replay_command(alloc)?)?
-        .subcommand(next_command(alloc)?)?
-        .subcommand(show_command(alloc)?)?
-        .subcommand(make_command(alloc)?)
+        .subcommand_required(true);
+    let command = command.bin_name("tufcheck")?;
+    let command = with_command(command, init_command(alloc))?;
+    let command = with_runs(alloc, command)?;
+    let command = with_command(command, show_command(alloc))?;
+    with_command(command, make_command(alloc))
+}
+
+fn with_runs<'a>(alloc: Global, command: Command<'a>) -> Result<Command<'a>, AllocError> {
+    let command = with_command(command, verify_command(alloc))?;
+    let command = with_command(command, replay_command(alloc))?;
+    with_command(command, next_command(alloc))
+}
+
+fn with_command<'a>(
+    command: Command<'a>,
+    other: Result<Command<'a>, AllocError>,
+) -> Result<Command<'a>, AllocError> {
+    command.subcommand(other?)
+}
+
+fn with_arguments<'a>(
+    command: Command<'a>,
+    arguments: Result<Vec<Arg<'a>>, AllocError>,
+) -> Result<Command<'a>, AllocError> {
+    command.args(arguments?)
 }
 
 fn init_command<'a>(alloc: Global) -> Result<Command<'a>, AllocError> {
@@ -44,62 +62,88 @@ fn verify_command<'a>(alloc: Global) -> Result<Command<'a>, AllocError> {
     let command = Command::new(alloc, "verify")
         .about("Brings the trusted state up to date and checks wanted targets")
         .after_help(VERIFY_END);
+    let command = with_arguments(command, folder_arguments(alloc))?;
+    let command = command.arg(workers_option(alloc))?;
+    let command = with_arguments(command, list_arguments(alloc))?;
+    with_arguments(command, verify_arguments(alloc))
+}
+
+fn folder_arguments<'a>(alloc: Global) -> Result<Vec<Arg<'a>>, AllocError> {
     let arguments = vec![in alloc;
         option(alloc, "state", "STATE", "The trusted state"),
         option(alloc, "metadata", "DIR", METADATA),
         option(alloc, "targets", "DIR", TARGETS),
         now_option(alloc),
         limit_option(alloc),
-        workers_option(alloc),
-        paths_from_option(alloc),
-        null_option(alloc)?,
-        every_option(alloc)?,
+    ]?;
+    Ok(arguments)
+}
+
+fn list_arguments<'a>(alloc: Global) -> Result<Vec<Arg<'a>>, AllocError> {
+    let null = null_option(alloc)?;
+    let arguments = vec![in alloc; paths_from_option(alloc), null]?;
+    Ok(arguments)
+}
+
+fn verify_arguments<'a>(alloc: Global) -> Result<Vec<Arg<'a>>, AllocError> {
+    let every = every_option(alloc)?;
+    let arguments = vec![in alloc;
+        every,
         into_option(alloc),
         progress_option(alloc),
         option(alloc, "out", "STATE", "Where the new state is written"),
         several(alloc, "PATH", "The wanted targets").num_args(0..),
     ]?;
-    command.args(arguments)
+    Ok(arguments)
 }
 
 fn replay_command<'a>(alloc: Global) -> Result<Command<'a>, AllocError> {
     let command = Command::new(alloc, "replay")
         .about("Verifies repositories one after another, as `verify` does")
         .after_help(REPLAY_END);
-    let repositories = several(alloc, "DIR", "The repositories, in order");
+    let command = with_arguments(command, keeper_arguments(alloc))?;
+    let command = with_arguments(command, list_arguments(alloc))?;
+    with_arguments(command, replay_arguments(alloc))
+}
+
+fn keeper_arguments<'a>(alloc: Global) -> Result<Vec<Arg<'a>>, AllocError> {
     let arguments = vec![in alloc;
         option(alloc, "state", "STATE", "The trusted state"),
         now_option(alloc),
         limit_option(alloc),
         workers_option(alloc),
         keep_option(alloc),
-        paths_from_option(alloc),
-        null_option(alloc)?,
+    ]?;
+    Ok(arguments)
+}
+
+fn replay_arguments<'a>(alloc: Global) -> Result<Vec<Arg<'a>>, AllocError> {
+    let repositories = several(alloc, "DIR", "The repositories, in order");
+    let arguments = vec![in alloc;
         progress_option(alloc),
         option(alloc, "out", "STATE", "Where the last state is written"),
         file(alloc, "PATH", "The wanted target"),
         repositories.required(true).num_args(1..),
     ]?;
-    command.args(arguments)
+    Ok(arguments)
 }
 
 fn next_command<'a>(alloc: Global) -> Result<Command<'a>, AllocError> {
     let command = Command::new(alloc, "next")
         .about("Prints the names of the files that have to be fetched next")
         .after_help(NEXT_END);
+    let command = with_arguments(command, folder_arguments(alloc))?;
+    let command = with_arguments(command, list_arguments(alloc))?;
+    with_arguments(command, next_arguments(alloc))
+}
+
+fn next_arguments<'a>(alloc: Global) -> Result<Vec<Arg<'a>>, AllocError> {
     let arguments = vec![in alloc;
-        option(alloc, "state", "STATE", "The trusted state"),
-        option(alloc, "metadata", "DIR", METADATA),
-        option(alloc, "targets", "DIR", TARGETS),
-        now_option(alloc),
-        limit_option(alloc),
-        paths_from_option(alloc),
-        null_option(alloc)?,
         only_option(alloc),
         progress_option(alloc),
         several(alloc, "PATH", "The wanted targets").num_args(0..),
     ]?;
-    command.args(arguments)
+    Ok(arguments)
 }
 
 fn show_command<'a>(alloc: Global) -> Result<Command<'a>, AllocError> {
