@@ -9,7 +9,6 @@ use serde_json::Value;
 use sessions::{Output, Step, script_of};
 use std::alloc::Global;
 use std::fs;
-use std::rt::Files;
 
 /// Puts a text in place of another, where this is first in the file. The first line is the old
 /// text, in which `...` matches as little as possible, and the others are the new one, in the form

@@ -5,19 +5,18 @@ use anyhow::Result;
 use sessions::Step;
 use std::alloc::Global;
 use std::fs;
-use std::rt::Files;
 
 /// The commands of the cycle, and the files that rows leave for later ones.
 #[derive(Clone, Copy, Drop)]
-pub struct Layers<'a, R> {
-    rt: &'a R,
+pub struct Layers<'a> {
+    rt: &'a HostRuntime,
     /// The allocator.
     pub(crate) alloc: Global,
 }
 
-impl<'a, R: Files + AllocGlobal + Clone + Drop> Layers<'a, R> {
+impl<'a> Layers<'a> {
     /// Returns the commands over a place of files.
-    pub fn new(rt: &'a R, alloc: Global) -> Layers<'a, R> {
+    pub fn new(rt: &'a HostRuntime, alloc: Global) -> Layers<'a> {
         Layers { rt, alloc }
     }
 

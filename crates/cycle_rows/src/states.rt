@@ -7,13 +7,9 @@ use meta::Header;
 use rolechain::{StateFault, Trusted};
 use sessions::Step;
 use std::alloc::Global;
-use std::rt::Files;
 
 /// Returns the state of a root, whether the root has the file's bytes, and the state's text.
-pub fn trust<R: Files + AllocGlobal + Clone + Drop>(
-    layers: &Layers<'_, R>,
-    step: &Step,
-) -> Result<String> {
+pub fn trust(layers: &Layers<'_>, step: &Step) -> Result<String> {
     let bytes = layers.bytes(step.word(0)?)?;
     match Trusted::from_root(layers.alloc, &bytes) {
         Ok(trusted) => begun(layers.alloc, &trusted, &bytes),
@@ -31,10 +27,7 @@ fn begun(alloc: Global, trusted: &Trusted, root: &[u8]) -> Result<String> {
 }
 
 /// Returns the state whose text has the members, each given as `NAME=FILE`.
-pub fn state<R: Files + AllocGlobal + Clone + Drop>(
-    layers: &Layers<'_, R>,
-    step: &Step,
-) -> Result<String> {
+pub fn state(layers: &Layers<'_>, step: &Step) -> Result<String> {
     let mut text = String::from_str(layers.alloc, "{")?;
     let mut comma = "";
     for member in step.words() {
@@ -45,22 +38,14 @@ pub fn state<R: Files + AllocGlobal + Clone + Drop>(
     read(layers.alloc, text.as_str())
 }
 
-fn push_member<R: Files + AllocGlobal + Clone + Drop>(
-    layers: &Layers<'_, R>,
-    text: &mut String,
-    comma: &str,
-    member: &str,
-) -> Result<()> {
+fn push_member(layers: &Layers<'_>, text: &mut String, comma: &str, member: &str) -> Result<()> {
     let (name, file) = member.split_once("=").context("no member")?;
     let digits = digits(layers, file)?;
     write!(text, "{comma}\"{name}\":\"{digits}\"")?;
     Ok(())
 }
 
-fn digits<R: Files + AllocGlobal + Clone + Drop>(
-    layers: &Layers<'_, R>,
-    name: &str,
-) -> Result<String> {
+fn digits(layers: &Layers<'_>, name: &str) -> Result<String> {
     let bytes = layers.bytes(name)?;
     Ok(hex::encode(layers.alloc, bytes.as_slice())?)
 }

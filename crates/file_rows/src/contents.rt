@@ -7,7 +7,6 @@ use keys::Direct;
 use meta::{Fault, Part, Reading, Targets, Timestamp};
 use sessions::Step;
 use std::alloc::Global;
-use std::rt::Files;
 
 fn shown(alloc: Global, fault: Option<Fault>) -> Result<String> {
     match fault {
@@ -25,8 +24,8 @@ fn limit_of(step: &Step) -> Result<Option<u64>> {
 }
 
 /// Returns the valid file of a kind with the new part in place of the old.
-fn file_with<A: Reading + Drop, R: Files + AllocGlobal + Clone + Drop>(
-    layers: &Layers<'_, R>,
+fn file_with<A: Reading + Drop>(
+    layers: &Layers<'_>,
     kind: &str,
     old: &str,
     new: &str,
@@ -41,10 +40,7 @@ fn read<A: Reading + Drop>(alloc: Global, signed: &str) -> Result<Part<A>> {
 }
 
 /// Checks a listing with the members, and returns the result.
-pub fn check_listing<R: Files + AllocGlobal + Clone + Drop>(
-    layers: &Layers<'_, R>,
-    step: &Step,
-) -> Result<String> {
+pub fn check_listing(layers: &Layers<'_>, step: &Step) -> Result<String> {
     let members = step.text_behind(1);
     let new = format!(in layers.alloc; "\"snapshot.json\":{{\"version\":1,{members}}},\"x\":{{")?;
     let part: Part<Timestamp> = file_with(
@@ -59,10 +55,7 @@ pub fn check_listing<R: Files + AllocGlobal + Clone + Drop>(
 }
 
 /// Checks a target with the members, and returns the result.
-pub fn check_target<R: Files + AllocGlobal + Clone + Drop>(
-    layers: &Layers<'_, R>,
-    step: &Step,
-) -> Result<String> {
+pub fn check_target(layers: &Layers<'_>, step: &Step) -> Result<String> {
     let members = step.text_behind(1);
     let new = format!(in layers.alloc; "\"a\":{{{members}}},\"c/abc.txt\":{{")?;
     let part: Part<Targets> = file_with(layers, "targets", "\"c/abc.txt\":{", new.as_str())?;

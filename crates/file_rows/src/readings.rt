@@ -13,14 +13,10 @@ use meta::{
 };
 use sessions::Step;
 use std::alloc::Global;
-use std::rt::Files;
 
 /// Reads the valid file of a kind after the change of the lines: the first line is the old text,
 /// and the second the new one.
-pub fn read<R: Files + AllocGlobal + Clone + Drop>(
-    layers: &Layers<'_, R>,
-    step: &Step,
-) -> Result<String> {
+pub fn read(layers: &Layers<'_>, step: &Step) -> Result<String> {
     let kind = step.word(0)?;
     let good = good(layers, kind)?;
     let bytes = file_after(layers.alloc, good.as_str(), step.script.as_slice())?;

@@ -7,7 +7,6 @@ use lms::{Height, MOST_SIGNATURE, Public, Secret, Width, verify};
 use sessions::Step;
 use sha2::{Digest, Sha256};
 use std::alloc::Global;
-use std::rt::Files;
 
 /// A public key, a message, and a signature. A file of them has a line of hexadecimal digits for
 /// each.
@@ -88,19 +87,13 @@ fn turn(bytes: &mut Vec<u8>, at: &str, bits: &str) -> Result<()> {
 }
 
 /// Reads the vector in a file.
-fn vector_in<R: Files + AllocGlobal + Clone + Drop>(
-    layers: &Layers<'_, R>,
-    name: &str,
-) -> Result<Vector> {
+fn vector_in(layers: &Layers<'_>, name: &str) -> Result<Vector> {
     let text = layers.text(name)?;
     Vector::read(layers.alloc, text.as_str())
 }
 
 /// Returns whether the signature in a file is valid, after a change.
-pub fn verified<R: Files + AllocGlobal + Clone + Drop>(
-    layers: &Layers<'_, R>,
-    step: &Step,
-) -> Result<String> {
+pub fn verified(layers: &Layers<'_>, step: &Step) -> Result<String> {
     let mut vector = vector_in(layers, step.word(0)?)?;
     vector.change(step.words_behind(1))?;
     output(layers.alloc, vector.is_valid()?)
@@ -124,10 +117,7 @@ fn secret(alloc: Global, width: &str, height: &str) -> Result<Secret> {
 
 /// Signs a message six times, leaves the first signature and the sixth in files, and returns the
 /// line of the first.
-pub fn sign<R: Files + AllocGlobal + Clone + Drop>(
-    layers: &Layers<'_, R>,
-    step: &Step,
-) -> Result<String> {
+pub fn sign(layers: &Layers<'_>, step: &Step) -> Result<String> {
     let (first, sixth) = first_and_sixth(layers.alloc, step)?;
     leave(layers, step.word(3)?, &first)?;
     leave(layers, step.word(4)?, &sixth)?;
@@ -142,11 +132,7 @@ fn first_and_sixth(alloc: Global, step: &Step) -> Result<(Vector, Vector)> {
     Ok((first, sixth))
 }
 
-fn leave<R: Files + AllocGlobal + Clone + Drop>(
-    layers: &Layers<'_, R>,
-    name: &str,
-    vector: &Vector,
-) -> Result<()> {
+fn leave(layers: &Layers<'_>, name: &str, vector: &Vector) -> Result<()> {
     let text = vector.text(layers.alloc)?;
     layers.write(name, text.as_str())
 }
@@ -169,10 +155,7 @@ fn signed(alloc: Global, secret: &mut Secret, message: &[u8]) -> Result<Vector> 
 }
 
 /// Returns the line of the signature in a file.
-pub fn about<R: Files + AllocGlobal + Clone + Drop>(
-    layers: &Layers<'_, R>,
-    step: &Step,
-) -> Result<String> {
+pub fn about(layers: &Layers<'_>, step: &Step) -> Result<String> {
     let vector = vector_in(layers, step.word(0)?)?;
     tell(layers.alloc, &vector)
 }

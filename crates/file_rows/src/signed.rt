@@ -3,13 +3,9 @@
 use crate::layers::Layers;
 use anyhow::{Context, Result, bail};
 use std::alloc::Global;
-use std::rt::Files;
 
 /// Returns the `signed` of the valid file of a kind.
-pub fn good<R: Files + AllocGlobal + Clone + Drop>(
-    layers: &Layers<'_, R>,
-    kind: &str,
-) -> Result<String> {
+pub fn good(layers: &Layers<'_>, kind: &str) -> Result<String> {
     let file = format!(in layers.alloc; "cases/{kind}.json")?;
     let text = layers.text(file.as_str())?;
     Ok(String::from_str(layers.alloc, text.as_str().trim_end())?)

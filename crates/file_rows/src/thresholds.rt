@@ -8,7 +8,6 @@ use keys::{Ask, Direct, Judge, KeyRing, RoleKeys, enough, key_id};
 use lms::{Height, Public, Secret};
 use sessions::Step;
 use std::alloc::Global;
-use std::rt::Files;
 
 /// The canonical text of what is signed, which the files here write differently.
 const SIGNED: &[u8] = b"{\"a\":1,\"b\":[]}";
@@ -18,10 +17,7 @@ const RING: &str = "ring";
 
 /// Makes a key of a byte, with a type and further members, which signs once. It is in the ring
 /// under its own id, or under that of the line.
-pub fn signer<R: Files + AllocGlobal + Clone + Drop>(
-    layers: &Layers<'_, R>,
-    step: &Step,
-) -> Result<String> {
+pub fn signer(layers: &Layers<'_>, step: &Step) -> Result<String> {
     let alloc = layers.alloc;
     let name = step.word(0)?;
     let (public, sig) = signed_once(alloc, step.word(1)?)?;
@@ -62,23 +58,13 @@ fn own_id(alloc: Global, key: &str) -> Result<String> {
 }
 
 /// Writes what belongs to a signer.
-fn add<R: Files + AllocGlobal + Clone + Drop>(
-    layers: &Layers<'_, R>,
-    name: &str,
-    part: &str,
-    text: &str,
-) -> Result<()> {
+fn add(layers: &Layers<'_>, name: &str, part: &str, text: &str) -> Result<()> {
     let file = format!(in layers.alloc; "{name}.{part}")?;
     layers.write(file.as_str(), text)
 }
 
 /// Writes the id of a signer, and puts its key into the ring.
-fn add_key<R: Files + AllocGlobal + Clone + Drop>(
-    layers: &Layers<'_, R>,
-    name: &str,
-    id: &str,
-    key: &str,
-) -> Result<()> {
+fn add_key(layers: &Layers<'_>, name: &str, id: &str, key: &str) -> Result<()> {
     add(layers, name, "id", id)?;
     let mut members = String::new(layers.alloc);
     if layers.has(RING)? {
@@ -90,20 +76,13 @@ fn add_key<R: Files + AllocGlobal + Clone + Drop>(
 }
 
 /// Returns a part of a signer's files.
-fn part<R: Files + AllocGlobal + Clone + Drop>(
-    layers: &Layers<'_, R>,
-    name: &str,
-    part: &str,
-) -> Result<String> {
+fn part(layers: &Layers<'_>, name: &str, part: &str) -> Result<String> {
     let file = format!(in layers.alloc; "{name}.{part}")?;
     layers.text(file.as_str())
 }
 
 /// Returns the id of a signer. A name that no signer has is an id itself.
-fn id_of<R: Files + AllocGlobal + Clone + Drop>(
-    layers: &Layers<'_, R>,
-    name: &str,
-) -> Result<String> {
+fn id_of(layers: &Layers<'_>, name: &str) -> Result<String> {
     let file = format!(in layers.alloc; "{name}.id")?;
     if layers.has(file.as_str())? {
         layers.text(file.as_str())
@@ -112,7 +91,7 @@ fn id_of<R: Files + AllocGlobal + Clone + Drop>(
     }
 }
 
-fn ring<R: Files + AllocGlobal + Clone + Drop>(layers: &Layers<'_, R>) -> Result<KeyRing> {
+fn ring(layers: &Layers<'_>) -> Result<KeyRing> {
     let members = layers.text(RING)?;
     let text = format!(in layers.alloc; "{{{members}}}")?;
     let json = Json::read(layers.alloc, text.as_str())?;
@@ -120,11 +99,7 @@ fn ring<R: Files + AllocGlobal + Clone + Drop>(layers: &Layers<'_, R>) -> Result
 }
 
 /// Returns the role that lists signers, whose names are joined by commas.
-fn role<R: Files + AllocGlobal + Clone + Drop>(
-    layers: &Layers<'_, R>,
-    threshold: &str,
-    names: &str,
-) -> Result<RoleKeys> {
+fn role(layers: &Layers<'_>, threshold: &str, names: &str) -> Result<RoleKeys> {
     let mut ids = String::new(layers.alloc);
     for name in names.split(",") {
         push_id(layers, &mut ids, name)?;
@@ -134,11 +109,7 @@ fn role<R: Files + AllocGlobal + Clone + Drop>(
     Ok(RoleKeys::read(layers.alloc, &json.tree)?.context("no role")?)
 }
 
-fn push_id<R: Files + AllocGlobal + Clone + Drop>(
-    layers: &Layers<'_, R>,
-    ids: &mut String,
-    name: &str,
-) -> Result<()> {
+fn push_id(layers: &Layers<'_>, ids: &mut String, name: &str) -> Result<()> {
     let id = id_of(layers, name)?;
     push_comma(ids)?;
     Ok(write!(ids, "\"{id}\"")?)
@@ -152,10 +123,7 @@ fn push_comma(text: &mut String) -> Result<()> {
 }
 
 /// Returns the file with the entries.
-fn file<R: Files + AllocGlobal + Clone + Drop>(
-    layers: &Layers<'_, R>,
-    entries: &[String],
-) -> Result<String> {
+fn file(layers: &Layers<'_>, entries: &[String]) -> Result<String> {
     let mut listed = String::new(layers.alloc);
     for entry in entries {
         push_comma(&mut listed)?;
@@ -167,11 +135,7 @@ fn file<R: Files + AllocGlobal + Clone + Drop>(
 }
 
 /// Adds the entry that is written as `ID=SIGNATURE`.
-fn push_entry<R: Files + AllocGlobal + Clone + Drop>(
-    layers: &Layers<'_, R>,
-    listed: &mut String,
-    entry: &str,
-) -> Result<()> {
+fn push_entry(layers: &Layers<'_>, listed: &mut String, entry: &str) -> Result<()> {
     let (name, sig) = entry.split_once("=").context("no entry")?;
     let id = id_of(layers, name)?;
     let sig = signature(layers, sig)?;
@@ -181,10 +145,7 @@ fn push_entry<R: Files + AllocGlobal + Clone + Drop>(
 
 /// Returns a signer's signature, `NAME`, or a changed one: `NAME.capitals`, `NAME.short` without
 /// its last digit, `NAME.bad` with a letter in the place of it, or `empty`.
-fn signature<R: Files + AllocGlobal + Clone + Drop>(
-    layers: &Layers<'_, R>,
-    word: &str,
-) -> Result<String> {
+fn signature(layers: &Layers<'_>, word: &str) -> Result<String> {
     if word == "empty" {
         return Ok(String::new(layers.alloc));
     }
@@ -209,19 +170,12 @@ fn spelled(mut text: String, how: &str) -> Result<String> {
 }
 
 /// Returns whether enough keys signed the file.
-pub fn is_enough<R: Files + AllocGlobal + Clone + Drop>(
-    layers: &Layers<'_, R>,
-    step: &Step,
-) -> Result<String> {
+pub fn is_enough(layers: &Layers<'_>, step: &Step) -> Result<String> {
     output(layers.alloc, asked(layers, step, &mut Direct)?)
 }
 
 /// Returns whether enough keys signed the file that is named `root.json`.
-fn asked<R: Files + AllocGlobal + Clone + Drop, J: Judge>(
-    layers: &Layers<'_, R>,
-    step: &Step,
-    judge: &mut J,
-) -> Result<bool> {
+fn asked<J: Judge>(layers: &Layers<'_>, step: &Step, judge: &mut J) -> Result<bool> {
     let role = role(layers, step.word(0)?, step.word(1)?)?;
     let file = file(layers, step.words_behind(2))?;
     let doc = signed_bytes(layers.alloc, file.as_bytes())?;
@@ -252,10 +206,7 @@ impl Judge for Witness {
 }
 
 /// Returns the same result, with the signatures that the judge checked.
-pub fn asks<R: Files + AllocGlobal + Clone + Drop>(
-    layers: &Layers<'_, R>,
-    step: &Step,
-) -> Result<String> {
+pub fn asks(layers: &Layers<'_>, step: &Step) -> Result<String> {
     let mut witness = Witness {
         asks: String::new(layers.alloc),
     };

@@ -9,7 +9,6 @@ use anyhow::{Context, Result};
 use std::alloc::Global;
 use std::fs;
 use std::io::Write;
-use std::rt::Files;
 
 /// The number of steps of a case, and the lines to print for those that differ.
 #[derive(Drop)]
@@ -22,8 +21,8 @@ struct Report {
 /// their names. Prints a report of each, and returns how many differ. Each session starts with
 /// nothing but the folder `cases`, and what it made is removed afterwards. `perform` runs the steps
 /// whose commands this crate hasn't; its error is why a step can't be run.
-pub fn run_all<R: Files + AllocGlobal + Clone + Drop, F: Fn(&Step) -> Result<Output>, W: Write>(
-    rt: &R,
+pub fn run_all<F: Fn(&Step) -> Result<Output>, W: Write>(
+    rt: &HostRuntime,
     alloc: Global,
     out: &mut W,
     ending: &str,
@@ -45,8 +44,8 @@ pub fn run_all<R: Files + AllocGlobal + Clone + Drop, F: Fn(&Step) -> Result<Out
 
 /// Runs the session of that file, prints its report, and removes what it made. Returns whether a
 /// step's output differs from the expected one.
-fn differs<R: Files + AllocGlobal + Clone + Drop, F: Fn(&Step) -> Result<Output>, W: Write>(
-    rt: &R,
+fn differs<F: Fn(&Step) -> Result<Output>, W: Write>(
+    rt: &HostRuntime,
     alloc: Global,
     out: &mut W,
     perform: &F,
@@ -61,8 +60,8 @@ fn differs<R: Files + AllocGlobal + Clone + Drop, F: Fn(&Step) -> Result<Output>
     Ok(!differences.is_empty())
 }
 
-fn report_of<R: Files + AllocGlobal + Clone + Drop, F: Fn(&Step) -> Result<Output>>(
-    rt: &R,
+fn report_of<F: Fn(&Step) -> Result<Output>>(
+    rt: &HostRuntime,
     alloc: Global,
     perform: &F,
     name: &str,
@@ -81,15 +80,15 @@ fn report_of<R: Files + AllocGlobal + Clone + Drop, F: Fn(&Step) -> Result<Outpu
 }
 
 /// Reads the steps of the session of that file.
-fn steps_in<R: Files + AllocGlobal>(rt: &R, alloc: Global, name: &str) -> Result<Vec<Step>> {
+fn steps_in(rt: &HostRuntime, alloc: Global, name: &str) -> Result<Vec<Step>> {
     let path = format!(in alloc; "{}/{name}", room::CASES)?;
     let text = fs::read_to_string(rt, path.as_str())?;
     steps_of(alloc, text.as_str()).context(format_args!("{name}"))
 }
 
 /// Runs a step, and adds its output if that differs from the expected one.
-fn compare<R: Files + AllocGlobal + Clone + Drop, F: Fn(&Step) -> Result<Output>>(
-    rt: &R,
+fn compare<F: Fn(&Step) -> Result<Output>>(
+    rt: &HostRuntime,
     alloc: Global,
     perform: &F,
     step: &Step,

@@ -5,11 +5,10 @@ use crate::files::{copy, folder, has, pad, put, remove, same};
 use crate::output::Output;
 use anyhow::{Error, Result};
 use std::alloc::Global;
-use std::rt::Files;
 
 /// Returns the lines of a step's output. If the step can't be run, a line says why.
-pub fn given_by<R: Files + AllocGlobal + Clone + Drop, F: Fn(&Step) -> Result<Output>>(
-    rt: &R,
+pub fn given_by<F: Fn(&Step) -> Result<Output>>(
+    rt: &HostRuntime,
     alloc: Global,
     perform: &F,
     step: &Step,
@@ -28,8 +27,8 @@ fn undone(alloc: Global, error: Error) -> Result<Vec<String>> {
     Ok(lines)
 }
 
-fn done<R: Files + AllocGlobal + Clone + Drop, F: Fn(&Step) -> Result<Output>>(
-    rt: &R,
+fn done<F: Fn(&Step) -> Result<Output>>(
+    rt: &HostRuntime,
     alloc: Global,
     perform: &F,
     step: &Step,

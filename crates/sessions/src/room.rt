@@ -3,7 +3,6 @@
 use anyhow::{Result, ensure};
 use std::alloc::Global;
 use std::fs;
-use std::rt::Files;
 
 /// The folder of the cases.
 pub const CASES: &str = "cases";
@@ -16,11 +15,7 @@ struct Entry {
 }
 
 /// Returns the entries of a folder.
-fn entries<R: Files + AllocGlobal + Clone + Drop>(
-    rt: &R,
-    alloc: Global,
-    folder: &str,
-) -> Result<Vec<Entry>> {
+fn entries(rt: &HostRuntime, alloc: Global, folder: &str) -> Result<Vec<Entry>> {
     let mut entries = Vec::new(alloc);
     for entry in fs::read_dir(rt, folder)? {
         let entry = entry?;
@@ -33,7 +28,7 @@ fn entries<R: Files + AllocGlobal + Clone + Drop>(
 }
 
 /// Fails if the folder contains anything but the cases, since all else is removed.
-pub fn check<R: Files + AllocGlobal + Clone + Drop>(rt: &R, alloc: Global) -> Result<()> {
+pub fn check(rt: &HostRuntime, alloc: Global) -> Result<()> {
     let entries = entries(rt, alloc, ".")?;
     ensure!(
         entries.iter().all(|entry| entry.name.as_str() == CASES),
@@ -43,14 +38,14 @@ pub fn check<R: Files + AllocGlobal + Clone + Drop>(rt: &R, alloc: Global) -> Re
 }
 
 /// Removes all but the cases.
-pub fn clear<R: Files + AllocGlobal + Clone + Drop>(rt: &R, alloc: Global) -> Result<()> {
+pub fn clear(rt: &HostRuntime, alloc: Global) -> Result<()> {
     for entry in entries(rt, alloc, ".")? {
         remove(rt, &entry)?;
     }
     Ok(())
 }
 
-fn remove<R: Files + AllocGlobal>(rt: &R, entry: &Entry) -> Result<()> {
+fn remove(rt: &HostRuntime, entry: &Entry) -> Result<()> {
     let name = entry.name.as_str();
     if entry.is_folder && name != CASES {
         fs::remove_dir_all(rt, name)?;
@@ -61,11 +56,7 @@ fn remove<R: Files + AllocGlobal>(rt: &R, entry: &Entry) -> Result<()> {
 }
 
 /// Returns the names of the files in the folder of the cases that have this ending, in order.
-pub fn names<R: Files + AllocGlobal + Clone + Drop>(
-    rt: &R,
-    alloc: Global,
-    ending: &str,
-) -> Result<Vec<String>> {
+pub fn names(rt: &HostRuntime, alloc: Global, ending: &str) -> Result<Vec<String>> {
     let mut names = Vec::new(alloc);
     for Entry { name, .. } in entries(rt, alloc, CASES)? {
         if name.as_str().ends_with(ending) {

@@ -4,16 +4,11 @@ use crate::room::CASES;
 use anyhow::{Context, Result};
 use std::alloc::Global;
 use std::fs;
-use std::rt::Files;
 
 /// Returns the script of the lines, each ended by a line feed. `@NAME` means the lines of the file
 /// `NAME.script` among the cases, and `@FIRST..LAST TEXT` a line TEXT for each number, in which
 /// `{}` is the number and `{+}` the one after it.
-pub fn script_of<R: Files + AllocGlobal>(
-    rt: &R,
-    alloc: Global,
-    lines: &[String],
-) -> Result<String> {
+pub fn script_of(rt: &HostRuntime, alloc: Global, lines: &[String]) -> Result<String> {
     let mut script = String::new(alloc);
     for line in lines {
         push_spelled(rt, alloc, &mut script, line.as_str())?;
@@ -22,12 +17,7 @@ pub fn script_of<R: Files + AllocGlobal>(
 }
 
 /// Adds what the line means.
-fn push_spelled<R: Files + AllocGlobal>(
-    rt: &R,
-    alloc: Global,
-    script: &mut String,
-    line: &str,
-) -> Result<()> {
+fn push_spelled(rt: &HostRuntime, alloc: Global, script: &mut String, line: &str) -> Result<()> {
     let Some(short) = line.strip_prefix("@") else {
         return push_line(script, line);
     };
@@ -43,12 +33,7 @@ fn push_line(script: &mut String, line: &str) -> Result<()> {
     Ok(())
 }
 
-fn push_prologue<R: Files + AllocGlobal>(
-    rt: &R,
-    alloc: Global,
-    script: &mut String,
-    name: &str,
-) -> Result<()> {
+fn push_prologue(rt: &HostRuntime, alloc: Global, script: &mut String, name: &str) -> Result<()> {
     let path = format!(in alloc; "{CASES}/{name}.script")?;
     let lines = fs::read_to_string(rt, path.as_str()).context("no file of that name and .script")?;
     script.push_str(lines.as_str())?;

@@ -12,7 +12,6 @@ use report::tell_cycles;
 use sessions::{Output, Step};
 use std::alloc::Global;
 use std::io::Write;
-use std::rt::Files;
 use std::sync::Wait;
 use std::thread::Threads;
 
@@ -20,8 +19,8 @@ use std::thread::Threads;
 const MOST_KEPT: usize = 4096;
 
 /// Returns the lines of a keeper's cycles over repositories, and the status of the last one.
-pub fn cycles<F: Files + AllocGlobal + Clone + Drop, T: Threads + Wait + Sync>(
-    files: &F,
+pub fn cycles<T: Threads + Wait + Sync>(
+    files: &HostRuntime,
     rt: &T,
     alloc: Global,
     step: &Step,
@@ -33,8 +32,8 @@ pub fn cycles<F: Files + AllocGlobal + Clone + Drop, T: Threads + Wait + Sync>(
 
 /// Returns the counts of each of a keeper's cycles over repositories, and how many waits of the
 /// gate met their limit.
-pub fn kept<F: Files + AllocGlobal + Clone + Drop, T: Threads + Wait + Sync>(
-    files: &F,
+pub fn kept<T: Threads + Wait + Sync>(
+    files: &HostRuntime,
     rt: &T,
     alloc: Global,
     step: &Step,
@@ -45,11 +44,7 @@ pub fn kept<F: Files + AllocGlobal + Clone + Drop, T: Threads + Wait + Sync>(
 }
 
 /// Reads the repositories of these names, which are separated by commas.
-pub fn all_read<R: Files + AllocGlobal + Clone + Drop>(
-    rt: &R,
-    alloc: Global,
-    names: &str,
-) -> Result<Vec<Made>> {
+pub fn all_read(rt: &HostRuntime, alloc: Global, names: &str) -> Result<Vec<Made>> {
     let mut made = Vec::new(alloc);
     for name in names.split(",") {
         made.push(read(rt, alloc, name)?)?;
@@ -79,8 +74,8 @@ fn capacity_of(word: &str) -> Option<usize>
 
 /// Runs a keeper's cycles over the repositories that the step names, and returns their outcomes, in
 /// order.
-fn outcomes<F: Files + AllocGlobal + Clone + Drop, T: Threads + Wait + Sync>(
-    files: &F,
+fn outcomes<T: Threads + Wait + Sync>(
+    files: &HostRuntime,
     rt: &T,
     alloc: Global,
     step: &Step,

@@ -8,14 +8,9 @@ use board::MOST_CHECKS;
 use plan::Plan;
 use sessions::{Output, Step};
 use std::alloc::Global;
-use std::rt::Files;
 
 /// Returns how many checks a plan has, and how many of them are true.
-pub fn plan<R: Files + AllocGlobal + Clone + Drop>(
-    rt: &R,
-    alloc: Global,
-    step: &Step,
-) -> Result<Output> {
+pub fn plan(rt: &HostRuntime, alloc: Global, step: &Step) -> Result<Output> {
     let most = step.word(1)?.parse::<usize>()?;
     ensure!(most <= MOST_CHECKS, "too many questions");
     let made = read(rt, alloc, step.word(0)?)?;

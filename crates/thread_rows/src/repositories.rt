@@ -7,7 +7,6 @@ use sessions::{Output, Step, script_of};
 use std::alloc::Global;
 use std::collections::BTreeMap;
 use std::fs;
-use std::rt::Files;
 
 /// A repository, and the trusted state that begins with its first root.
 pub struct Made {
@@ -25,7 +24,7 @@ impl Drop for Made {
 
 /// Makes the repository of the step's lines in the folder of that name, or without lines the one of
 /// the script `cases/NAME.script`.
-pub fn make<R: Files + AllocGlobal>(rt: &R, alloc: Global, step: &Step) -> Result<Output> {
+pub fn make(rt: &HostRuntime, alloc: Global, step: &Step) -> Result<Output> {
     let name = step.word(0)?;
     let script = script_for(rt, alloc, step, name)?;
     for (file, bytes) in maker::make(alloc, script.as_str())? {
@@ -34,12 +33,7 @@ pub fn make<R: Files + AllocGlobal>(rt: &R, alloc: Global, step: &Step) -> Resul
     Ok(Output::nothing(alloc))
 }
 
-fn script_for<R: Files + AllocGlobal>(
-    rt: &R,
-    alloc: Global,
-    step: &Step,
-    name: &str,
-) -> Result<String> {
+fn script_for(rt: &HostRuntime, alloc: Global, step: &Step, name: &str) -> Result<String> {
     if !step.script.is_empty() {
         return script_of(rt, alloc, step.script.as_slice());
     }
@@ -48,8 +42,8 @@ fn script_for<R: Files + AllocGlobal>(
 }
 
 /// Writes a file below a folder, and makes the folders that contain it.
-fn write_below<R: Files + AllocGlobal>(
-    rt: &R,
+fn write_below(
+    rt: &HostRuntime,
     alloc: Global,
     folder: &str,
     file: &str,
@@ -63,11 +57,7 @@ fn write_below<R: Files + AllocGlobal>(
 }
 
 /// Reads the repository in the folder of that name.
-pub fn read<R: Files + AllocGlobal + Clone + Drop>(
-    rt: &R,
-    alloc: Global,
-    name: &str,
-) -> Result<Made> {
+pub fn read(rt: &HostRuntime, alloc: Global, name: &str) -> Result<Made> {
     let repo = Repo {
         metadata: files(rt, alloc, name, "metadata")?,
         targets: files(rt, alloc, name, "targets")?,
@@ -76,8 +66,8 @@ pub fn read<R: Files + AllocGlobal + Clone + Drop>(
     Ok(Made { repo, trusted })
 }
 
-fn files<R: Files + AllocGlobal + Clone + Drop>(
-    rt: &R,
+fn files(
+    rt: &HostRuntime,
     alloc: Global,
     name: &str,
     part: &str,

@@ -8,7 +8,6 @@ use cycle::{Cycle, InMemory, Limits, Moment, Outcome, Round, Stats, follow_alone
 use report::tell;
 use sessions::{Output, Step};
 use std::alloc::Global;
-use std::rt::Files;
 use std::sync::Wait;
 use std::thread::Threads;
 
@@ -19,8 +18,8 @@ pub const MOMENT: &str = "2026-01-01T00:00:00Z";
 pub const ROLES: usize = 256;
 
 /// Returns the lines and the status of a run with workers.
-pub fn lines<F: Files + AllocGlobal + Clone + Drop, T: Threads + Wait + Sync>(
-    files: &F,
+pub fn lines<T: Threads + Wait + Sync>(
+    files: &HostRuntime,
     rt: &T,
     alloc: Global,
     step: &Step,
@@ -32,22 +31,14 @@ pub fn lines<F: Files + AllocGlobal + Clone + Drop, T: Threads + Wait + Sync>(
 }
 
 /// Returns the lines and the status of a cycle on one thread.
-pub fn alone<R: Files + AllocGlobal + Clone + Drop>(
-    rt: &R,
-    alloc: Global,
-    step: &Step,
-) -> Result<Output> {
+pub fn alone(rt: &HostRuntime, alloc: Global, step: &Step) -> Result<Output> {
     let made = read(rt, alloc, step.word(0)?)?;
     lines_alone(alloc, &made, step.words_behind(1))
 }
 
 /// Returns the same lines and status for the workflow up to the searches, ended by the target
 /// files.
-pub fn course<R: Files + AllocGlobal + Clone + Drop>(
-    rt: &R,
-    alloc: Global,
-    step: &Step,
-) -> Result<Output> {
+pub fn course(rt: &HostRuntime, alloc: Global, step: &Step) -> Result<Output> {
     let made = read(rt, alloc, step.word(0)?)?;
     let wanted = step.words_behind(1);
     let outcome = followed(alloc, &made, wanted)?;
@@ -55,8 +46,8 @@ pub fn course<R: Files + AllocGlobal + Clone + Drop>(
 }
 
 /// Returns the counts of a run, and how many waits of its gate met their limit.
-pub fn counts<F: Files + AllocGlobal + Clone + Drop, T: Threads + Wait + Sync>(
-    files: &F,
+pub fn counts<T: Threads + Wait + Sync>(
+    files: &HostRuntime,
     rt: &T,
     alloc: Global,
     step: &Step,
@@ -75,8 +66,8 @@ pub fn counts<F: Files + AllocGlobal + Clone + Drop, T: Threads + Wait + Sync>(
 }
 
 /// Returns how many checks entered, and how many waits of the gate met their limit.
-pub fn entered<F: Files + AllocGlobal + Clone + Drop, T: Threads + Wait + Sync>(
-    files: &F,
+pub fn entered<T: Threads + Wait + Sync>(
+    files: &HostRuntime,
     rt: &T,
     alloc: Global,
     step: &Step,
@@ -88,8 +79,8 @@ pub fn entered<F: Files + AllocGlobal + Clone + Drop, T: Threads + Wait + Sync>(
     Ok(Output::printed(alloc, text))
 }
 
-fn stats_of<F: Files + AllocGlobal + Clone + Drop, T: Threads + Wait + Sync>(
-    files: &F,
+fn stats_of<T: Threads + Wait + Sync>(
+    files: &HostRuntime,
     rt: &T,
     alloc: Global,
     step: &Step,
@@ -103,8 +94,8 @@ fn stats_of<F: Files + AllocGlobal + Clone + Drop, T: Threads + Wait + Sync>(
 
 /// Returns whether a run with workers prints what a cycle on one thread prints, and how many waits
 /// of its gate met their limit.
-pub fn agrees<F: Files + AllocGlobal + Clone + Drop, T: Threads + Wait + Sync>(
-    files: &F,
+pub fn agrees<T: Threads + Wait + Sync>(
+    files: &HostRuntime,
     rt: &T,
     alloc: Global,
     step: &Step,

@@ -10,14 +10,13 @@ use crate::walks::walk;
 use anyhow::Result;
 use sessions::{Output, Step};
 use std::alloc::Global;
-use std::rt::Files;
 use std::sync::Wait;
 use std::thread::Threads;
 
 /// Runs a step, with the files of the folder and with threads, and returns the output of its
 /// command. An error is why the step can't be run.
-pub fn perform<F: Files + AllocGlobal + Clone + Drop, T: Threads + Wait + Sync>(
-    files: &F,
+pub fn perform<T: Threads + Wait + Sync>(
+    files: &HostRuntime,
     threads: &T,
     alloc: Global,
     step: &Step,

@@ -7,13 +7,12 @@ use crate::runs::{lines_alone, prints_the_same};
 use anyhow::Result;
 use sessions::{Output, Step};
 use std::alloc::Global;
-use std::rt::Files;
 use std::sync::Wait;
 use std::thread::Threads;
 
 /// Returns how many of a number of runs print something else than a cycle on one thread.
-pub fn stress<F: Files + AllocGlobal + Clone + Drop, T: Threads + Wait + Sync>(
-    files: &F,
+pub fn stress<T: Threads + Wait + Sync>(
+    files: &HostRuntime,
     rt: &T,
     alloc: Global,
     step: &Step,

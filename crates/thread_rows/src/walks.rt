@@ -11,7 +11,6 @@ use cycle::{Keeper, Limits, Moment, Outcome, Repo, run_alone};
 use report::tell;
 use sessions::{Output, Step};
 use std::alloc::Global;
-use std::rt::Files;
 use std::sync::Wait;
 use std::thread::Threads;
 
@@ -26,8 +25,8 @@ struct Course<'a> {
 
 /// Returns how many of a number of cycles of a keeper print something else than a cycle on one
 /// thread from the state of the cycle before, or lead to another state.
-pub fn walk<F: Files + AllocGlobal + Clone + Drop, T: Threads + Wait + Sync>(
-    files: &F,
+pub fn walk<T: Threads + Wait + Sync>(
+    files: &HostRuntime,
     rt: &T,
     alloc: Global,
     step: &Step,

@@ -4,24 +4,19 @@ use anyhow::Result;
 use sessions::{Output, Step, run_all};
 use std::alloc::Global;
 use std::io::Write;
-use std::rt::Files;
 use std::sync::Wait;
 use std::thread::Threads;
 
 /// Runs the rows of the files `cases/NAME.rows` of the current folder, as sessions are run, and
 /// prints what [`run_all`] does. Returns 0 if all output was as expected, else 1, and 2 if the rows
 /// couldn't be run, which is printed on standard error.
-pub fn run_rows<F, T, O: Write, E: Write>(
-    files: &F,
+pub fn run_rows<T: Threads + Wait + Sync, O: Write, E: Write>(
+    files: &HostRuntime,
     threads: &T,
     alloc: Global,
     out: &mut O,
     err: &mut E,
-) -> u8
-where
-    F: Files + AllocGlobal + Clone + Drop,
-    T: Threads + Wait + Sync,
-{
+) -> u8 {
     match run_all(
         files,
         alloc,
@@ -39,8 +34,8 @@ where
 }
 
 /// Runs a step: of files and keys, of the cycle, or of threads.
-fn perform<F: Files + AllocGlobal + Clone + Drop, T: Threads + Wait + Sync>(
-    files: &F,
+fn perform<T: Threads + Wait + Sync>(
+    files: &HostRuntime,
     threads: &T,
     alloc: Global,
     step: &Step,
