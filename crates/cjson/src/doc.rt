@@ -16,12 +16,17 @@ use std::alloc::Global;
 
 /// An entry of `signatures`: the id of a key and a signature, as the file writes them (TUF 1.0
 /// section 4.2). Both are texts of any length, and are compared with nothing here.
-#[derive(Drop)]
 pub struct Entry {
     /// The id of the key that should have signed.
     pub keyid: Text,
     /// The signature, which should be hexadecimal text.
     pub sig: Text,
+}
+
+impl Drop for Entry {
+    fn drop(self) {
+        let Entry { keyid, sig } = self;
+    }
 }
 
 impl FromJson for Entry {

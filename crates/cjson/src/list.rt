@@ -11,9 +11,14 @@ use std::alloc::Global;
 use std::marker::Model;
 
 /// The items of a list, in order. Read from a JSON list, which is `Malformed` if some item is.
-#[derive(Drop)]
 pub struct Items<T> {
     items: Vec<T>,
+}
+
+impl<T: Drop> Drop for Items<T> {
+    fn drop(self) {
+        let Items { items } = self;
+    }
 }
 
 impl<T> Model for Items<T> {

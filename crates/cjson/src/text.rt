@@ -11,9 +11,14 @@ use std::alloc::Global;
 use std::marker::Model;
 
 /// A text, seen as its bytes in UTF-8; read from a JSON text of any length.
-#[derive(Drop)]
 pub struct Text {
     text: String,
+}
+
+impl Drop for Text {
+    fn drop(self) {
+        let Text { text } = self;
+    }
 }
 
 impl Model for Text {

@@ -12,7 +12,6 @@ pub struct FolderPaths<'a> {
 }
 
 /// A subcommand of the command line, with its arguments.
-#[derive(Drop)]
 pub enum Subcommand<'a> {
     /// Trusts the root file of a path, and stores the state for a path.
     Init {
@@ -65,4 +64,25 @@ pub enum Subcommand<'a> {
         /// The path of the folder for the repository.
         folder: &'a str,
     },
+}
+
+impl<'a> Drop for Subcommand<'a> {
+    fn drop(self) {
+        match self {
+            Subcommand::Init { root, state } => {}
+            Subcommand::Verify { terms, folders } => {}
+            Subcommand::VerifyInto {
+                terms,
+                folders,
+                into,
+            } => {}
+            Subcommand::Replay {
+                cycles,
+                repositories,
+            } => {}
+            Subcommand::Next { wants, folders } => {}
+            Subcommand::Show { state, before } => {}
+            Subcommand::Make { script, folder } => {}
+        }
+    }
 }

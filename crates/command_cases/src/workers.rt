@@ -48,7 +48,7 @@ pub fn by<T: Threads + Wait + Sync>(
             continue;
         };
         if !ran.is(&next) {
-            bail!("{number} workers tell or store something else");
+            bail!("{number} workers print or store something else");
         }
     }
     Ok(first.context("no number")?.output)

@@ -32,18 +32,28 @@ pub(crate) struct Entered {
 
 /// The outcome of the examination of a role, and the delegation that it was examined for: the
 /// first one of the frame.
-#[derive(Drop)]
 pub(crate) struct CachedRole {
     by: Frame,
     outcome: Result<Part<Targets>, Fault>,
 }
 
+impl Drop for CachedRole {
+    fn drop(self) {
+        let CachedRole { by, outcome } = self;
+    }
+}
+
 /// Outcomes of examinations, and their places by the name of the role. Equal files of a role are
 /// stored once, and so is the file of a delegator.
-#[derive(Drop)]
 pub(crate) struct RoleCache {
     roles: Vec<CachedRole>,
     places: BTreeMap<String, Vec<usize>>,
+}
+
+impl Drop for RoleCache {
+    fn drop(self) {
+        let RoleCache { roles, places } = self;
+    }
 }
 
 impl RoleCache {

@@ -14,7 +14,6 @@ use std::marker::Model;
 
 /// A targets file, the name of the bin of the path that is searched for, how many delegations the
 /// file has, and how many of them were tried. Contracts see the delegations that are left.
-#[derive(Drop)]
 pub(crate) struct Frame {
     file: Part<Targets>,
     /// Whether the cache or the trusted state also has the file.
@@ -22,6 +21,18 @@ pub(crate) struct Frame {
     bin: Text,
     count: usize,
     tried: usize,
+}
+
+impl Drop for Frame {
+    fn drop(self) {
+        let Frame {
+            file,
+            held,
+            bin,
+            count,
+            tried,
+        } = self;
+    }
 }
 
 impl Model for Frame {

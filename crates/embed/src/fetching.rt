@@ -19,7 +19,6 @@ use std::alloc::Global;
 use std::collections::BTreeMap;
 
 /// The files to fetch next.
-#[derive(Drop)]
 pub struct Missing {
     /// 1 if some file isn't optional, else 2 if the cycle stopped, else 0.
     pub status: u8,
@@ -29,6 +28,17 @@ pub struct Missing {
     pub rows: Vec<NeedRow>,
     /// The names that the rows cite.
     pub names: Vec<u8>,
+}
+
+impl Drop for Missing {
+    fn drop(self) {
+        let Missing {
+            status,
+            summary,
+            rows,
+            names,
+        } = self;
+    }
 }
 
 /// Does the job as [`verify`](crate::verify) does, and returns the files that it looked up and

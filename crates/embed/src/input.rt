@@ -17,7 +17,6 @@ use std::collections::BTreeMap;
 const CHECKS: usize = 0;
 
 /// What is read of a job before any file is checked.
-#[derive(Drop)]
 pub struct Input {
     /// The trusted state.
     pub trusted: Trusted,
@@ -29,6 +28,18 @@ pub struct Input {
     pub wanted: Vec<String>,
     /// The limits.
     pub limits: Limits,
+}
+
+impl Drop for Input {
+    fn drop(self) {
+        let Input {
+            trusted,
+            repo,
+            moment,
+            wanted,
+            limits,
+        } = self;
+    }
 }
 
 /// Returns the text of the state of a root file that the caller trusts. Fails with `State` if it

@@ -16,7 +16,6 @@ use cycle::{Course, Found, Search, Target};
 use std::alloc::Global;
 
 /// What roles list of the wanted paths.
-#[derive(Drop)]
 pub struct Listing {
     /// 2 if the cycle stopped, else 0 if all wanted paths are listed, else 1.
     pub status: u8,
@@ -28,6 +27,18 @@ pub struct Listing {
     pub rows: Vec<ListedRow>,
     /// The names that the rows cite.
     pub names: Vec<u8>,
+}
+
+impl Drop for Listing {
+    fn drop(self) {
+        let Listing {
+            status,
+            summary,
+            state,
+            rows,
+            names,
+        } = self;
+    }
 }
 
 /// Does the job as [`verify`](crate::verify) does, but reads none of its target files: returns what

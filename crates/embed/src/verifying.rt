@@ -20,7 +20,6 @@ use std::alloc::Global;
 use std::collections::BTreeMap;
 
 /// The outcome of a verification.
-#[derive(Drop)]
 pub struct Verification {
     /// 2 if the cycle stopped, else 0 if all wanted targets are accepted, else 1.
     pub status: u8,
@@ -34,6 +33,19 @@ pub struct Verification {
     pub roles: Vec<RoleRow>,
     /// The names that the rows cite.
     pub names: Vec<u8>,
+}
+
+impl Drop for Verification {
+    fn drop(self) {
+        let Verification {
+            status,
+            summary,
+            state,
+            verdicts,
+            roles,
+            names,
+        } = self;
+    }
 }
 
 /// Verifies the job: runs one cycle of the client workflow on its files (TUF 1.0 section 5). The

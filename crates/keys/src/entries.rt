@@ -9,9 +9,14 @@ use std::alloc::Global;
 use std::collections::BTreeMap;
 
 /// The entries of a document's signatures, by the ids of their keys.
-#[derive(Drop)]
 pub struct Entries<'a> {
     by_id: BTreeMap<&'a str, Vec<Placed<'a>>>,
+}
+
+impl<'a> Drop for Entries<'a> {
+    fn drop(self) {
+        let Entries { by_id } = self;
+    }
 }
 
 /// The text of an entry, and its place in the document.

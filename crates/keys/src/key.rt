@@ -13,12 +13,17 @@ use std::alloc::Global;
 
 /// A usable key: of type `lms` and scheme `lms-sha256`, with a public value of a supported kind,
 /// under its own id (TUF 1.0 section 4.2).
-#[derive(Drop)]
 pub struct Key {
     /// The key's id: 64 lower-case hexadecimal digits.
     pub id: Text,
     /// The public value.
     pub public: Public,
+}
+
+impl Drop for Key {
+    fn drop(self) {
+        let Key { id, public } = self;
+    }
 }
 
 /// Returns the id of a key object: the SHA-256 of its canonical text, in 64 lower-case hexadecimal

@@ -17,9 +17,14 @@ use std::marker::Model;
 /// type `lms` and scheme `lms-sha256` whose `keyval.public` is the hexadecimal, in either case, of
 /// 56 bytes of a supported kind, each under its own id. Any other key stays in the file and counts
 /// for no threshold.
-#[derive(Drop)]
 pub struct KeyRing {
     keys: Vec<Key>,
+}
+
+impl Drop for KeyRing {
+    fn drop(self) {
+        let KeyRing { keys } = self;
+    }
 }
 
 impl Model for KeyRing {

@@ -14,12 +14,17 @@ use std::alloc::Global;
 use std::collections::BTreeSet;
 
 /// The keys that a role lists, by their ids, and how many of them must sign (TUF 1.0 section 4.3).
-#[derive(Drop)]
 pub struct RoleKeys {
     /// The listed ids, as the file lists them: some may be repeated or unknown.
     pub ids: Items<Text>,
     /// How many keys must sign.
     pub threshold: Positive,
+}
+
+impl Drop for RoleKeys {
+    fn drop(self) {
+        let RoleKeys { ids, threshold } = self;
+    }
 }
 
 impl RoleKeys {

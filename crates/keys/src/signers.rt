@@ -9,9 +9,14 @@ use std::alloc::{AllocError, Global};
 use std::marker::Model;
 
 /// A set of public values.
-#[derive(Drop)]
 pub struct Signers {
     publics: Vec<Public>,
+}
+
+impl Drop for Signers {
+    fn drop(self) {
+        let Signers { publics } = self;
+    }
 }
 
 impl Model for Signers {

@@ -110,7 +110,7 @@ one_share holds shares at new in' done before i d lt = elim (cases_eq i at) [
   | inr other ↦ subst (λ (s : Share). AreDone holds s.done.items) (sym (get_or-set_other shares at i new d other)) (before i d (omega (arith, lt, other)))
 ]
 
--- a measure that is stored, or not for want of memory
+-- a measure that is stored, or not because out of memory
 pub kept : {A E : Type 0} (names : List (List ℕ)) (holds : List ℕ → List ℕ → Bool) (found : List ℕ → Bool) (name : List ℕ) (was w : Wanted) (old new : Known) (r : Result A E)
     → get_by_text old.files name ≡ Some (Some was) → IfSome w.measure (IsMeasureOf w.need (holds name)) → OnOk r (Puts name (Some w) old new) → OnErr r (IsSame old new)
     → IsKnown names holds found old → IsKnown names holds found new

@@ -21,9 +21,14 @@ pub struct Wanted {
 }
 
 /// The names of the files, each with what is known of the file if it is wanted.
-#[derive(Drop)]
 pub struct Known {
     pub files: BTreeMap<String, Option<Wanted>>,
+}
+
+impl Drop for Known {
+    fn drop(self) {
+        let Known { files } = self;
+    }
 }
 
 /// Returns these names, with no file wanted yet. Fails only if out of memory.

@@ -14,11 +14,16 @@ use std::collections::BTreeMap;
 use std::num::NonZeroUsize;
 
 /// A verdict on a signature: a key's public value, the signature's text, and whether it is valid.
-#[derive(Drop)]
 struct Verdict {
     public: Public,
     sig: String,
     valid: bool,
+}
+
+impl Drop for Verdict {
+    fn drop(self) {
+        let Verdict { public, sig, valid } = self;
+    }
 }
 
 /// A file's name and signed bytes, and verdicts by the signature's place and the key's public
@@ -104,10 +109,15 @@ fn verdict_on(alloc: Global, question: &SignatureAsk, valid: bool) -> Result<Ver
 
 /// Verdicts on the signatures of the files that were used last, found by a digest of a file's name
 /// and signed bytes. Each is the truth, and is used only if the signed bytes themselves are equal.
-#[derive(Drop)]
 pub struct Cache {
     alloc: Global,
     files: LruCache<[u8; 32], Remembered>,
+}
+
+impl Drop for Cache {
+    fn drop(self) {
+        let Cache { alloc, files } = self;
+    }
 }
 
 impl Cache {

@@ -16,10 +16,15 @@ pub(crate) trait HasName {
 }
 
 /// Items, and whether their names are in ascending byte order.
-#[derive(Drop)]
 pub(crate) struct Catalog<T: HasName> {
     items: Items<T>,
     ascends: bool,
+}
+
+impl<T: HasName + Drop> Drop for Catalog<T> {
+    fn drop(self) {
+        let Catalog { items, ascends } = self;
+    }
 }
 
 impl<T: HasName> Model for Catalog<T> {

@@ -16,9 +16,14 @@ use std::alloc::Global;
 use std::marker::Model;
 
 /// A pattern of paths, without a `[`.
-#[derive(Drop)]
 pub struct PathPattern {
     text: Text,
+}
+
+impl Drop for PathPattern {
+    fn drop(self) {
+        let PathPattern { text } = self;
+    }
 }
 
 impl Model for PathPattern {
@@ -61,9 +66,14 @@ fn is_pattern(text: &str) -> bool
 }
 
 /// The first digits of a path's digest: 1 to 64 digits from `0` to `9` and `a` to `f`.
-#[derive(Drop)]
 pub struct HashPrefix {
     text: Text,
+}
+
+impl Drop for HashPrefix {
+    fn drop(self) {
+        let HashPrefix { text } = self;
+    }
 }
 
 impl Model for HashPrefix {
@@ -118,7 +128,6 @@ fn is_lower_digit(c: u8) -> bool
 }
 
 /// Which paths a delegation is for (TUF 1.0 section 4.5).
-#[derive(Drop)]
 pub enum Paths {
     /// The paths that one of the patterns matches.
     Patterns(Items<PathPattern>),
@@ -126,8 +135,16 @@ pub enum Paths {
     Prefixes(Items<HashPrefix>),
 }
 
+impl Drop for Paths {
+    fn drop(self) {
+        match self {
+            Paths::Patterns(part) => {}
+            Paths::Prefixes(part) => {}
+        }
+    }
+}
+
 /// A delegation to a role (TUF 1.0 section 4.5).
-#[derive(Drop)]
 pub struct Delegation {
     /// The role's name.
     pub name: Text,
@@ -137,6 +154,17 @@ pub struct Delegation {
     pub terminating: bool,
     /// The paths that it is for.
     pub paths: Paths,
+}
+
+impl Drop for Delegation {
+    fn drop(self) {
+        let Delegation {
+            name,
+            keys,
+            terminating,
+            paths,
+        } = self;
+    }
 }
 
 impl FromJson for Paths {

@@ -13,7 +13,6 @@ use std::alloc::Global;
 
 /// Succinct roles, which are hash bins (this project's profile): a role for each value of the first
 /// `bits` bits of a path's SHA-256 digest.
-#[derive(Drop)]
 pub struct Bins {
     /// The keys that must sign a bin's file, and how many.
     pub keys: RoleKeys,
@@ -23,8 +22,13 @@ pub struct Bins {
     pub prefix: Text,
 }
 
+impl Drop for Bins {
+    fn drop(self) {
+        let Bins { keys, bits, prefix } = self;
+    }
+}
+
 /// The roles that a targets file delegates to.
-#[derive(Drop)]
 pub enum Roles {
     /// The listed roles, in order.
     Listed(Items<Delegation>),
@@ -32,13 +36,27 @@ pub enum Roles {
     Binned(Bins),
 }
 
+impl Drop for Roles {
+    fn drop(self) {
+        match self {
+            Roles::Listed(part) => {}
+            Roles::Binned(part) => {}
+        }
+    }
+}
+
 /// The delegations of a targets file (TUF 1.0 section 4.5).
-#[derive(Drop)]
 pub struct Delegations {
     /// The keys of the file, for the roles that it delegates to.
     pub ring: KeyRing,
     /// The roles that it delegates to.
     pub roles: Roles,
+}
+
+impl Drop for Delegations {
+    fn drop(self) {
+        let Delegations { ring, roles } = self;
+    }
 }
 
 impl FromJson for Bins {

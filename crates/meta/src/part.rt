@@ -32,16 +32,26 @@ pub trait Reading: Sized {
 
 /// A metadata file: its bytes, which are within its kind's limit, and what is read from them.
 /// Copies share both.
-#[derive(Drop)]
 pub struct Part<A: Reading> {
     file: Arc<File<A>>,
 }
 
+impl<A: Reading + Drop> Drop for Part<A> {
+    fn drop(self) {
+        let Part { file } = self;
+    }
+}
+
 /// The bytes of a file, and what is read from them.
-#[derive(Drop)]
 struct File<A> {
     bytes: Vec<u8>,
     reading: A,
+}
+
+impl<A: Drop> Drop for File<A> {
+    fn drop(self) {
+        let File { bytes, reading } = self;
+    }
 }
 
 impl<A: Reading> Model for Part<A> {

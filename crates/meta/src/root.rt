@@ -16,7 +16,6 @@ use std::alloc::Global;
 use std::marker::Model;
 
 /// The contents of a root file (TUF 1.0 section 4.3).
-#[derive(Drop)]
 pub struct Root {
     header: Header,
     ring: KeyRing,
@@ -25,6 +24,20 @@ pub struct Root {
     snapshot: RoleKeys,
     targets: RoleKeys,
     consistent: bool,
+}
+
+impl Drop for Root {
+    fn drop(self) {
+        let Root {
+            header,
+            ring,
+            root,
+            timestamp,
+            snapshot,
+            targets,
+            consistent,
+        } = self;
+    }
 }
 
 impl Model for Root {

@@ -16,12 +16,17 @@ use std::alloc::Global;
 use std::marker::Model;
 
 /// A file's name with its listing (TUF 1.0 section 4.4).
-#[derive(Drop)]
 pub struct Named {
     /// The name of the file, without its version.
     pub name: Text,
     /// The listing of the file.
     pub listing: Listing,
+}
+
+impl Drop for Named {
+    fn drop(self) {
+        let Named { name, listing } = self;
+    }
 }
 
 impl HasName for Named {
@@ -43,10 +48,15 @@ impl FromMember for Named {
 }
 
 /// The contents of a snapshot file (TUF 1.0 section 4.4).
-#[derive(Drop)]
 pub struct Snapshot {
     header: Header,
     files: Catalog<Named>,
+}
+
+impl Drop for Snapshot {
+    fn drop(self) {
+        let Snapshot { header, files } = self;
+    }
 }
 
 impl Model for Snapshot {

@@ -21,7 +21,6 @@ use std::alloc::Global;
 use std::marker::Model;
 
 /// A listed target (TUF 1.0 section 4.5).
-#[derive(Drop)]
 pub struct Target {
     /// The target's path.
     pub path: Text,
@@ -29,6 +28,16 @@ pub struct Target {
     pub length: Length,
     /// The file's digests.
     pub hashes: Hashes,
+}
+
+impl Drop for Target {
+    fn drop(self) {
+        let Target {
+            path,
+            length,
+            hashes,
+        } = self;
+    }
 }
 
 impl Target {
@@ -87,11 +96,20 @@ impl FromMember for Target {
 }
 
 /// The contents of a targets file (TUF 1.0 section 4.5).
-#[derive(Drop)]
 pub struct Targets {
     header: Header,
     targets: Catalog<Target>,
     delegations: Option<Delegations>,
+}
+
+impl Drop for Targets {
+    fn drop(self) {
+        let Targets {
+            header,
+            targets,
+            delegations,
+        } = self;
+    }
 }
 
 impl Model for Targets {

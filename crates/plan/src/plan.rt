@@ -21,7 +21,6 @@ use std::collections::BTreeMap;
 use std::marker::Model;
 
 /// A check, whose parts are in a document or in the repository.
-#[derive(Drop)]
 pub(crate) enum Planned<'a> {
     Signature {
         document: usize,
@@ -29,6 +28,19 @@ pub(crate) enum Planned<'a> {
         public: Public,
     },
     Digest(Digest<'a>),
+}
+
+impl<'a> Drop for Planned<'a> {
+    fn drop(self) {
+        match self {
+            Planned::Signature {
+                document,
+                place,
+                public,
+            } => {}
+            Planned::Digest(part) => {}
+        }
+    }
 }
 
 /// Checks that a run probably makes, at most 4,096, each once. Contracts see the list of checks. An

@@ -27,7 +27,6 @@ pub(crate) struct ReadFile<A: Reading> {
 }
 
 /// A role's targets file.
-#[derive(Drop)]
 pub(crate) struct RoleFile {
     /// The number of the document.
     pub document: usize,
@@ -38,6 +37,17 @@ pub(crate) struct RoleFile {
     pub followed: BTreeSet<(usize, String)>,
     /// The number of the last wanted path whose walk visited the file.
     pub visitor: Option<usize>,
+}
+
+impl Drop for RoleFile {
+    fn drop(self) {
+        let RoleFile {
+            document,
+            targets,
+            followed,
+            visitor,
+        } = self;
+    }
 }
 
 /// Where a wanted path is listed.
@@ -51,7 +61,6 @@ pub(crate) struct ListedAt {
 
 /// The targets files that were read, the place of each by its role's name, and where wanted paths
 /// are listed. The place of a role whose file wasn't read is None.
-#[derive(Drop)]
 pub(crate) struct RoleFiles {
     /// The files.
     pub files: Vec<RoleFile>,
@@ -61,8 +70,17 @@ pub(crate) struct RoleFiles {
     pub listed: Vec<ListedAt>,
 }
 
+impl Drop for RoleFiles {
+    fn drop(self) {
+        let RoleFiles {
+            files,
+            places,
+            listed,
+        } = self;
+    }
+}
+
 /// What was read in advance, each file once.
-#[derive(Drop)]
 pub struct Ahead {
     /// The roots after the trusted one, in order.
     pub(crate) roots: Vec<ReadFile<Root>>,
@@ -72,6 +90,17 @@ pub struct Ahead {
     pub(crate) snapshot: Option<ReadFile<Snapshot>>,
     /// The targets files that were read.
     pub(crate) roles: RoleFiles,
+}
+
+impl Drop for Ahead {
+    fn drop(self) {
+        let Ahead {
+            roots,
+            timestamp,
+            snapshot,
+            roles,
+        } = self;
+    }
 }
 
 /// The input of reading in advance.

@@ -27,11 +27,16 @@ struct Frame {
 
 /// The walk for a wanted path: the path's number, the path, and the files to come back to, the
 /// last one first.
-#[derive(Drop)]
 struct Walk<'p> {
     nth: usize,
     path: &'p HashedPath<'p>,
     stack: Vec<Frame>,
+}
+
+impl<'p> Drop for Walk<'p> {
+    fn drop(self) {
+        let Walk { nth, path, stack } = self;
+    }
 }
 
 /// The outcome of a delegation.

@@ -25,7 +25,6 @@ pub(crate) fn edges_in<'a>(alloc: Global, file: &'a RoleFile) -> Result<Vec<Edge
 }
 
 /// A listed digest of a wanted target, and the bytes of the target's file.
-#[derive(Drop)]
 pub(crate) struct Digest<'a> {
     /// The target's path.
     pub file: Text,
@@ -35,6 +34,17 @@ pub(crate) struct Digest<'a> {
     pub bytes: &'a [u8],
     /// The listed digest, as bytes.
     pub digest: Vec<u8>,
+}
+
+impl<'a> Drop for Digest<'a> {
+    fn drop(self) {
+        let Digest {
+            file,
+            algorithm,
+            bytes,
+            digest,
+        } = self;
+    }
 }
 
 /// Returns the listed digests of the wanted targets whose files are there with the listed length,
