@@ -1,7 +1,7 @@
 #!/bin/bash
 # Times whole runs of the program. `tufcheck verify` by several numbers of workers: on a repository of 1,024 signatures,
-# where a path is searched in vain through 32 delegated roles that 32 keys sign each, on one of 100 delegated roles, signed
-# by a key each, on one whose targets file has 5 MB, and on that of examples/first.script. Then `tufcheck replay` of the
+# where a path isn't found in any of 32 delegated roles that 32 keys sign each, on one of 100 delegated roles, signed by a
+# key each, on one whose targets file has 5 MB, and on that of examples/first.script. Then `tufcheck replay` of the
 # first repository without workers, once and several times over, and `tufcheck make` of thirty keys, 27 of which sign one
 # file.
 #
@@ -108,8 +108,9 @@ middle() {
     sort -n | sed -n "$((runs / 2 + 1))p"
 }
 
-# told NAME FOLDER PATH: a line for each number of workers. Each round has a run of each, so that all meet the same machine
-told() {
+# compared NAME FOLDER PATH: a line for each number of workers. Each round has a run of each, so that all meet the same
+# machine
+compared() {
     local workers
     verify "$2" 0 "$3"
     cp "$2/lines" "$2/due.lines"
@@ -189,10 +190,10 @@ made "$work/many" && made "$work/roles" && made "$work/large" && made "$work/fir
 find "$work/large/targets" -type f ! -name p10001 -delete
 [ -x "$top/crates/bench/out/bench" ] && cycles "$work/rounds"
 {
-    told "1,024 signatures" "$work/many" nowhere
-    told "100 roles" "$work/roles" nowhere
-    told "targets file of 5 MB" "$work/large" p10001
-    told "first.script" "$work/first" abc.txt
+    compared "1,024 signatures" "$work/many" nowhere
+    compared "100 roles" "$work/roles" nowhere
+    compared "targets file of 5 MB" "$work/large" p10001
+    compared "first.script" "$work/first" abc.txt
     for cycles in 1 2 21; do
         replayed "$work/many" "$cycles" nowhere | line "1,024 signatures, $cycles cycles of replay"
     done

@@ -67,14 +67,14 @@ sweep() {
     shift 3
     for ((n = first; n <= last; n += step)); do
         rm -f met new
-        REFUSED=$n LD_PRELOAD="$work/refuse.so" ./tufcheck "$@" > printed 2> told
+        REFUSED=$n LD_PRELOAD="$work/refuse.so" ./tufcheck "$@" > printed 2> errors
         status=$?
-        if [ $status = $good ] && [ ! -s told ] && cmp -s printed "$wanted"; then
+        if [ $status = $good ] && [ ! -s errors ] && cmp -s printed "$wanted"; then
             [ -e met ] || break
             whole=$((whole + 1))
-        elif [ $status != 4 ] || [ -s printed ] || [ "$(cat told)" != "tufcheck: memory" ]; then
+        elif [ $status != 4 ] || [ -s printed ] || [ "$(cat errors)" != "tufcheck: memory" ]; then
             echo "$name: allocation $n: status $status"
-            cat printed told
+            cat printed errors
             exit 1
         fi
         if [ -e new ] && ! cmp new "$state"; then
@@ -126,14 +126,14 @@ sweep_row() {
     { echo "  $ $*" && cat expected; } > rows/cases/row.rows
     for ((n = first; n <= last; n += step)); do
         rm -f met
-        (cd rows && REFUSED=$n LD_PRELOAD="$work/refuse.so" "$trials" < /dev/null > ../printed 2> ../told)
+        (cd rows && REFUSED=$n LD_PRELOAD="$work/refuse.so" "$trials" < /dev/null > ../printed 2> ../errors)
         status=$?
-        if [ $status = 0 ] && [ ! -s told ]; then
+        if [ $status = 0 ] && [ ! -s errors ]; then
             [ -e met ] || break
             whole=$((whole + 1))
         elif [ $status != 2 ] && ! grep -q "^+ the step can't be done: .*memory" printed && ! is_one_leaf_later; then
             echo "$*: allocation $n: status $status"
-            cat printed told
+            cat printed errors
             exit 1
         fi
     done

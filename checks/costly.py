@@ -176,7 +176,7 @@ def made(make, size):
 VERIFY = ["verify", "--metadata", "metadata", "--targets", "targets", "--now", NOW, "--out", "new"]
 
 
-def told(name, file, lines, state):
+def timed(name, file, lines, state):
     """Runs with 0 and with 4 workers from a state, checks their lines, and prints what they took."""
     runs = [run(*VERIFY, "--state", state, "--workers", workers, PATH) for workers in ("0", "4")]
     for given in runs:
@@ -190,7 +190,7 @@ def told(name, file, lines, state):
 def measure(name, size):
     make, lines = CASES[name]
     made(make, size - ROOM)
-    told(name, "metadata/targets.json", lines, "state")
+    timed(name, "metadata/targets.json", lines, "state")
 
 
 def snapshots(size):
@@ -200,7 +200,7 @@ def snapshots(size):
     for version in (1, 2):
         write({"metadata/snapshot.json": tuf.snapshot(KEY, names, version)})
         write({"metadata/timestamp.json": tuf.timestamp(KEY, version)})
-        told("snapshots", "metadata/snapshot.json", FOUND, "state" if version == 1 else "first")
+        timed("snapshots", "metadata/snapshot.json", FOUND, "state" if version == 1 else "first")
         os.replace("new", "first")
 
 

@@ -68,7 +68,7 @@ cp "$program" "$work/tufcheck" && cp "$top/examples/first.script" "$work" && cd 
 # verify FOLDER: brings the state FOLDER/s up to date
 verify() {
     ./tufcheck verify --state "$1/s" --metadata repo/metadata --targets repo/targets \
-        --now 2026-01-01T00:00:00Z --workers 2 --out "$1/s" abc.txt > printed 2> told
+        --now 2026-01-01T00:00:00Z --workers 2 --out "$1/s" abc.txt > printed 2> errors
 }
 
 # whole FOLDER: checks that FOLDER/s is the old state or the new one
@@ -106,7 +106,7 @@ for ((n = 1; n <= kills; n++)); do
         timeout -s KILL "$delay" ./tufcheck verify --state place/s --metadata repo/metadata --targets repo/targets \
             --now 2026-01-01T00:00:00Z --workers 2 --out place/s abc.txt > printed
         true
-    ) 2> told
+    ) 2> errors
     whole place
     cmp -s place/s new && changed=$((changed + 1))
     rm -f place/s.*.new
@@ -117,9 +117,9 @@ if mkdir small && mount -t tmpfs -o size=64k tmpfs small 2> /dev/null; then
     cp old small/s
     head -c 100000 /dev/zero > small/rest 2> /dev/null
     verify small
-    [ $? = 4 ] && [ "$(cat told)" = "tufcheck: output" ] && cmp -s small/s old && [ ! -e small/s.1.new ] ||
-        { echo "a full place: $(cat told)"; exit 1; }
+    [ $? = 4 ] && [ "$(cat errors)" = "tufcheck: output" ] && cmp -s small/s old && [ ! -e small/s.1.new ] ||
+        { echo "a full place: $(cat errors)"; exit 1; }
     echo "a full place: refused, and the old state is there"
 else
-    echo "a full place: not tried, for want of the right to mount one"
+    echo "a full place: not tried: mounting one is not allowed"
 fi

@@ -30,7 +30,7 @@ lacks() {
 
 # failed NAME: a program that did something else
 failed() {
-    echo "$1: failed: $(tail -3 "$work/told")" >&2
+    echo "$1: failed: $(tail -3 "$work/errors")" >&2
     status=1
 }
 
@@ -38,7 +38,7 @@ failed() {
 timed() {
     local name=$1
     shift
-    if "$@" "$rounds" > "$work/lines" 2> "$work/told"; then
+    if "$@" "$rounds" > "$work/lines" 2> "$work/errors"; then
         head -1 "$work/lines"
         head -1 "$work/lines" >> "$work/rows"
         tail -1 "$work/lines" >> "$work/signed"
@@ -51,14 +51,14 @@ timed() {
 built() {
     local name=$1 file=$2
     shift 2
-    gcc -O2 -o "$work/$file" "$top/checks/speed/lms.c" "$top/checks/speed/$file.c" "$@" > "$work/told" 2>&1 || { failed "$name"; return 1; }
+    gcc -O2 -o "$work/$file" "$top/checks/speed/lms.c" "$top/checks/speed/$file.c" "$@" > "$work/errors" 2>&1 || { failed "$name"; return 1; }
 }
 
 # ours BENCH: the line of our own program, each round by a run of it
 ours() {
     local name="tufcheck's lms, $(basename "$1")" rates=()
     mapfile -t rates < <(for _ in $(seq "$rounds"); do
-        "$1" all 2> "$work/told" | sed -n 's/^verify W8 H5: \([0-9]*\) per second$/\1/p'
+        "$1" all 2> "$work/errors" | sed -n 's/^verify W8 H5: \([0-9]*\) per second$/\1/p'
     done | sort -n)
     if [ "${#rates[@]}" = "$rounds" ]; then
         echo "$name: ${rates[$((rounds / 2))]} verifications a second (median), ${rates[$((rounds - 1))]} at most" | tee -a "$work/rows"

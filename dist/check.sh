@@ -25,8 +25,8 @@ failed=0
 printf 'root 1\nend ready\nok "abc.txt" 3 "targets"\n' > "$work/three"
 (echo "root 1" && cat "$work/three") > "$work/four"
 
-# told STATUS THING: `ok` or `failed` of a thing, by the status of what tried it and what it wrote to the file `seen`
-told() {
+# report STATUS THING: `ok` or `failed` of a thing, by the status of what tried it and what it wrote to the file `seen`
+report() {
     if [ "$1" = 0 ]; then
         echo "ok $2"
     else
@@ -96,35 +96,35 @@ shells() {
     local loader="/usr/share/bash-completion/bash_completion" file=$share/bash-completion/completions/tufcheck
     completed "$file" tufcheck ver > "$work/seen" 2>&1
     [ "$(cat "$work/seen")" = verify ]
-    told $? "$1: bash completes \`tufcheck ver\` to \`verify\`"
+    report $? "$1: bash completes \`tufcheck ver\` to \`verify\`"
     completed "$file" tufcheck verify -- > "$work/seen" 2>&1
     offered
-    told $? "$1: bash offers each option of \`verify\`"
+    report $? "$1: bash offers each option of \`verify\`"
     if [ -f "$loader" ]; then
         # shellcheck disable=SC2016 # for the other bash
         env -i HOME="$work/home" PATH="$PATH" XDG_DATA_DIRS="$share" bash --noprofile --norc -c '
             source "$1"; if declare -F _comp_load; then _comp_load tufcheck; else _completion_loader tufcheck; fi
             complete -p tufcheck' bash "$loader" > "$work/seen" 2>&1
         grep -q -- '-F _tufcheck tufcheck' "$work/seen"
-        told $? "$1: bash-completion finds the file by the program's name"
+        report $? "$1: bash-completion finds the file by the program's name"
     else
         echo "not tried $1: bash-completion is missing"
     fi
     if has zsh "$1: completion in zsh"; then
         keyed "$share/zsh/$2" "tufcheck ver" > "$work/seen" 2>&1
         [ "$(sed 's/ *$//' "$work/seen")" = "tufcheck verify" ]
-        told $? "$1: zsh completes \`tufcheck ver\` to \`verify\`"
+        report $? "$1: zsh completes \`tufcheck ver\` to \`verify\`"
         keyed "$share/zsh/$2" "tufcheck verify --wor" > "$work/seen" 2>&1
         [ "$(sed 's/ *$//' "$work/seen")" = "tufcheck verify --workers" ]
-        told $? "$1: zsh completes \`tufcheck verify --wor\` to \`--workers\`"
+        report $? "$1: zsh completes \`tufcheck verify --wor\` to \`--workers\`"
     fi
     if has fish "$1: completion in fish"; then
         fished "tufcheck ver" > "$work/seen" 2>&1
         [ "$(cut -f 1 "$work/seen")" = verify ]
-        told $? "$1: fish completes \`tufcheck ver\` to \`verify\`"
+        report $? "$1: fish completes \`tufcheck ver\` to \`verify\`"
         fished "tufcheck verify --" > "$work/seen" 2>&1
         offered
-        told $? "$1: fish offers each option of \`verify\`"
+        report $? "$1: fish offers each option of \`verify\`"
     fi
 }
 
@@ -145,26 +145,26 @@ tried() {
     local root=$2 share=$2/share
     mkdir "$work/room.$1" && cd "$work/room.$1" || exit 1
     clean tufcheck --help > "$work/seen" 2>&1
-    told $? "$1: \`tufcheck --help\` has status 0"
+    report $? "$1: \`tufcheck --help\` has status 0"
     clean tufcheck > "$work/seen" 2>&1 && same "$work/three"
-    told $? "$1: \`tufcheck\` prints its three lines"
+    report $? "$1: \`tufcheck\` prints its three lines"
     (session "$work/room.$1" clean tufcheck) > "$work/seen" 2>&1 && same "$work/four"
-    told $? "$1: a repository is made, trusted and verified"
+    report $? "$1: a repository is made, trusted and verified"
     if has man "$1: the man page"; then
         MANPAGER=cat MANWIDTH=80 man --warnings -M "$share/man" tufcheck > "$work/page" 2> "$work/seen"
         [ ! -s "$work/seen" ] && grep -q SYNOPSIS "$work/page" && grep -q 'EXIT STATUS' "$work/page"
-        told $? "$1: \`man\` renders the page, with no warning"
+        report $? "$1: \`man\` renders the page, with no warning"
     fi
     shells "$1" "$3"
     ldd "$root/bin/tufcheck" > "$work/seen" 2>&1
     ! grep -v -E '^\s*(linux-vdso\.so|lib(c|m|pthread|dl|rt)\.so|/lib64/ld-linux-x86-64\.so|statically linked)' "$work/seen" > "$work/found"
-    told $? "$1: the libraries are the C library's"
+    report $? "$1: the libraries are the C library's"
     if has strace "$1: the files that the program asks for"; then
         # shellcheck disable=SC2016 # for the other bash
         (session "$work/room.$1" clean "$BASH" -c 'strace="$1" && shift && exec "$strace" -f -A -e trace=%file -o "$0" "$@"' \
             "$work/trace.$1" "$(command -v strace)" "$root/bin/tufcheck") > "$work/seen" 2>&1 && same "$work/four" &&
             ! strange "$work/trace.$1" > "$work/seen"
-        told $? "$1: the program asks for no file but the system's and those of its command line"
+        report $? "$1: the program asks for no file but the system's and those of its command line"
     fi
 }
 
@@ -184,36 +184,36 @@ for tool in tar sha256sum ldd; do
 done
 [ -f "$from/$name.tar.gz" ] || { echo "check.sh: no $from/$name.tar.gz: dist/package.sh makes it" >&2; exit 1; }
 (cd "$from" && sha256sum -c SHA256SUMS) > "$work/seen" 2>&1
-told $? "SHA256SUMS"
+report $? "SHA256SUMS"
 if tar -xzf "$from/$name.tar.gz" -C "$work/tar" > "$work/seen" 2>&1; then
     tried tarball "$work/tar/$name" site-functions
 else
-    told 1 "tarball: it can be unpacked"
+    report 1 "tarball: it can be unpacked"
 fi
 if has dpkg-deb "the Debian package"; then
     if dpkg-deb -x "$from/$deb" "$work/deb" > "$work/seen" 2>&1; then
         tried package "$work/deb/usr" vendor-completions
         cmp "$work/deb/usr/bin/tufcheck" "$work/tar/$name/bin/tufcheck" > "$work/seen" 2>&1
-        told $? "package: its program is the tarball's"
+        report $? "package: its program is the tarball's"
         dpkg-deb -e "$from/$deb" "$work/deb/DEBIAN" && (cd "$work/deb" && md5sum -c DEBIAN/md5sums) > "$work/seen" 2>&1
-        told $? "package: its list of sums"
+        report $? "package: its list of sums"
     else
-        told 1 "package: it can be unpacked"
+        report 1 "package: it can be unpacked"
     fi
 fi
 root=$work/tar/$name share=$root/share
 if [ "$(id -u)" = 0 ]; then
     bare chroot
-    told $? "a session in a root folder with nothing but the program and its libraries"
+    report $? "a session in a root folder with nothing but the program and its libraries"
 elif unshare -r true > "$work/found" 2>&1; then
     bare unshare -r chroot
-    told $? "a session in a root folder with nothing but the program and its libraries"
+    report $? "a session in a root folder with nothing but the program and its libraries"
 else
     echo "not tried a session in a bare root folder: chroot isn't allowed"
 fi
 SOURCE_DATE_EPOCH=$(stat -c %Y "$root/bin/tufcheck") "$top/dist/package.sh" "$root/bin/tufcheck" "$work/again" > "$work/found" 2> "$work/seen" &&
     diff -r -x build -x '*-dev*' -x 'libtufcheck*' "$from" "$work/again" > "$work/seen" 2>&1
-told $? "packaged again, the release has the same bytes"
+report $? "packaged again, the release has the same bytes"
 if [ -d "$from/build" ]; then
     "$top/dist/halves.sh" "$from/build" || failed=1
 else
