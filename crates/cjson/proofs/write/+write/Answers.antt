@@ -3,9 +3,9 @@ use Rattle.std.specs.List.Sorted.{IsStrictlySortedBy}
 use Rattle.std.specs.Map.{keys_of}
 use Rattle.std.specs.String.{string_cmp}
 use Rattle.serde_json.specs.View.{number_view}
-use Rattle.cjson.specs.Tree.{view, members_view}
+use Rattle.cjson.specs.Tree.{view, items_view, members_view}
 use Rattle.cjson.proofs.Views.{Entry}
-use Rattle.cjson.specs.Canon.{text, quoted, comma_if, members_text, members_are_whole, members_are_ordered, has_whole_numbers, is_ordered}
+use Rattle.cjson.specs.Canon.{text, quoted, comma_if, items_text, members_text, items_are_whole, members_are_whole, items_are_ordered, members_are_ordered, has_whole_numbers, is_ordered}
 use Rattle.std.proofs.lemmas.Str.{IsUtf8-nil, IsUtf8-string_bytes}
 use Rattle.std.proofs.lemmas.Grind.{common_steps}
 use Rattle.cjson.proofs.Utf8.{ascii_then, IsUtf8-null, IsUtf8-after_boolean, IsUtf8-after_number, IsUtf8-quoted, IsUtf8-comma_if, IsUtf8-key, IsUtf8-then}
@@ -15,6 +15,10 @@ use Rattle.cjson.proofs.write.+write.Goals as goal
 -- comma, key and colon, and then the value
 one_member : (o o1 o2 c q t r : List ℕ) → o1 ≡ o ++ (c ++ (q ++ 58 ∷ [])) → o2 ≡ o1 ++ t → o2 ++ r ≡ o ++ (c ++ (q ++ 58 ∷ (t ++ r)))
 one_member o o1 o2 c q t r e1 e2 = rw (e2, e1) (simp append_assoc)
+
+-- comma, and then the item
+one_item : (o o1 o2 c t r : List ℕ) → o1 ≡ o ++ c → o2 ≡ o1 ++ t → o2 ++ r ≡ o ++ (c ++ (t ++ r))
+one_item o o1 o2 c t r e1 e2 = rw (e2, e1) (simp append_assoc)
 
 pub write_members-loop-key-preserved : goal.write_members-loop-key-preserved
 write_members-loop-key-preserved t c =
@@ -58,12 +62,20 @@ write-returns-in_ok-write_text-in-String-clause-utf8 t c =
 
 pub write_items-loop-item-preserved : goal.write_items-loop-item-preserved
 write_items-loop-item-preserved t c =
-    let comma : c.write_comma.new.out.items ≡ c.loop-item.out.items ++ comma_if c.loop-item.later = search rules in
-    let kept : IsUtf8 c.write_comma.new.out.items → IsUtf8 c.write.new.out.items = search rules in (
-      grind (arith, common_steps),
-      grind (arith, common_steps),
-      grind (arith, common_steps),
-      λ h. kept (IsUtf8-then _ _ _ comma (IsUtf8-comma_if c.loop-item.later) (c.loop-item.invariant.3 h)),
+    let l = c.loop-item in
+    let all = c.deref-item-items.result.now in
+    let item = c.item-item.result in
+    let left = drop (l.item-index + 1) all in
+    let step : drop l.item-index all ≡ item ∷ left = grind (arith, common_steps) in
+    let comma : c.write_comma.new.out.items ≡ l.out.items ++ comma_if l.later = search rules in
+    let value : c.write.new.out.items ≡ c.write_comma.new.out.items ++ text (view item) = search rules in
+    let kept : IsUtf8 c.write_comma.new.out.items → IsUtf8 c.write.new.out.items = search rules in
+    let whole : has_whole_numbers (view item) ≡ true = search rules in
+    let ordered : is_ordered (view item) ≡ true = search rules in (
+      one_item _ _ _ (comma_if l.later) (text (view item)) (items_text true (items_view left)) comma value ∙ ap (λ es. l.out.items ++ items_text l.later (items_view es)) (sym step) ∙ l.invariant.0,
+      ap (λ b. b && items_are_whole (items_view left)) (sym whole) ∙ ap (λ es. items_are_whole (items_view es)) (sym step) ∙ l.invariant.1,
+      ap (λ b. b && items_are_ordered (items_view left)) (sym ordered) ∙ ap (λ es. items_are_ordered (items_view es)) (sym step) ∙ l.invariant.2,
+      λ h. kept (IsUtf8-then _ _ _ comma (IsUtf8-comma_if l.later) (l.invariant.3 h)),
     )
 
 pub write_items-returns-clause-utf8 : goal.write_items-returns-clause-utf8
