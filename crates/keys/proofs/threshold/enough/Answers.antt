@@ -1,7 +1,8 @@
-use Rattle.std.proofs.Common.{◌∙◌, ◌&&◌, refl, ap}
+use Rattle.std.proofs.Common.{◌∙◌, ◌&&◌, refl, ap, arith}
 use Rattle.keys.specs.Keys.{has_entry, has_signed}
 use Rattle.cjson.specs.Document.{doc_of}
 use Rattle.keys.proofs.Sets.{added_to, met_early, signed_more}
+use Rattle.std.proofs.lemmas.Grind.{common_steps}
 use Rattle.keys.proofs.threshold.enough.Goals as goal
 use Rattle.keys.proofs.threshold.enough.Goals.{then-branch+in_ok-add, else-branch}
 
@@ -19,3 +20,6 @@ loop-key-preserved g c =
       | then-branch+in_ok-add w ↦ rw w.if-branch.true (added_to c.loop-key.signers _ _ _ _ w.signers-is w.in_ok-add.ensures.ok refl)
       | else-branch w ↦ rw w.if-branch.false w.signers-is
     ])
+
+pub returns : goal.returns
+returns = grind (arith, common_steps)
