@@ -1,6 +1,7 @@
 //! Boards and their seats.
 
-ghost use Rattle.std.specs.Prelude.{true, ◌∷◌, []};
+ghost use Rattle.std.specs.Prelude.{◌≡◌, ◌∷◌, [], true};
+ghost use Rattle.board.specs.Board.{IsFree, IsSeatOf};
 
 use board::{Board, Checks, Look, Seat, done, retire};
 use cjson::NoMemory;
@@ -22,28 +23,35 @@ impl Checks for One {
     }
 }
 
+/// Claims the only check, releases it, claims it again and decides it. False if it can't be claimed.
+fn claimed_twice(board: &Board, seat: &mut Seat) -> bool
+    requires free { IsFree board.now seat.old }
+    requires truths { board.now.truths ≡ true ∷ [] }
+    ensures seat { IsSeatOf board.now seat.new }
+{
+    if !board.claim(seat, 0) {
+        return false;
+    }
+    board.give_back(seat);
+    if !board.claim(seat, 0) {
+        return false;
+    }
+    board.publish(seat, true);
+    true
+}
+
 #[test]
 fn two_seats(rt: HostRuntime) -> Result<(), Fail> {
-    let made: Result<(Board, Seat), NoMemory> = Board::new(rt.alloc(), &One);
-    let (board, seat) = made?;
+    let (board, seat) = Board::new(rt.alloc(), &One)?;
     let (mut first, mut second): (Seat, Seat) = board.split(seat);
     let is_open = board.look(&mut second, 0) == Look::Open;
-    let is_claimed: bool = board.claim(&mut first, 0);
-    if !is_claimed {
-        return Err("an open check can't be claimed".into());
-    }
-    board.give_back(&mut first);
-    if !board.claim(&mut first, 0) {
-        return Err("a released check can't be claimed".into());
-    }
-    board.publish(&mut first, true);
+    let is_claimed = claimed_twice(&board, &mut first);
     let is_valid = board.look(&mut second, 0) == Look::Valid;
-    let before: bool = board.stopped(&mut second);
+    let before = board.stopped(&mut second);
     board.stop(&mut first);
     let after = board.stopped(&mut second);
-    let counts: (usize, usize) = (done(&first), done(&second));
-    assert!(rt; is_open && is_valid && !before && after);
-    assert_eq!(rt; counts, (1, 0));
+    assert!(rt; is_open && is_claimed && is_valid && !before && after);
+    assert_eq!(rt; (done(&first), done(&second)), (1, 0));
     Ok(())
 }
 

@@ -17,11 +17,11 @@ fn documents(rt: HostRuntime) -> Result<(), Fail> {
     let bytes: &[u8] = doc.bytes();
     let entries: &[Entry] = doc.entries();
     let text: Result<Vec<u8>, Canon> = canonical(rt.alloc(), tree);
-    assert_eq!(rt; bytes, SIGNED);
-    assert_eq!(rt; text?.as_slice(), SIGNED);
-    assert_eq!(rt; entries.len(), 1);
-    assert_eq!(rt; entries[0].keyid.as_str(), "k");
-    assert_eq!(rt; entries[0].sig.as_str(), "00");
+    let [entry] = entries else {
+        return Err("one entry".into());
+    };
+    assert_eq!(rt; (entry.keyid.as_str(), entry.sig.as_str()), ("k", "00"));
+    assert_eq!(rt; (bytes, text?.as_slice()), (SIGNED, SIGNED));
     Ok(())
 }
 

@@ -80,12 +80,9 @@ fn moments(rt: HostRuntime) -> Result<(), Fail> {
     let read: Option<Moment> = Moment::read("1970-01-02T00:00:01Z");
     let at: Option<Moment> = Moment::at(86_401);
     let (read, at) = (read.ok_or("a moment")?, at.ok_or("a moment")?);
-    assert!(rt; read == at);
-    assert_eq!(rt; read.day(), 1);
-    assert_eq!(rt; read.second(), 1);
-    assert!(rt; !read.is_before(at));
-    assert!(rt; Moment::read("1970-01-02").is_none());
-    assert!(rt; Moment::at(u64::MAX).is_none());
+    assert!(rt; read == at && !read.is_before(at));
+    assert_eq!(rt; (read.day(), read.second()), (1, 1));
+    assert!(rt; Moment::read("1970-01-02").is_none() && Moment::at(u64::MAX).is_none());
     Ok(())
 }
 
@@ -95,18 +92,20 @@ fn parts_of_a_root(rt: HostRuntime) -> Result<(), Fail> {
     let state = ready_state(rt.alloc(), &repo)?;
     let part: &Part<Root> = state.root();
     let copy: Result<Part<Root>, NoMemory> = part.copy();
-    assert!(rt; copy?.bytes() == part.bytes());
+    let is_copied = copy?.bytes() == part.bytes();
     let root: &Root = part.reading();
     let header: &Header = root.header();
     let ring: &KeyRing = root.ring();
     let role: &RoleKeys = root.root();
-    assert_eq!(rt; header.version.get(), 1);
-    assert_eq!(rt; ring.keys().len(), 1);
-    assert_eq!(rt; role.threshold.get(), 1);
-    assert_eq!(rt; root.timestamp().threshold.get(), 1);
-    assert_eq!(rt; root.snapshot().threshold.get(), 1);
-    assert_eq!(rt; root.targets().threshold.get(), 1);
-    assert!(rt; !root.consistent());
+    let thresholds = [
+        role.threshold.get(),
+        root.timestamp().threshold.get(),
+        root.snapshot().threshold.get(),
+        root.targets().threshold.get(),
+    ];
+    assert!(rt; is_copied && !root.consistent());
+    assert_eq!(rt; (header.version.get(), ring.keys().len()), (1, 1));
+    assert_eq!(rt; thresholds, [1; 4]);
     Ok(())
 }
 
@@ -116,8 +115,11 @@ fn listings(rt: HostRuntime) -> Result<(), Fail> {
     let state = ready_state(rt.alloc(), &repo)?;
     let timestamp: &Part<Timestamp> = state.timestamp().ok_or("a timestamp")?;
     let listing: &Listing = timestamp.reading().snapshot();
-    assert_eq!(rt; listing.version.get(), 1);
-    assert_eq!(rt; timestamp.reading().header().version.get(), 1);
+    let versions = (
+        listing.version.get(),
+        timestamp.reading().header().version.get(),
+    );
+    assert_eq!(rt; versions, (1, 1));
     let snapshot: &Part<Snapshot> = state.snapshot().ok_or("a snapshot")?;
     let bytes = snapshot.bytes();
     let fault: Result<Option<Fault>, NoMemory> = listing.check(
@@ -131,9 +133,8 @@ fn listings(rt: HostRuntime) -> Result<(), Fail> {
     assert_eq!(rt; fault?, Some(Fault::LengthWrong));
     let files: &[Named] = snapshot.reading().files();
     let found: Option<&Named> = snapshot.reading().find("a.json");
-    assert_eq!(rt; files.len(), 2);
-    assert!(rt; found.is_some());
-    assert_eq!(rt; snapshot.reading().header().version.get(), 1);
+    let version = snapshot.reading().header().version.get();
+    assert!(rt; files.len() == 2 && found.is_some() && version == 1);
     Ok(())
 }
 
@@ -144,9 +145,8 @@ fn listed_targets(rt: HostRuntime) -> Result<(), Fail> {
     let targets: &Targets = state.targets().ok_or("targets")?.reading();
     let all: &[Target] = targets.targets();
     let delegations: Option<&Delegations> = targets.delegations();
-    assert_eq!(rt; all.len(), 1);
-    assert!(rt; delegations.is_some());
-    assert_eq!(rt; targets.header().version.get(), 1);
+    let version = targets.header().version.get();
+    assert!(rt; all.len() == 1 && delegations.is_some() && version == 1);
     let target: &Target = targets.find("abc.txt").ok_or("a target")?;
     let copy: Result<Target, NoMemory> = target.copy(rt.alloc());
     assert_eq!(rt; copy?.length.get(), 3);

@@ -17,8 +17,7 @@ fn rings_and_roles(rt: HostRuntime) -> Result<(), Fail> {
     let role = read_tree(alloc, b"{\"keyids\":[\"k\"],\"threshold\":2}")?;
     let role: Result<Option<RoleKeys>, NoMemory> = RoleKeys::read(alloc, &role);
     let role = role?.ok_or("a role")?;
-    assert_eq!(rt; role.ids.as_slice().len(), 1);
-    assert_eq!(rt; role.threshold.get(), 2);
+    assert_eq!(rt; (role.ids.as_slice().len(), role.threshold.get()), (1, 2));
     let doc = signed_bytes(alloc, b"{\"signatures\":[],\"signed\":{}}")?;
     let is_met: Result<bool, NoMemory> = enough(
         alloc,
@@ -55,8 +54,7 @@ fn digests_are_judged(rt: HostRuntime) -> Result<(), Fail> {
             digest: &digest,
         });
         let valid: Result<bool, NoMemory> = Direct.valid(&ask);
-        assert_eq!(rt; valid?, is_so);
-        assert!(rt; ask.same(&ask));
+        assert!(rt; valid? == is_so && ask.same(&ask));
     }
     Ok(())
 }
@@ -80,8 +78,7 @@ fn signatures_are_judged(rt: HostRuntime) -> Result<(), Fail> {
         message: b"abd",
         sig: sig.as_str(),
     });
-    assert!(rt; Direct.valid(&one)?);
-    assert!(rt; !Direct.valid(&other)?);
-    assert!(rt; !one.same(&other));
+    let (first, second) = (Direct.valid(&one)?, Direct.valid(&other)?);
+    assert!(rt; first && !second && !one.same(&other));
     Ok(())
 }

@@ -54,8 +54,11 @@ fn listed_paths(rt: HostRuntime) -> Result<(), Fail> {
             return Err("a path that isn't found".into());
         };
         let accepted: &[Accepted] = accepted.as_slice();
-        assert_eq!(rt; (target.length.get(), visited), wanted, "{path}");
-        assert_eq!(rt; accepted.len(), visited.saturating_sub(1), "{path}");
+        let is_counted = accepted.len() == visited.saturating_sub(1);
+        assert!(rt;
+            is_counted && (target.length.get(), visited) == wanted,
+            "{path}"
+        );
     }
     Ok(())
 }
@@ -72,7 +75,6 @@ fn other_paths(rt: HostRuntime) -> Result<(), Fail> {
     let Found::RoleRefused { role, fault } = found else {
         return Err("a role that isn't refused".into());
     };
-    assert_eq!(rt; role.as_str(), "a");
-    assert_eq!(rt; fault, Fault::Missing);
+    assert!(rt; role.as_str() == "a" && fault == Fault::Missing);
     Ok(())
 }

@@ -13,16 +13,14 @@ fn states(rt: HostRuntime) -> Result<(), Fail> {
     let root = metadata(&repo, "1.root.json")?;
     let trusted: Result<Trusted, StateFault> = Trusted::from_root(rt.alloc(), root);
     let trusted = trusted?;
-    assert!(rt; !trusted.is_ready());
-    assert_eq!(rt; trusted.root().bytes(), root);
+    assert!(rt; !trusted.is_ready() && trusted.root().bytes() == root);
     let text: Result<Vec<u8>, NoMemory> = trusted.to_text(rt.alloc());
     let text = text?;
     let read: Result<Trusted, StateFault> = Trusted::from_text(rt.alloc(), text.as_slice());
     let copy: Result<Trusted, NoMemory> = read?.copy();
     assert!(rt; copy?.to_text(rt.alloc())? == text);
-    assert!(rt; trusted.timestamp().is_none());
-    assert!(rt; trusted.snapshot().is_none());
-    assert!(rt; trusted.targets().is_none());
+    let (timestamp, snapshot) = (trusted.timestamp(), trusted.snapshot());
+    assert!(rt; timestamp.is_none() && snapshot.is_none() && trusted.targets().is_none());
     Ok(())
 }
 
