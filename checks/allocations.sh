@@ -82,7 +82,7 @@ sweep() {
             exit 1
         fi
     done
-    echo "$name: allocations $first to $((n - step)) in steps of $step, $whole of them done without"
+    echo "$name: allocations $first to $((n - step)) in steps of $step; the run continued after $whole of them"
 }
 
 printf 'root 1\nend ready\nok "abc.txt" 3 "targets"\n' > lines
@@ -137,7 +137,7 @@ sweep_row() {
             exit 1
         fi
     done
-    echo "$*: allocations $first to $((n - step)) in steps of $step, $whole of them done without"
+    echo "$*: allocations $first to $((n - step)) in steps of $step; the run continued after $whole of them"
 }
 
 # Whether the row printed what was expected, but for one signature that was out of memory.

@@ -157,7 +157,7 @@ static void refuse(int which, const size_t *sizes, const seen *whole)
         others += s.result != TUFCHECK_NO_MEMORY;
         drop(&s);
     }
-    printf("  refused in turn: %d of them done without\n", others - 1);
+    printf("  refused in turn: the call continued after %d of them\n", others - 1);
 }
 
 /* One less in each room in turn. */
