@@ -17,7 +17,7 @@ All is signed, and by 0 and by 4 workers each:
 
   one        a wanted file of 3,000,000,000 bytes, after the repository of examples/first.script
   twenty     twenty wanted files of 150,000,000 bytes
-  files      64 wanted files of 50,000,000 bytes
+  files      64 files of 50,000,000 bytes, every file wanted, with `--every`
   unwanted   a wanted file of 3 bytes, and one of 20,000,000,000 bytes that is listed and that nobody wants
   mirror     every file of a mirror, with `--every`: 20,000 of 500,000 bytes
   holes      the same with files that have only holes
@@ -136,7 +136,7 @@ def cases(scale):
     return {
         "one": [("first.script", first, (), (1,)), ("one", drawn, (1, size(3_000_000_000)), (1,))],
         "twenty": [("twenty", drawn, (20, size(150_000_000)), (20,))],
-        "files": [("files", drawn, (64, size(50_000_000)), (64,))],
+        "files": [("files", whole, (write_drawn, 64, size(50_000_000)), (64,))],
         "mirror": [("mirror", whole, (write_drawn, targets, 500_000), (targets,))],
         "holes": [("holes", whole, (write_zeros, targets, 500_000), (targets,))],
         "unwanted": [("unwanted", unwanted, (size(20_000_000_000),), (1,))],
