@@ -23,7 +23,7 @@ impl Checks for One {
     }
 }
 
-/// Claims the only check, releases it, claims it again and decides it. False if it can't be claimed.
+/// Claims the only check, releases it, claims it again and decides it. False if a claim fails.
 fn claimed_twice(board: &Board, seat: &mut Seat) -> bool
     requires free { IsFree board.now seat.old }
     requires truths { board.now.truths ≡ true ∷ [] }
