@@ -121,7 +121,7 @@ A bin delegates on, and its targets file may be empty.
   no "" NotFound
   [1]
 
-Bins of a delegated role. The bin is for every path and nothing is tried after it: b isn't asked, though it lists the path.
+Bins of a delegated role. The bin is for every path and nothing is tried after it: b isn't searched, though it lists the path.
   $ make
   > @one
   > key 5 5 4

@@ -225,7 +225,7 @@ A name that would lead out of a folder is a name.
   role ".." 1
   ok "p" 1 ".."
 
-Nothing is asked of whom the role delegates to, if it lists the path itself.
+The roles it delegates to aren't searched if it lists the path itself.
   $ make
   > @one
   > key 5 5 4

@@ -1,4 +1,4 @@
-Lines that make refuses, behind the two lines of before.script, or of bare.script where no key is asked for: the script is
+Lines that make refuses, behind the two lines of before.script, or of bare.script where no key is needed: the script is
 refused at its third line.
 
 Unknown lines, and spaces.

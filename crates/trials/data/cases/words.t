@@ -128,7 +128,7 @@ Of several errors the first is reported: the arguments, the moment, the state fi
   ! tufcheck: state file
   [3]
 
-A moment is read in full, and no clock is asked in its place.
+A moment is read in full, and no clock is read in its place.
   $ make
   > @keys
   > write root 1 1
