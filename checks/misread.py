@@ -27,8 +27,8 @@ MISREADINGS = {
     "a rotation is another order of ids": (
         f"{IDS.format('old')} != {IDS.format('new')}",
         f"{IDS.format('old')[4:-1]} != {IDS.format('new')[4:-1]}"),
-    "the old root isn't asked": (NEW_ROOT.format("old"), "pass"),
-    "the new root isn't asked": (NEW_ROOT.format("new"), "pass"),
+    "the old root's keys aren't checked": (NEW_ROOT.format("old"), "pass"),
+    "the new root's keys aren't checked": (NEW_ROOT.format("new"), "pass"),
     "roots may leave versions out": ('ask(new["version"] == old["version"] + 1', 'ask(new["version"] > old["version"]'),
     "a timestamp of an equal version is taken": ('if old and new["version"] == old["version"]:', "if False:"),
     "an older snapshot may be listed": ('ask(not old or new["snapshot"]["version"] >=', "ask(True or new >="),

@@ -1,9 +1,9 @@
 #!/bin/bash
-# Compares the version that the program prints with what else names it: the release's scripts, the library's header and crates, the man page, the pages for
-# users and on formats, the changelog, and the logic of the kit in the README. The one place of the version is
-# crates/words/src/version.rt.
+# Compares the version that the program prints with what else names it: the release's scripts, the library's header and
+# crates, the man page, the pages for users and on formats, the changelog, and the logic of the kit in the README. The one
+# place of the version is crates/words/src/version.rt.
 #
-#   checks/version.sh [PROGRAM]      crates/tufcheck/out/tufcheck unless given; without a built program it isn't asked
+#   checks/version.sh [PROGRAM]      crates/tufcheck/out/tufcheck unless given; without a built program it isn't checked
 #
 # It prints a line for each place that differs, and the status is then 1. It takes a second.
 set -u
