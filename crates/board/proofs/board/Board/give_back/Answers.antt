@@ -13,3 +13,6 @@ store-requires c =
       omega arith,
       gives_back _ _ _ _ j within (sym c.seat.invariant.holds ∙ c.in-Some.is),
     )
+
+pub returns-clause-view : goal.returns-clause-view
+returns-clause-view = grind arith

@@ -46,3 +46,6 @@ returns-clause-kept c =
     keeps_seat _ _ _ _ _ c.seat.view_is c.load-found.ensures.0
     (all_looked _ _ c.args.j _ c.of_word.result (λ v. ap (λ (m : Sat). m.0) (sees.seen (subst IsDecided c.of_word.ensures (verdict_word _ v))))
     (λ n. ap (λ (m : Sat). m.0) (sees.same (λ d. n (word_verdict _ (subst IsDecided (sym c.of_word.ensures) d))))))
+
+pub returns-clause-valid : goal.returns-clause-valid
+returns-clause-valid = grind arith
