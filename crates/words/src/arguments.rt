@@ -1,124 +1,92 @@
-//! The arguments of the commands.
+//! Arguments as rows of a table, and what `clap` makes of them.
 
 use clap::builder::ValueParser;
-use clap::{Arg, ArgAction};
+use clap::{Arg, ArgAction, Command};
 use std::alloc::{AllocError, Global};
 
-/// The values of `--only`.
-const FOLDERS: &[&str] = &["metadata", "targets"];
-
-/// Returns a required argument.
-pub fn file<'a>(alloc: Global, name: &'a str, help: &'a str) -> Arg<'a> {
-    Arg::new(alloc, name).required(true).help(help)
+/// How an argument is given. The first two forms are positional, the others are options.
+pub enum Form {
+    /// A value, which is required.
+    One,
+    /// Values, of which at least this number is required.
+    Several(usize),
+    /// No value. Names the arguments that it needs, and those that it conflicts with.
+    Switch {
+        needs: &'static [&'static str],
+        conflicts: &'static [&'static str],
+    },
+    /// A value, with its name in the help.
+    Value(&'static str),
+    /// A value, which is required, with its name in the help.
+    Needed(&'static str),
+    /// A folder, by one of these names.
+    Folder(&'static [&'static str]),
+    /// A number of this range, ends included, or else the default.
+    Number {
+        least: u64,
+        most: u64,
+        default: &'static str,
+    },
 }
 
-/// Returns an argument that may occur several times.
-pub fn several<'a>(alloc: Global, name: &'a str, help: &'a str) -> Arg<'a> {
-    Arg::new(alloc, name).action(ArgAction::Append).help(help)
+/// An argument of a command.
+pub struct Argument {
+    pub name: &'static str,
+    pub form: Form,
+    pub help: &'static str,
 }
 
-/// Returns the option `--now`.
-pub fn now_option<'a>(alloc: Global) -> Arg<'a> {
-    Arg::new(alloc, "now").long("now").value_name("TEXT").help(
-        "The moment, as YYYY-MM-DDTHH:MM:SSZ, in place of the clock's",
-    )
+/// Returns the argument of a row.
+fn argument_of<'a>(alloc: Global, row: &Argument) -> Result<Arg<'a>, AllocError> {
+    let arg = Arg::new(alloc, row.name).help(row.help);
+    match row.form {
+        Form::One => Ok(arg.required(true)),
+        Form::Several(least) => Ok(several(arg, least)),
+        Form::Switch { needs, conflicts } => switch(arg.long(row.name), needs, conflicts),
+        Form::Value(name) => Ok(arg.long(row.name).value_name(name)),
+        Form::Needed(name) => Ok(arg.long(row.name).value_name(name).required(true)),
+        Form::Folder(names) => Ok(arg.long(row.name).value_name("FOLDER").value_parser(names)),
+        Form::Number {
+            least,
+            most,
+            default,
+        } => Ok(number(arg.long(row.name), least, most, default)),
+    }
 }
 
-/// Returns the option `--before`.
-pub fn before_option<'a>(alloc: Global) -> Arg<'a> {
-    Arg::new(alloc, "before")
-        .long("before")
-        .value_name("TEXT")
-        .help("Status 1 if a file expires before this moment, as YYYY-MM-DDTHH:MM:SSZ")
+/// Returns a positional argument with several values.
+fn several<'a>(arg: Arg<'a>, least: usize) -> Arg<'a> {
+    arg.action(ArgAction::Append)
+        .required(least > 0)
+        .num_args(least..)
 }
 
-/// Returns the option `--paths-from`.
-pub fn paths_from_option<'a>(alloc: Global) -> Arg<'a> {
-    Arg::new(alloc, "paths-from")
-        .long("paths-from")
-        .value_name("FILE")
-        .help("A file with further wanted paths, one a line; `-` is standard input")
+/// Returns an option without a value.
+fn switch<'a>(
+    arg: Arg<'a>,
+    needs: &[&'a str],
+    conflicts: &[&'a str],
+) -> Result<Arg<'a>, AllocError> {
+    arg.action(ArgAction::SetTrue)
+        .requires_all(needs)?
+        .conflicts_with_all(conflicts)
 }
 
-/// Returns the option `--null`.
-pub fn null_option<'a>(alloc: Global) -> Result<Arg<'a>, AllocError> {
-    Arg::new(alloc, "null")
-        .long("null")
-        .action(ArgAction::SetTrue)
-        .help("Each path of that file ends with a NUL byte, and not with a line feed")
-        .requires_arg("paths-from")
+/// Returns an option with a number of this range.
+fn number<'a>(arg: Arg<'a>, least: u64, most: u64, default: &'a str) -> Arg<'a> {
+    arg.value_name("N")
+        .value_parser(ValueParser::unsigned(least, most))
+        .default_value(default)
 }
 
-/// Returns the option `--every`, which takes the place of the wanted paths.
-pub fn every_option<'a>(alloc: Global) -> Result<Arg<'a>, AllocError> {
-    Arg::new(alloc, "every")
-        .long("every")
-        .action(ArgAction::SetTrue)
-        .help("Each file of the targets folder is wanted, by its path")
-        .conflicts_with("paths-from")?
-        .conflicts_with("null")?
-        .conflicts_with("PATH")
-}
-
-/// Returns the option `--into`.
-pub fn into_option<'a>(alloc: Global) -> Arg<'a> {
-    Arg::new(alloc, "into").long("into").value_name("DIR").help(
-        "The folder below which each accepted target is copied, under its path",
-    )
-}
-
-/// Returns the option `--progress`.
-pub fn progress_option<'a>(alloc: Global) -> Arg<'a> {
-    Arg::new(alloc, "progress")
-        .long("progress")
-        .action(ArgAction::SetTrue)
-        .help("Print to standard error what was done so far, at most once a second")
-}
-
-/// Returns the option `--only`.
-pub fn only_option<'a>(alloc: Global) -> Arg<'a> {
-    Arg::new(alloc, "only")
-        .long("only")
-        .value_name("FOLDER")
-        .value_parser(FOLDERS)
-        .help("Print the files of that folder alone")
-}
-
-/// Returns the option `--limit`.
-pub fn limit_option<'a>(alloc: Global) -> Arg<'a> {
-    Arg::new(alloc, "limit")
-        .long("limit")
-        .value_name("N")
-        .value_parser(ValueParser::unsigned(1, 256))
-        .default_value("32")
-        .help("Maximum number of roles that the search for a target visits, 1 to 256")
-}
-
-/// Returns the option `--workers`.
-pub fn workers_option<'a>(alloc: Global) -> Arg<'a> {
-    Arg::new(alloc, "workers")
-        .long("workers")
-        .value_name("N")
-        .value_parser(ValueParser::unsigned(0, 64))
-        .default_value("4")
-        .help("Threads that check signatures in advance and digest target files, 0 to 64")
-}
-
-/// Returns the option `--keep`.
-pub fn keep_option<'a>(alloc: Global) -> Arg<'a> {
-    Arg::new(alloc, "keep")
-        .long("keep")
-        .value_name("N")
-        .value_parser(ValueParser::unsigned(1, 4096))
-        .default_value("64")
-        .help("Maximum number of files whose verdicts are cached, 1 to 4096")
-}
-
-/// Returns a required option with a value.
-pub fn option<'a>(alloc: Global, name: &'a str, value: &'a str, help: &'a str) -> Arg<'a> {
-    Arg::new(alloc, name)
-        .long(name)
-        .value_name(value)
-        .required(true)
-        .help(help)
+/// Returns the command with the arguments of these rows, in order.
+pub fn with_arguments<'a>(
+    alloc: Global,
+    mut command: Command<'a>,
+    rows: &[Argument],
+) -> Result<Command<'a>, AllocError> {
+    for row in rows {
+        command = command.arg(argument_of(alloc, row)?)?;
+    }
+    Ok(command)
 }

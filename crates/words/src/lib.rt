@@ -5,6 +5,7 @@
 
 mod arguments;
 mod commands;
+mod table;
 mod texts;
 mod version;
 

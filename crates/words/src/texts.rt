@@ -1,11 +1,5 @@
 //! The texts of the help.
 
-/// Help for `--metadata`.
-pub const METADATA: &str = "The folder of metadata files, not of those in folders below it";
-
-/// Help for `--targets`.
-pub const TARGETS: &str = "The folder of target files, and of those in folders below it";
-
 /// The end of the program's help.
 pub const HELP_END: &str = "\
 EXAMPLES:

@@ -1,0 +1,203 @@
+//! The arguments of the commands.
+
+use crate::arguments::{Argument, Form};
+
+/// The arguments of `init`.
+pub const INIT: &[Argument] = &[
+    Argument {
+        name: "ROOT",
+        form: Form::One,
+        help: "The root file",
+    },
+    Argument {
+        name: "out",
+        form: Form::Needed("STATE"),
+        help: "Where the state is written",
+    },
+];
+
+/// The arguments of `verify`.
+pub const VERIFY: &[Argument] = &[
+    STATE,
+    METADATA,
+    TARGETS,
+    NOW,
+    LIMIT,
+    WORKERS,
+    PATHS_FROM,
+    NULL,
+    EVERY,
+    INTO,
+    PROGRESS,
+    Argument {
+        name: "out",
+        form: Form::Needed("STATE"),
+        help: "Where the new state is written",
+    },
+    PATHS,
+];
+
+/// The arguments of `replay`.
+pub const REPLAY: &[Argument] = &[
+    STATE,
+    NOW,
+    LIMIT,
+    WORKERS,
+    KEEP,
+    PATHS_FROM,
+    NULL,
+    PROGRESS,
+    Argument {
+        name: "out",
+        form: Form::Needed("STATE"),
+        help: "Where the last state is written",
+    },
+    Argument {
+        name: "PATH",
+        form: Form::One,
+        help: "The wanted target",
+    },
+    Argument {
+        name: "DIR",
+        form: Form::Several(1),
+        help: "The repositories, in order",
+    },
+];
+
+/// The arguments of `next`.
+pub const NEXT: &[Argument] = &[
+    STATE, METADATA, TARGETS, NOW, LIMIT, PATHS_FROM, NULL, ONLY, PROGRESS, PATHS,
+];
+
+/// The arguments of `show`.
+pub const SHOW: &[Argument] = &[
+    Argument {
+        name: "STATE",
+        form: Form::One,
+        help: "The trusted state",
+    },
+    Argument {
+        name: "before",
+        form: Form::Value("TEXT"),
+        help: "Status 1 if a file expires before this moment, as YYYY-MM-DDTHH:MM:SSZ",
+    },
+];
+
+/// The arguments of `make`.
+pub const MAKE: &[Argument] = &[
+    Argument {
+        name: "SCRIPT",
+        form: Form::One,
+        help: "The script",
+    },
+    Argument {
+        name: "DIR",
+        form: Form::One,
+        help: "The folder below which the files are written",
+    },
+];
+
+const STATE: Argument = Argument {
+    name: "state",
+    form: Form::Needed("STATE"),
+    help: "The trusted state",
+};
+
+const METADATA: Argument = Argument {
+    name: "metadata",
+    form: Form::Needed("DIR"),
+    help: "The folder of metadata files, not of those in folders below it",
+};
+
+const TARGETS: Argument = Argument {
+    name: "targets",
+    form: Form::Needed("DIR"),
+    help: "The folder of target files, and of those in folders below it",
+};
+
+const NOW: Argument = Argument {
+    name: "now",
+    form: Form::Value("TEXT"),
+    help: "The moment, as YYYY-MM-DDTHH:MM:SSZ, in place of the clock's",
+};
+
+const LIMIT: Argument = Argument {
+    name: "limit",
+    form: Form::Number {
+        least: 1,
+        most: 256,
+        default: "32",
+    },
+    help: "Maximum number of roles that the search for a target visits, 1 to 256",
+};
+
+const WORKERS: Argument = Argument {
+    name: "workers",
+    form: Form::Number {
+        least: 0,
+        most: 64,
+        default: "4",
+    },
+    help: "Threads that check signatures in advance and digest target files, 0 to 64",
+};
+
+const PATHS_FROM: Argument = Argument {
+    name: "paths-from",
+    form: Form::Value("FILE"),
+    help: "A file with further wanted paths, one a line; `-` is standard input",
+};
+
+const NULL: Argument = Argument {
+    name: "null",
+    form: Form::Switch {
+        needs: &["paths-from"],
+        conflicts: &[],
+    },
+    help: "Each path of that file ends with a NUL byte, and not with a line feed",
+};
+
+const EVERY: Argument = Argument {
+    name: "every",
+    form: Form::Switch {
+        needs: &[],
+        conflicts: &["paths-from", "null", "PATH"],
+    },
+    help: "Each file of the targets folder is wanted, by its path",
+};
+
+const INTO: Argument = Argument {
+    name: "into",
+    form: Form::Value("DIR"),
+    help: "The folder below which each accepted target is copied, under its path",
+};
+
+const PROGRESS: Argument = Argument {
+    name: "progress",
+    form: Form::Switch {
+        needs: &[],
+        conflicts: &[],
+    },
+    help: "Print to standard error what was done so far, at most once a second",
+};
+
+const KEEP: Argument = Argument {
+    name: "keep",
+    form: Form::Number {
+        least: 1,
+        most: 4096,
+        default: "64",
+    },
+    help: "Maximum number of files whose verdicts are cached, 1 to 4096",
+};
+
+const ONLY: Argument = Argument {
+    name: "only",
+    form: Form::Folder(&["metadata", "targets"]),
+    help: "Print the files of that folder alone",
+};
+
+const PATHS: Argument = Argument {
+    name: "PATH",
+    form: Form::Several(0),
+    help: "The wanted targets",
+};
