@@ -1,5 +1,6 @@
 //! Tests of several layers that need Rust: folders, judges, writers and copies that fail, links, a
-//! form of a test's own, and a clock of a test's own for the lines about progress.
+//! form of a test's own, a clock of a test's own for the lines about progress, and calls of the
+//! public functions.
 #![tactic(auto)]
 
 #[cfg(test)]
@@ -24,5 +25,7 @@ mod progress_lines;
 mod sealing;
 #[cfg(test)]
 mod stored;
+#[cfg(test)]
+mod surface;
 #[cfg(test)]
 mod thresholds;

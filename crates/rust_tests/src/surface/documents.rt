@@ -1,7 +1,6 @@
 //! Canonical texts and documents.
 
 use cjson::{Canon, Doc, DocFault, Entry, Tree, canonical, read_tree, signed_bytes};
-use std::test::Fail;
 
 /// A file with an entry.
 const FILE: &[u8] =
@@ -11,22 +10,24 @@ const FILE: &[u8] =
 const SIGNED: &[u8] = b"{\"a\":[],\"b\":1}";
 
 #[test]
-fn documents(rt: HostRuntime) -> Result<(), Fail> {
-    let doc: Doc = signed_bytes(rt.alloc(), FILE)?;
+fn documents(rt: HostRuntime) {
+    let doc: Doc = signed_bytes(rt.alloc(), FILE).expect(&rt, "a document");
     let tree: &Tree = doc.tree();
     let bytes: &[u8] = doc.bytes();
     let entries: &[Entry] = doc.entries();
     let text: Result<Vec<u8>, Canon> = canonical(rt.alloc(), tree);
     let [entry] = entries else {
-        return Err("one entry".into());
+        panic!(rt; "one entry");
     };
     assert_eq!(rt; (entry.keyid.as_str(), entry.sig.as_str()), ("k", "00"));
-    assert_eq!(rt; (bytes, text?.as_slice()), (SIGNED, SIGNED));
-    Ok(())
+    assert_eq!(rt;
+        (bytes, text.expect(&rt, "memory").as_slice()),
+        (SIGNED, SIGNED)
+    );
 }
 
 #[test]
-fn faults(rt: HostRuntime) -> Result<(), Fail> {
+fn faults(rt: HostRuntime) {
     let rows = [
         ("{", DocFault::NotJson),
         ("[]", DocFault::NotObject),
@@ -40,7 +41,6 @@ fn faults(rt: HostRuntime) -> Result<(), Fail> {
         let found = signed_bytes(rt.alloc(), file.as_bytes()).err();
         assert_eq!(rt; found, Some(fault), "{file}");
     }
-    let number = read_tree(rt.alloc(), b"1.5")?;
+    let number = read_tree(rt.alloc(), b"1.5").expect(&rt, "a tree");
     assert_eq!(rt; canonical(rt.alloc(), &number).err(), Some(Canon::Float));
-    Ok(())
 }

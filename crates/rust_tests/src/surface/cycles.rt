@@ -1,13 +1,13 @@
 //! Runs and keepers.
 
-use crate::repository::{first_state, moment, repository, wanted};
+use super::repository::{first_state, moment, repository, wanted};
 use cjson::NoMemory;
 use cycle::{
     Accepted, End, Fault, Keeper, Limits, Open, Outcome, Repo, Round, Stats, Step, Trusted,
     Verdict, run, run_alone,
 };
+use std::process::Abort;
 use std::sync::Wait;
-use std::test::Fail;
 use std::thread::Threads;
 
 /// Returns whether both targets are good, by their roles, and the role is accepted.
@@ -46,7 +46,7 @@ fn name_of(verdict: &Verdict) -> &'static str {
 }
 
 #[test]
-fn limits(rt: HostRuntime) -> Result<(), Fail> {
+fn limits(rt: HostRuntime) {
     for (roles, plan, is_some) in [
         (1, 0, true),
         (256, 4096, true),
@@ -57,44 +57,42 @@ fn limits(rt: HostRuntime) -> Result<(), Fail> {
         let limits: Option<Limits> = Limits::new(roles, plan);
         assert_eq!(rt; limits.is_some(), is_some, "{roles} {plan}");
     }
-    Ok(())
 }
 
 #[test]
-fn runs(rt: HostRuntime) -> Result<(), Fail> {
+fn runs(rt: HostRuntime) {
     let alloc = rt.alloc();
-    let repo = repository(alloc)?;
-    let trusted = first_state(alloc, &repo)?;
-    let wanted = wanted(alloc)?;
-    let (now, limits) = (moment()?, Limits::new(32, 4096).ok_or("limits")?);
+    let repo = repository(&rt, alloc);
+    let trusted = first_state(&rt, alloc, &repo);
+    let wanted = wanted(alloc).expect(&rt, "memory");
+    let (now, limits) = (moment(&rt), Limits::new(32, 4096).expect(&rt, "limits"));
     let alone: Result<Outcome, NoMemory> = run_alone(alloc, &trusted, &repo, now, &wanted, &limits);
-    let alone = alone?;
+    let alone = alone.expect(&rt, "memory");
     assert!(rt; is_good(&alone));
     let stats: Stats = alone.stats();
     assert_eq!(rt; (stats.planned, stats.taken_over), (0, 0));
     let beside: Result<Outcome, NoMemory> = run(
         &rt, alloc, &trusted, &repo, now, &wanted, &limits, 2, &Open,
     );
-    assert!(rt; is_good(&beside?));
-    Ok(())
+    assert!(rt; is_good(&beside.expect(&rt, "memory")));
 }
 
 #[test]
-fn refusals(rt: HostRuntime) -> Result<(), Fail> {
+fn refusals(rt: HostRuntime) {
     let alloc = rt.alloc();
-    let mut repo = repository(alloc)?;
-    let trusted = first_state(alloc, &repo)?;
-    let wanted = wanted(alloc)?;
+    let mut repo = repository(&rt, alloc);
+    let trusted = first_state(&rt, alloc, &repo);
+    let wanted = wanted(alloc).expect(&rt, "memory");
     let _ = repo.targets.remove("x/1");
     let _ = repo.metadata.remove("a.json");
-    let limits = Limits::new(32, 0).ok_or("limits")?;
-    let outcome = run_alone(alloc, &trusted, &repo, moment()?, &wanted, &limits)?;
+    let (now, limits) = (moment(&rt), Limits::new(32, 0).expect(&rt, "limits"));
+    let outcome = run_alone(alloc, &trusted, &repo, now, &wanted, &limits).expect(&rt, "memory");
     let [_, second] = outcome.verdicts() else {
-        return Err("two verdicts".into());
+        panic!(rt; "two verdicts");
     };
     assert_eq!(rt; name_of(second), "role refused");
     let _ = repo.metadata.remove("timestamp.json");
-    let outcome = run_alone(alloc, &trusted, &repo, moment()?, &wanted, &limits)?;
+    let outcome = run_alone(alloc, &trusted, &repo, now, &wanted, &limits).expect(&rt, "memory");
     assert_eq!(rt;
         outcome.end(),
         End::Stopped(Step::Timestamp, Fault::Missing)
@@ -102,32 +100,30 @@ fn refusals(rt: HostRuntime) -> Result<(), Fail> {
     for verdict in outcome.verdicts() {
         assert_eq!(rt; name_of(verdict), "not searched");
     }
-    Ok(())
 }
 
 /// Returns whether a cycle and two more are good, each from the state of the one before.
-fn keeps<R: Threads + Wait + Sync>(
+fn keeps<R: Abort + Threads + Wait + Sync>(
     rt: &R,
     keeper: &mut Keeper,
     repo: &Repo,
     wanted: &[String],
-) -> Result<bool, Fail> {
-    let (now, limits) = (moment()?, Limits::new(32, 4096).ok_or("limits")?);
+) -> bool {
+    let (now, limits) = (moment(rt), Limits::new(32, 4096).expect(rt, "limits"));
     let first: Result<Outcome, NoMemory> = keeper.cycle(rt, repo, now, wanted, &limits, 0, &Open);
     let rounds = [Round { repo, now, wanted }, Round { repo, now, wanted }];
     let more: Result<Vec<Outcome>, NoMemory> = keeper.cycles(rt, &rounds, &limits, 2, &Open);
-    let (first, more) = (first?, more?);
-    Ok(is_good(&first) && more.len() == 2 && more.iter().all(is_good))
+    let (first, more) = (first.expect(rt, "memory"), more.expect(rt, "memory"));
+    is_good(&first) && more.len() == 2 && more.iter().all(is_good)
 }
 
 #[test]
-fn keepers(rt: HostRuntime) -> Result<(), Fail> {
-    let repo = repository(rt.alloc())?;
-    let trusted = first_state(rt.alloc(), &repo)?;
-    let wanted = wanted(rt.alloc())?;
+fn keepers(rt: HostRuntime) {
+    let repo = repository(&rt, rt.alloc());
+    let trusted = first_state(&rt, rt.alloc(), &repo);
+    let wanted = wanted(rt.alloc()).expect(&rt, "memory");
     let keeper: Result<Keeper, NoMemory> = Keeper::new(rt.alloc(), trusted, 64);
-    let mut keeper = keeper?;
-    assert!(rt; keeps(&rt, &mut keeper, &repo, &wanted)?);
+    let mut keeper = keeper.expect(&rt, "memory");
+    assert!(rt; keeps(&rt, &mut keeper, &repo, &wanted));
     assert!(rt; keeper.trusted().is_ready());
-    Ok(())
 }

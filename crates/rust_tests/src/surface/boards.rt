@@ -5,7 +5,6 @@ ghost use Rattle.board.specs.Board.{IsFree, IsSeatOf};
 
 use board::{Board, Checks, Look, Seat, done, retire};
 use cjson::NoMemory;
-use std::test::Fail;
 
 /// One true check.
 #[derive(Clone, Copy, Drop)]
@@ -41,8 +40,8 @@ fn claimed_twice(board: &Board, seat: &mut Seat) -> bool
 }
 
 #[test]
-fn two_seats(rt: HostRuntime) -> Result<(), Fail> {
-    let (board, seat) = Board::new(rt.alloc(), &One)?;
+fn two_seats(rt: HostRuntime) {
+    let (board, seat) = Board::new(rt.alloc(), &One).expect(&rt, "memory");
     let (mut first, mut second): (Seat, Seat) = board.split(seat);
     let is_open = board.look(&mut second, 0) == Look::Open;
     let is_claimed = claimed_twice(&board, &mut first);
@@ -52,15 +51,13 @@ fn two_seats(rt: HostRuntime) -> Result<(), Fail> {
     let after = board.stopped(&mut second);
     assert!(rt; is_open && is_claimed && is_valid && !before && after);
     assert_eq!(rt; (done(&first), done(&second)), (1, 0));
-    Ok(())
 }
 
 #[test]
-fn seats_are_joined(rt: HostRuntime) -> Result<(), Fail> {
-    let (board, seat) = Board::new(rt.alloc(), &One)?;
+fn seats_are_joined(rt: HostRuntime) {
+    let (board, seat) = Board::new(rt.alloc(), &One).expect(&rt, "memory");
     let (first, second) = board.split(seat);
     let seat: Seat = board.join(first, second);
     assert_eq!(rt; done(&seat), 0);
     retire(seat);
-    Ok(())
 }

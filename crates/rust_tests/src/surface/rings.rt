@@ -6,19 +6,18 @@ use keys::{
 };
 use lms::{Height, Secret, Width};
 use sha2::{Digest, Sha256};
-use std::test::Fail;
 
 #[test]
-fn rings_and_roles(rt: HostRuntime) -> Result<(), Fail> {
+fn rings_and_roles(rt: HostRuntime) {
     let alloc = rt.alloc();
-    let keys = read_tree(alloc, b"{\"k\":{}}")?;
+    let keys = read_tree(alloc, b"{\"k\":{}}").expect(&rt, "a tree");
     let ring: Result<Option<KeyRing>, NoMemory> = KeyRing::read(alloc, &keys);
-    let ring = ring?.ok_or("a ring")?;
-    let role = read_tree(alloc, b"{\"keyids\":[\"k\"],\"threshold\":2}")?;
+    let ring = ring.expect(&rt, "memory").expect(&rt, "a ring");
+    let role = read_tree(alloc, b"{\"keyids\":[\"k\"],\"threshold\":2}").expect(&rt, "a tree");
     let role: Result<Option<RoleKeys>, NoMemory> = RoleKeys::read(alloc, &role);
-    let role = role?.ok_or("a role")?;
+    let role = role.expect(&rt, "memory").expect(&rt, "a role");
     assert_eq!(rt; (role.ids.as_slice().len(), role.threshold.get()), (1, 2));
-    let doc = signed_bytes(alloc, b"{\"signatures\":[],\"signed\":{}}")?;
+    let doc = signed_bytes(alloc, b"{\"signatures\":[],\"signed\":{}}").expect(&rt, "a document");
     let is_met: Result<bool, NoMemory> = enough(
         alloc,
         &doc,
@@ -27,24 +26,22 @@ fn rings_and_roles(rt: HostRuntime) -> Result<(), Fail> {
         &role,
         &mut Direct,
     );
-    assert!(rt; !is_met?);
-    Ok(())
+    assert!(rt; !is_met.expect(&rt, "memory"));
 }
 
 /// What `printf {} | sha256sum` prints.
 #[test]
-fn ids(rt: HostRuntime) -> Result<(), Fail> {
-    let key = read_tree(rt.alloc(), b"{}")?;
+fn ids(rt: HostRuntime) {
+    let key = read_tree(rt.alloc(), b"{}").expect(&rt, "a tree");
     let id: Result<String, Canon> = key_id(rt.alloc(), &key);
     assert_eq!(rt;
-        id?.as_str(),
+        id.expect(&rt, "memory").as_str(),
         "44136fa355b3678a1146ad16f7e8649e94fb4fc21fe77e8310c060f61caaff8a"
     );
-    Ok(())
 }
 
 #[test]
-fn digests_are_judged(rt: HostRuntime) -> Result<(), Fail> {
+fn digests_are_judged(rt: HostRuntime) {
     let digest: [u8; 32] = Sha256::digest(b"abc");
     for (bytes, is_so) in [(b"abc", true), (b"abd", false)] {
         let ask = Ask::Digest(DigestAsk {
@@ -54,16 +51,20 @@ fn digests_are_judged(rt: HostRuntime) -> Result<(), Fail> {
             digest: &digest,
         });
         let valid: Result<bool, NoMemory> = Direct.valid(&ask);
-        assert!(rt; valid? == is_so && ask.same(&ask));
+        assert!(rt; valid.expect(&rt, "memory") == is_so && ask.same(&ask));
     }
-    Ok(())
 }
 
 #[test]
-fn signatures_are_judged(rt: HostRuntime) -> Result<(), Fail> {
-    let mut secret = Secret::of(rt.alloc(), [1; 16], [2; 32], Width::W4, Height::H5)?;
+fn signatures_are_judged(rt: HostRuntime) {
+    let mut secret = Secret::of(rt.alloc(), [1; 16], [2; 32], Width::W4, Height::H5).expect(
+        &rt, "a key",
+    );
     let public = secret.public();
-    let sig = hex::encode(rt.alloc(), secret.sign(b"abc")?)?;
+    let sig = hex::encode(rt.alloc(), secret.sign(b"abc").expect(&rt, "a signature")).expect(
+        &rt,
+        "a signature",
+    );
     let one = Ask::Signature(SignatureAsk {
         file: "root.json",
         place: 0,
@@ -78,7 +79,9 @@ fn signatures_are_judged(rt: HostRuntime) -> Result<(), Fail> {
         message: b"abd",
         sig: sig.as_str(),
     });
-    let (first, second) = (Direct.valid(&one)?, Direct.valid(&other)?);
+    let (first, second) = (
+        Direct.valid(&one).expect(&rt, "memory"),
+        Direct.valid(&other).expect(&rt, "memory"),
+    );
     assert!(rt; first && !second && !one.same(&other));
-    Ok(())
 }
