@@ -2,11 +2,10 @@
 
 use crate::bins::Bins;
 use crate::line::{
-    DelegateLine, Quorum, SuccinctLine, TargetLine, WriteLine, read_delegate, read_quorum,
-    read_succinct, read_target, read_write,
+    Quorum, WriteLine, read_delegate, read_quorum, read_succinct, read_target, read_write,
 };
 use crate::objects::{
-    delegation_object, listing_object, put, quorum_object, succinct_object, target_name,
+    Members, delegation_object, listing_object, put, quorum_members, succinct_object, target_name,
     target_object,
 };
 use crate::refusal::Refusal;
@@ -15,7 +14,7 @@ use crate::words::Words;
 use cjson::{canonical, tree_from};
 use meta::names;
 use seals::{Signer, seal_text};
-use serde_json::{Map, Value, json};
+use serde_json::{Map, Value};
 use std::alloc::{AllocError, Global};
 use std::collections::BTreeMap;
 
@@ -44,15 +43,16 @@ impl Role {
 
     /// Returns the member `delegations`, if there are any.
     fn delegations(&self, alloc: Global) -> Result<Option<Value>, AllocError> {
-        let keys = Value::Object(self.keys.clone()?);
-        if let Some(succinct) = &self.succinct {
-            return Ok(Some(json!(in alloc; { "keys": keys, "succinct_roles": succinct })?));
-        }
-        if self.delegations.is_empty() {
+        if self.succinct.is_none() && self.delegations.is_empty() {
             return Ok(None);
         }
-        let roles = Value::Array(self.delegations.clone()?);
-        Ok(Some(json!(in alloc; { "keys": keys, "roles": roles })?))
+        let mut object = Members::new(alloc);
+        object.put("keys", Value::Object(self.keys.clone()?))?;
+        match &self.succinct {
+            Some(succinct) => object.put("succinct_roles", succinct.clone()?)?,
+            None => object.put("roles", Value::Array(self.delegations.clone()?))?,
+        }
+        Ok(Some(object.into_value()))
     }
 }
 
@@ -105,23 +105,32 @@ impl Repository {
 
     fn follow_words(&mut self, words: &mut Words<'_>) -> Result<(), Refusal> {
         match words.word()? {
-            "key" => self.add_key(words)?,
-            "consistent" => self.consistent = words.choice("yes", "no")?,
-            "expires" => self.expires = String::from_str(self.alloc, words.word()?)?,
-            "top" => self.set_top(words)?,
-            "target" => self.add_target(&read_target(self.alloc, words)?)?,
-            "delegate" => self.add_delegation(&read_delegate(self.alloc, words)?)?,
-            "succinct" => self.add_bins(&read_succinct(self.alloc, words)?)?,
-            "forget" => self.forget(words.word()?)?,
-            "write" => self.write(&read_write(self.alloc, words)?)?,
-            _ => return Err(Refusal::Line),
+            "key" => self.add_key(words),
+            "consistent" => self.set_consistent(words),
+            "expires" => self.set_expires(words),
+            "top" => self.set_top(words),
+            "target" => self.add_target(words),
+            "delegate" => self.add_delegation(words),
+            "succinct" => self.add_bins(words),
+            "forget" => self.forget(words),
+            "write" => self.write(words),
+            _ => Err(Refusal::Line),
         }
-        Ok(())
     }
 
     /// Returns the files, in the order of their names.
     pub fn into_files(self) -> Result<Vec<(String, Vec<u8>)>, AllocError> {
         self.files.into_iter().collect(self.alloc)
+    }
+
+    fn set_consistent(&mut self, words: &mut Words<'_>) -> Result<(), Refusal> {
+        self.consistent = words.choice("yes", "no")?;
+        Ok(())
+    }
+
+    fn set_expires(&mut self, words: &mut Words<'_>) -> Result<(), Refusal> {
+        self.expires = String::from_str(self.alloc, words.word()?)?;
+        Ok(())
     }
 
     /// `key S H` or `key S H W`
@@ -153,15 +162,20 @@ impl Repository {
         if !matches!(name, "root" | "timestamp" | "snapshot" | "targets") {
             return Err(Refusal::Line);
         }
-        let quorum = read_quorum(self.alloc, words)?;
-        let _known = places_of(self.alloc, &self.signers, &quorum.keys)?;
+        let quorum = self.known_quorum(words)?;
         if name == "targets" {
             self.make_role(name)?;
         }
-        let _ = self
-            .tops
-            .insert(String::from_str(self.alloc, name)?, quorum)?;
+        let key = String::from_str(self.alloc, name)?;
+        let _ = self.tops.insert(key, quorum)?;
         Ok(())
+    }
+
+    /// Reads a threshold and keys, each of which has its `key` line.
+    fn known_quorum(&self, words: &mut Words<'_>) -> Result<Quorum, Refusal> {
+        let quorum = read_quorum(self.alloc, words)?;
+        let _known = places_of(self.alloc, &self.signers, &quorum.keys)?;
+        Ok(quorum)
     }
 
     /// Returns whether a `top`, `delegate` or `succinct` line has made the role.
@@ -187,7 +201,8 @@ impl Repository {
         self.roles.get_mut(name).ok_or(Refusal::Line)
     }
 
-    fn forget(&mut self, name: &str) -> Result<(), Refusal> {
+    fn forget(&mut self, words: &mut Words<'_>) -> Result<(), Refusal> {
+        let name = words.word()?;
         if !self.is_made(name) {
             return Err(Refusal::Line);
         }
@@ -196,35 +211,39 @@ impl Repository {
         Ok(())
     }
 
-    fn add_target(&mut self, line: &TargetLine<'_>) -> Result<(), Refusal> {
+    fn add_target(&mut self, words: &mut Words<'_>) -> Result<(), Refusal> {
         let alloc = self.alloc;
+        let line = read_target(alloc, words)?;
         let role = self.listing_role(line.role)?;
         let object = target_object(alloc, &line.bytes, line.digests)?;
         put(alloc, &mut role.targets, line.path, object)?;
-        let name = target_name(self.alloc, self.consistent, line)?;
+        let name = target_name(self.alloc, self.consistent, &line)?;
         let _ = self.files.insert(name, line.bytes.clone()?)?;
         Ok(())
     }
 
-    fn add_delegation(&mut self, line: &DelegateLine<'_>) -> Result<(), Refusal> {
+    fn add_delegation(&mut self, words: &mut Words<'_>) -> Result<(), Refusal> {
         let alloc = self.alloc;
+        let line = read_delegate(alloc, words)?;
         let ids = ids_of(alloc, &self.signers, &line.quorum.keys)?;
         let role = self.delegating_role(line.from, &line.quorum)?;
         if role.succinct.is_some() {
             return Err(Refusal::Line);
         }
-        role.delegations.push(delegation_object(alloc, line, ids)?)?;
+        role.delegations
+            .push(delegation_object(alloc, &line, ids)?)?;
         self.make_role(line.to)
     }
 
-    fn add_bins(&mut self, line: &SuccinctLine<'_>) -> Result<(), Refusal> {
+    fn add_bins(&mut self, words: &mut Words<'_>) -> Result<(), Refusal> {
         let alloc = self.alloc;
+        let line = read_succinct(alloc, words)?;
         let ids = ids_of(alloc, &self.signers, &line.quorum.keys)?;
         let role = self.delegating_role(line.from, &line.quorum)?;
         if !role.delegations.is_empty() {
             return Err(Refusal::Line);
         }
-        role.succinct = Some(succinct_object(alloc, line, ids)?);
+        role.succinct = Some(succinct_object(alloc, &line, ids)?);
         self.bins.push(Bins::new(alloc, line.bits, line.prefix)?)?;
         Ok(())
     }
@@ -242,10 +261,11 @@ impl Repository {
         Ok(role)
     }
 
-    fn write(&mut self, line: &WriteLine<'_>) -> Result<(), Refusal> {
-        let object = self.object_of(line)?;
+    fn write(&mut self, words: &mut Words<'_>) -> Result<(), Refusal> {
+        let line = read_write(self.alloc, words)?;
+        let object = self.object_of(&line)?;
         let bytes = self.seal_file(object, &line.keys)?;
-        let name = self.listed_name(line, &bytes)?;
+        let name = self.listed_name(&line, &bytes)?;
         let name = format!(in self.alloc; "metadata/{name}")?;
         let _ = self.files.insert(name, bytes)?;
         Ok(())
@@ -282,19 +302,23 @@ impl Repository {
         Ok(names::version_name(alloc, self.consistent, line.version, name.as_str())?)
     }
 
+    /// Returns the members that each metadata file has (TUF 1.0 sections 4.3 to 4.6).
+    fn members(&self, kind: &str, version: u64) -> Result<Members, AllocError> {
+        let mut object = Members::new(self.alloc);
+        object.put_text("_type", kind)?;
+        object.put_text("expires", self.expires.as_str())?;
+        object.put_text("spec_version", SPEC_VERSION)?;
+        object.put("version", Value::from(version))?;
+        Ok(object)
+    }
+
     /// Returns the contents of a root file (TUF 1.0 section 4.3).
     fn root_object(&self, version: u64) -> Result<Value, Refusal> {
-        let keys = Value::Object(self.root_keys()?);
-        let roles = Value::Object(self.root_roles()?);
-        Ok(json!(in self.alloc; {
-            "_type": "root",
-            "consistent_snapshot": self.consistent,
-            "expires": self.expires.as_str(),
-            "keys": keys,
-            "roles": roles,
-            "spec_version": SPEC_VERSION,
-            "version": version
-        })?)
+        let mut object = self.members("root", version)?;
+        object.put("consistent_snapshot", Value::Bool(self.consistent))?;
+        object.put("keys", Value::Object(self.root_keys()?))?;
+        object.put("roles", Value::Object(self.root_roles()?))?;
+        Ok(object.into_value())
     }
 
     /// Returns the keys of the top-level roles.
@@ -311,7 +335,7 @@ impl Repository {
         let mut roles = Map::new(self.alloc);
         for (name, quorum) in self.tops.iter() {
             let ids = ids_of(self.alloc, &self.signers, &quorum.keys)?;
-            let object = quorum_object(self.alloc, ids, quorum.threshold)?;
+            let object = quorum_members(self.alloc, ids, quorum.threshold)?.into_value();
             put(self.alloc, &mut roles, name.as_str(), object)?;
         }
         Ok(roles)
@@ -320,45 +344,29 @@ impl Repository {
     /// Returns the contents of a timestamp file (TUF 1.0 section 4.6).
     fn timestamp_object(&self, version: u64) -> Result<Value, Refusal> {
         let snapshot = self.snapshot.as_ref().ok_or(Refusal::Line)?;
-        Ok(json!(in self.alloc; {
-            "_type": "timestamp",
-            "expires": self.expires.as_str(),
-            "meta": { "snapshot.json": snapshot },
-            "spec_version": SPEC_VERSION,
-            "version": version
-        })?)
+        let mut listed = Members::new(self.alloc);
+        listed.put("snapshot.json", snapshot.clone()?)?;
+        let mut object = self.members("timestamp", version)?;
+        object.put("meta", listed.into_value())?;
+        Ok(object.into_value())
     }
 
     /// Returns the contents of a snapshot file (TUF 1.0 section 4.4).
     fn snapshot_object(&self, version: u64) -> Result<Value, Refusal> {
-        let listed = Value::Object(self.listed.clone()?);
-        Ok(json!(in self.alloc; {
-            "_type": "snapshot",
-            "expires": self.expires.as_str(),
-            "meta": listed,
-            "spec_version": SPEC_VERSION,
-            "version": version
-        })?)
+        let mut object = self.members("snapshot", version)?;
+        object.put("meta", Value::Object(self.listed.clone()?))?;
+        Ok(object.into_value())
     }
 
     /// Returns the contents of the file of `targets` or of a delegated role (TUF 1.0 section 4.5).
     fn role_object(&self, name: &str, version: u64) -> Result<Value, Refusal> {
         let role = self.roles.get(name).ok_or(Refusal::Line)?;
-        let targets = Value::Object(role.targets.clone()?);
-        let mut object = json!(in self.alloc; {
-            "_type": "targets",
-            "expires": self.expires.as_str(),
-            "spec_version": SPEC_VERSION,
-            "targets": targets,
-            "version": version
-        })?;
-        if let (Value::Object(members), Some(delegations)) = (
-            &mut object,
-            role.delegations(self.alloc)?,
-        ) {
-            put(self.alloc, members, "delegations", delegations)?;
+        let mut object = self.members("targets", version)?;
+        object.put("targets", Value::Object(role.targets.clone()?))?;
+        if let Some(delegations) = role.delegations(self.alloc)? {
+            object.put("delegations", delegations)?;
         }
-        Ok(object)
+        Ok(object.into_value())
     }
 
     /// Returns the file with these contents, an object, signed by the keys.
