@@ -9,7 +9,7 @@ use cycle::{Moment, Open, Threading, Trusted};
 use failure::{Failure, tell_failure};
 use folder::{Depth, Disk, Folder, LoadFault};
 use sessions::{Output, Step};
-use std::alloc::Global;
+use std::alloc::{AllocError, Global};
 use std::rt::{Clock, Files};
 use std::sync::Wait;
 use std::thread::Threads;
@@ -19,11 +19,19 @@ use system::{System, store, whole_seconds};
 use update::{Folders, Host, Start, Wanted, moment};
 
 /// The files of a session beside a clock that shows one time since 1970, or that can't be read.
-#[derive(Clone, Copy, Drop)]
+#[derive(Drop)]
 struct Stopped<'a, R> {
     rt: &'a R,
     time: Option<Duration>,
 }
+
+impl<'a, R> Clone for Stopped<'a, R> {
+    fn clone(&self) -> Result<Stopped<'a, R>, AllocError> {
+        Ok(*self)
+    }
+}
+
+impl<'a, R> Copy for Stopped<'a, R> {}
 
 impl<'a, R> Clock for Stopped<'a, R> {
     fn monotonic(&self) -> io::Result<Duration> {

@@ -3,7 +3,7 @@
 use anyhow::Result;
 use command::command;
 use sessions::{Output, Step, script_of, words_of};
-use std::alloc::Global;
+use std::alloc::{AllocError, Global};
 use std::fs;
 use std::sync::Wait;
 use std::thread::Threads;
@@ -12,12 +12,20 @@ use std::thread::Threads;
 pub const NOW: &str = "2026-01-01T00:00:00Z";
 
 /// The system as a session sees it.
-#[derive(Clone, Copy, Drop)]
+#[derive(Drop)]
 pub struct Shell<'a, T> {
     pub rt: &'a HostRuntime,
     pub threads: &'a T,
     pub alloc: Global,
 }
+
+impl<'a, T> Clone for Shell<'a, T> {
+    fn clone(&self) -> Result<Shell<'a, T>, AllocError> {
+        Ok(*self)
+    }
+}
+
+impl<'a, T> Copy for Shell<'a, T> {}
 
 impl<'a, T: Threads + Wait + Sync> Shell<'a, T> {
     pub fn new(rt: &'a HostRuntime, threads: &'a T, alloc: Global) -> Shell<'a, T> {

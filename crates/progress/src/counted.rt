@@ -3,7 +3,7 @@
 use crate::counts::Progress;
 use crate::file::CountedFile;
 use crate::ground::Ground;
-use std::alloc::Allocator;
+use std::alloc::{AllocError, Allocator};
 use std::fs::{Metadata, OpenOptions, Permissions};
 use std::io::{self, PipeReader, PipeWriter};
 use std::os::fd::BorrowedFd;
@@ -12,13 +12,21 @@ use std::path::PathBuf;
 use std::rt::Files;
 
 /// The files of `R`. Each that is opened for reading is counted.
-#[derive(Clone, Copy, Drop)]
+#[derive(Drop)]
 pub struct Counted<'a, R, G> {
     rt: &'a R,
     progress: &'a Progress<'a, G>,
     /// Whether the bytes that are read are counted as digested.
     are_digested: bool,
 }
+
+impl<'a, R, G> Clone for Counted<'a, R, G> {
+    fn clone(&self) -> Result<Counted<'a, R, G>, AllocError> {
+        Ok(*self)
+    }
+}
+
+impl<'a, R, G> Copy for Counted<'a, R, G> {}
 
 impl<'a, R, G> Counted<'a, R, G> {
     /// Returns the files of `rt`, whose bytes aren't counted.
