@@ -25,7 +25,7 @@ import ctypes as _c
 import enum
 import os
 from dataclasses import dataclass, field
-from typing import Callable, Dict, List, Mapping, Optional, Sequence, Union
+from typing import Callable, Dict, List, Mapping, Optional, Sequence, Set, Tuple, Union
 
 __all__ = [
     "Digests", "End", "Fault", "Job", "Kind", "LimitError", "Listed", "Listing", "MomentError",
@@ -323,15 +323,15 @@ def fetch_all(job: Job, fetch: Callable[[Need], Union[bytes, Digests, None]]) ->
 
     `fetch` returns a file's bytes, of a target file its digests instead, or None if there is no such
     file. It is called once for each name."""
-    asked: Dict[tuple, bool] = {}
+    fetched: Set[Tuple[Place, str]] = set()
     while True:
         needed = job.next().files
-        new = [need for need in needed if (need.place, need.name) not in asked]
+        new = [need for need in needed if (need.place, need.name) not in fetched]
         if not new:
             return needed
         for need in [need for need in new if need.optional] or new:
             found = fetch(need)
-            asked[need.place, need.name] = found is not None
+            fetched.add((need.place, need.name))
             if isinstance(found, Digests):
                 job.digests[need.name] = found
             elif found is not None:

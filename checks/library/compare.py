@@ -64,11 +64,11 @@ def brief(outcome):
 class Fetcher:
     def __init__(self, metadata, targets):
         self.files = {Place.METADATA: metadata, Place.TARGETS: targets}
-        self.asked = set()
+        self.fetched = set()
 
     def __call__(self, need):
-        assert (need.place, need.name) not in self.asked
-        self.asked.add((need.place, need.name))
+        assert (need.place, need.name) not in self.fetched
+        self.fetched.add((need.place, need.name))
         data = self.files[need.place].get(need.name)
         return None if data is None else data[: need.most + 1]
 
