@@ -14,3 +14,6 @@ returns-in_err-next g c =
     (ap (λ e. root_part e c.due_version-version.result files) c.due_root-expect.ensures ∙ ap (λ n. root_part (due_root root) n files) c.due_version-version.ensures)
     c.examine_root.ensures.answer in
     search (rules, answer)
+
+pub returns-then-get-ge-LAST_VERSION : goal.returns-then-get-ge-LAST_VERSION
+returns-then-get-ge-LAST_VERSION = search rules
