@@ -1,69 +1,18 @@
 //! Copies of the files that searches found.
 
-ghost use Rattle.std.specs.Prelude.{◌≡◌, ◌≤◌, true};
-ghost use Rattle.folder.specs.Folders.{HasFailed};
+ghost use Rattle.std.specs.Prelude.{◌≡◌, true};
 
 use crate::found::{LINES, PLAIN, course, wanted};
+use crate::repositories::made;
+use crate::stored::Memory;
 use copies::Destination;
-use cycle::Repo;
 use failure::Failure;
-use folder::{Folder, LoadFault, Sink};
-use maker::make;
+use folder::{Folder, Sink};
 use measured::{Copied, close_into};
 use report::tell;
 use std::alloc::Global;
-use std::collections::BTreeMap;
 use std::io::{self, ErrorKind};
-use std::test::Fail;
-
-/// Target files in memory.
-struct Held {
-    files: BTreeMap<String, Vec<u8>>,
-    faults: u64,
-}
-
-impl Drop for Held {
-    fn drop(self) {
-        let Held { files, faults } = self;
-    }
-}
-
-impl Held {
-    fn fail(&mut self) -> LoadFault
-        ensures failed { HasFailed self.old.faults self.new.faults }
-        ensures counts { self.old.faults ≤ self.new.faults }
-    {
-        self.faults = self.faults.saturating_add(1);
-        LoadFault::Folder
-    }
-}
-
-impl Folder for Held {
-    ghost lists = { λ _ _. true };
-
-    ghost holds = { λ _ _ _. true };
-
-    ghost failures = { λ s. s.faults };
-
-    fn names(&mut self, alloc: Global) -> Result<Vec<String>, LoadFault> {
-        let mut names = Vec::new(alloc);
-        for (name, _) in &self.files {
-            names.push(name.clone()?)?;
-        }
-        Ok(names)
-    }
-
-    fn read(&mut self, alloc: Global, name: &str) -> Result<Vec<u8>, LoadFault> {
-        let Some(bytes) = self.files.get(name) else {
-            return Err(self.fail());
-        };
-        Ok(Vec::from_slice(alloc, bytes.as_slice())?)
-    }
-
-    fn failed(&self) -> u64 {
-        self.faults
-    }
-}
+use std::process::Abort;
 
 /// A temporary file in memory.
 struct Piece {
@@ -133,50 +82,27 @@ impl Destination for Kept {
     fn clear(&mut self, _alloc: Global) {}
 }
 
-/// The files of a repository that a script makes.
-struct Made {
-    repo: Repo,
-    targets: Held,
-}
-
-impl Drop for Made {
-    fn drop(self) {
-        let Made { repo, targets } = self;
-    }
-}
-
-/// Makes the repository of the script. The file `b` has other bytes than its target if it is to.
-fn repository_of(alloc: Global, has_wrong_b: bool) -> Result<Made, Fail> {
-    let mut metadata = BTreeMap::new(alloc);
-    let mut files = BTreeMap::new(alloc);
-    for (name, bytes) in make(alloc, PLAIN)? {
-        if let Some(name) = name.as_str().strip_prefix("metadata/") {
-            metadata.insert(String::from_str(alloc, name)?, bytes)?;
-        } else if let Some(name) = name.as_str().strip_prefix("targets/") {
-            files.insert(String::from_str(alloc, name)?, bytes)?;
-        }
-    }
-    if has_wrong_b {
-        let wrong = Vec::from_slice(alloc, b"bc")?;
-        files.insert(String::from_str(alloc, "b")?, wrong)?;
-    }
-    let targets = BTreeMap::new(alloc);
-    Ok(Made {
-        repo: Repo { metadata, targets },
-        targets: Held { files, faults: 0 },
-    })
-}
-
-/// Ends the course of the wanted paths `a`, `b`, `a` and `d`, with copies.
-fn copied(
-    alloc: Global,
-    made: &mut Made,
+/// Ends the course of the wanted paths `a`, `b`, `a` and `d`, with copies. The file `b` has that
+/// text.
+fn copied<R: Abort + AllocGlobal>(
+    rt: &R,
+    b: &str,
     to: &mut Kept,
-) -> Result<Result<Copied<Piece>, Failure>, Fail> {
-    let wanted = wanted(alloc)?;
-    let course = course(alloc, &made.repo, wanted.as_slice())?;
-    let names = made.targets.names(alloc)?;
-    Ok(close_into(alloc, course, &mut made.targets, names, to))
+) -> Result<Copied<Piece>, Failure> {
+    let files = [("a", "a"), ("b", b), ("c", "ccc")];
+    let mut targets = Memory::of(rt.alloc(), &files, u64::MAX).expect(rt, "memory");
+    closed(rt, &mut targets, to)
+}
+
+/// Ends the course with the files of that folder.
+fn closed<R: Abort + AllocGlobal, F: Folder>(
+    rt: &R,
+    targets: &mut F,
+    to: &mut Kept,
+) -> Result<Copied<Piece>, Failure> {
+    let course = course(rt, &made(rt, PLAIN), &wanted(rt));
+    let names = targets.names(rt.alloc()).expect(rt, "names");
+    close_into(rt.alloc(), course, targets, names, to)
 }
 
 /// Returns the bytes of the copy at that place, if there is one.
@@ -192,41 +118,32 @@ const WORKING: Kept = Kept {
 };
 
 #[test]
-fn each_found_file_is_copied_once(rt: HostRuntime) -> Result<(), Fail> {
-    let alloc = rt.alloc();
+fn each_found_file_is_copied_once(rt: HostRuntime) {
     let mut to = WORKING;
-    let copied = copied(alloc, &mut repository_of(alloc, false)?, &mut to)??;
-    let wanted = wanted(alloc)?;
-    let mut lines = Vec::new(alloc);
-    tell(alloc, &copied.outcome, wanted.as_slice(), &mut lines)?;
+    let copied = copied(&rt, "bb", &mut to).expect(&rt, "copies");
+    let mut lines = Vec::new(rt.alloc());
+    tell(rt.alloc(), &copied.outcome, &wanted(&rt), &mut lines).expect(&rt, "memory");
     assert!(rt; lines.as_slice() == LINES.as_bytes());
     assert!(rt; copied.copies.len() == 4);
     assert!(rt; copy_at(&copied, 0) == Some(b"a".as_slice()));
     assert!(rt; copy_at(&copied, 1) == Some(b"bb".as_slice()));
-    assert!(rt; copy_at(&copied, 2).is_none());
-    assert!(rt; copy_at(&copied, 3).is_none());
+    assert!(rt; copy_at(&copied, 2).is_none() && copy_at(&copied, 3).is_none());
     assert!(rt; to.made == 2 && to.removed == 0);
-    Ok(())
 }
 
 #[test]
-fn a_copy_of_other_bytes_is_removed(rt: HostRuntime) -> Result<(), Fail> {
-    let alloc = rt.alloc();
+fn a_copy_of_other_bytes_is_removed(rt: HostRuntime) {
     let mut to = WORKING;
-    let copied = copied(alloc, &mut repository_of(alloc, true)?, &mut to)??;
+    let copied = copied(&rt, "bc", &mut to).expect(&rt, "copies");
     assert!(rt; copy_at(&copied, 0) == Some(b"a".as_slice()));
     assert!(rt; copy_at(&copied, 1).is_none());
     assert!(rt; to.made == 2 && to.removed == 1);
-    Ok(())
 }
 
 #[test]
-fn a_copy_that_cant_be_written_is_an_output_error(rt: HostRuntime) -> Result<(), Fail> {
-    let alloc = rt.alloc();
+fn a_copy_that_cant_be_written_is_an_output_error(rt: HostRuntime) {
     for failing in [Failing::Begin, Failing::Finish] {
         let mut to = Kept { failing, ..WORKING };
-        let done = copied(alloc, &mut repository_of(alloc, false)?, &mut to)?;
-        assert!(rt; matches!(done, Err(Failure::Output)));
+        assert!(rt; matches!(copied(&rt, "bb", &mut to), Err(Failure::Output)));
     }
-    Ok(())
 }

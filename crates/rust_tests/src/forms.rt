@@ -11,7 +11,7 @@ use cjson::text::Text;
 use cjson::{ReadFault, Tree, read_tree};
 use std::alloc::Global;
 use std::marker::Model;
-use std::test::Fail;
+use std::process::Abort;
 
 /// A name with its length, as a reading of an object's member.
 #[derive(Drop)]
@@ -38,9 +38,9 @@ impl FromMember for Named {
 }
 
 /// Reads the members of an object.
-fn members(alloc: Global, json: &str) -> Result<Result<Items<Named>, ReadFault>, Fail> {
-    let value = read_tree(alloc, json.as_bytes())?;
-    Ok(read_members(alloc, &value))
+fn members<R: Abort + AllocGlobal>(rt: &R, json: &str) -> Result<Items<Named>, ReadFault> {
+    let value = read_tree(rt.alloc(), json.as_bytes()).expect(rt, "a tree");
+    read_members(rt.alloc(), &value)
 }
 
 fn is(named: &Named, name: &str, length: u64) -> bool {
@@ -48,20 +48,18 @@ fn is(named: &Named, name: &str, length: u64) -> bool {
 }
 
 #[test]
-fn objects(rt: HostRuntime) -> Result<(), Fail> {
-    let named = members(rt.alloc(), "{\"b\":2,\"a\":1,\"b\":3}")??;
+fn objects(rt: HostRuntime) {
+    let named = members(&rt, "{\"b\":2,\"a\":1,\"b\":3}").expect(&rt, "an object");
     let named = named.as_slice();
     assert_eq!(rt; named.len(), 2);
     assert!(rt; is(&named[0], "a", 1));
     assert!(rt; is(&named[1], "b", 3));
-    Ok(())
 }
 
 #[test]
-fn no_objects(rt: HostRuntime) -> Result<(), Fail> {
+fn no_objects(rt: HostRuntime) {
     for json in ["{\"a\":1,\"b\":-1}", "[1]", "1"] {
-        let fault = members(rt.alloc(), json)?.err();
+        let fault = members(&rt, json).err();
         assert_eq!(rt; fault, Some(ReadFault::Malformed), "{json}");
     }
-    Ok(())
 }

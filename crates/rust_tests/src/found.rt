@@ -4,22 +4,21 @@ ghost use Rattle.std.specs.Prelude.{◌≡◌, ◌≤◌, ◌<◌, ◌⊎◌, �
 ghost use Rattle.folder.specs.Folders.{HasFailed};
 ghost use Rattle.folder.specs.Measures.{IsMeasure};
 
-use cycle::{Course, Cycle, Limits, Repo, Round, Trusted, follow_alone, has_consistent_names};
+use crate::repositories::{first_state, limits_of, made, metadata, moment, string};
+use cycle::{Course, Cycle, Repo, Round, Trusted, follow_alone, has_consistent_names};
 use folder::{Folder, LoadFault, Measure, Need};
 use keys::Direct;
-use maker::make;
 use measured::{Readers, close};
-use moment::Moment;
 use report::tell;
 use rolechain::final_root;
 use std::alloc::{AllocError, Global};
 use std::collections::BTreeMap;
+use std::process::Abort;
 use std::sync::atomic::{AtomicU64, Ordering};
-use std::test::Fail;
 use std::thread::Threads;
 
 /// Three targets by one key: `b` is listed with both digests, and the others with one.
-pub(crate) const PLAIN: &str = "key 1 5 4
+pub const PLAIN: &str = "key 1 5 4
 top root 1 1
 top timestamp 1 1
 top snapshot 1 1
@@ -72,6 +71,25 @@ impl Drop for Counting {
 }
 
 impl Counting {
+    /// Returns a folder of these files, none of which was read.
+    fn of(
+        alloc: Global,
+        files: &BTreeMap<String, Vec<u8>>,
+        is_shared: bool,
+    ) -> Result<Counting, AllocError> {
+        let mut counted = BTreeMap::new(alloc);
+        for (name, bytes) in files {
+            let bytes = bytes.clone()?;
+            let reads = AtomicU64::new(0);
+            counted.insert(name.clone()?, Counted { bytes, reads })?;
+        }
+        Ok(Counting {
+            files: counted,
+            is_shared,
+            faults: 0,
+        })
+    }
+
     /// Returns the number of reads of the file of that name, if it is there.
     fn reads(&self, name: &str) -> Option<u64> {
         Some(self.files.get(name)?.reads.load(Ordering::SeqCst))
@@ -133,110 +151,58 @@ impl Folder for Counting {
     }
 }
 
-/// A repository that a script makes, and its targets' folder, which counts.
-struct Made {
-    repo: Repo,
-    targets: Counting,
+/// Returns the wanted paths: two that are listed, the first of which is wanted twice, and one that
+/// isn't.
+pub fn wanted<R: Abort + AllocGlobal>(rt: &R) -> [String; 4] {
+    [
+        string(rt, "a"),
+        string(rt, "b"),
+        string(rt, "a"),
+        string(rt, "d"),
+    ]
 }
 
-impl Drop for Made {
-    fn drop(self) {
-        let Made { repo, targets } = self;
-    }
-}
-
-impl Made {
-    fn of(alloc: Global, script: &str, is_shared: bool) -> Result<Made, Fail> {
-        let mut made = Made {
-            repo: Repo {
-                metadata: BTreeMap::new(alloc),
-                targets: BTreeMap::new(alloc),
-            },
-            targets: Counting {
-                files: BTreeMap::new(alloc),
-                is_shared,
-                faults: 0,
-            },
-        };
-        for (name, bytes) in make(alloc, script)? {
-            made.insert(alloc, name.as_str(), bytes)?;
-        }
-        Ok(made)
-    }
-
-    /// Adds a file whose name begins with its folder.
-    fn insert(&mut self, alloc: Global, name: &str, bytes: Vec<u8>) -> Result<(), Fail> {
-        if let Some(name) = name.strip_prefix("metadata/") {
-            let name = String::from_str(alloc, name)?;
-            self.repo.metadata.insert(name, bytes)?;
-            return Ok(());
-        }
-        let name = name.strip_prefix("targets/").ok_or("a target")?;
-        let name = String::from_str(alloc, name)?;
-        let reads = AtomicU64::new(0);
-        self.targets.files.insert(name, Counted { bytes, reads })?;
-        Ok(())
+/// Returns the cycle over the repository from the state, for these paths.
+fn cycle_of<'a, R: Abort + AllocGlobal>(
+    rt: &R,
+    trusted: &'a Trusted,
+    repo: &'a Repo,
+    wanted: &'a [String],
+) -> Cycle<'a> {
+    let now = moment(rt);
+    Cycle {
+        alloc: rt.alloc(),
+        trusted,
+        round: Round { repo, now, wanted },
+        limits: limits_of(rt, 0),
     }
 }
 
 /// Runs the cycle up to the searches for these paths.
-pub(crate) fn course(alloc: Global, repo: &Repo, wanted: &[String]) -> Result<Course, Fail> {
-    let trusted = first_state(alloc, repo)?;
-    Ok(follow_alone(&Cycle {
-        alloc,
-        trusted: &trusted,
-        round: Round {
-            repo,
-            now: moment()?,
-            wanted,
-        },
-        limits: Limits::new(32, 0).ok_or("limits")?,
-    })?)
-}
-
-fn first_state(alloc: Global, repo: &Repo) -> Result<Trusted, Fail> {
-    let root = repo.metadata.get("1.root.json").ok_or("a first root")?;
-    Ok(Trusted::from_root(alloc, root.as_slice())?)
-}
-
-fn moment() -> Result<Moment, Fail> {
-    Ok(Moment::read("2026-01-01T00:00:00Z").ok_or("a moment")?)
-}
-
-/// Returns the wanted paths: two that are listed, the first of which is wanted twice, and one that
-/// isn't.
-pub(crate) fn wanted(alloc: Global) -> Result<Vec<String>, AllocError> {
-    let mut paths = Vec::new(alloc);
-    for path in ["a", "b", "a", "d"] {
-        paths.push(String::from_str(alloc, path)?)?;
-    }
-    Ok(paths)
+pub fn course<R: Abort + AllocGlobal>(rt: &R, repo: &Repo, wanted: &[String]) -> Course {
+    let trusted = first_state(rt, repo);
+    follow_alone(&cycle_of(rt, &trusted, repo, wanted)).expect(rt, "memory")
 }
 
 /// Returns the lines of the outcome with those threads and the folder's files.
-fn closed<R: Threads + Sync>(
+fn closed<R: Abort + AllocGlobal + Threads + Sync>(
     rt: &R,
-    alloc: Global,
-    made: &mut Made,
+    repo: &Repo,
+    targets: &mut Counting,
     threads: usize,
-) -> Result<Vec<u8>, Fail> {
-    let wanted = wanted(alloc)?;
-    let course = course(alloc, &made.repo, wanted.as_slice())?;
-    let names = made.targets.names(alloc)?;
-    let outcome = close(
-        &Readers { rt, threads },
-        alloc,
-        course,
-        &mut made.targets,
-        names,
-    )?;
+) -> Vec<u8> {
+    let (alloc, wanted) = (rt.alloc(), wanted(rt));
+    let course = course(rt, repo, &wanted);
+    let names = targets.names(alloc).expect(rt, "names");
+    let readers = Readers { rt, threads };
+    let outcome = close(&readers, alloc, course, targets, names).expect(rt, "an outcome");
     let mut lines = Vec::new(alloc);
-    tell(alloc, &outcome, wanted.as_slice(), &mut lines)?;
-    Ok(lines)
+    tell(alloc, &outcome, &wanted, &mut lines).expect(rt, "memory");
+    lines
 }
 
 /// The lines of that outcome.
-pub(crate) const LINES: &str = "root 1
+pub const LINES: &str = "root 1
 end ready
 ok \"a\" 1 \"targets\"
 ok \"b\" 2 \"targets\"
@@ -245,71 +211,57 @@ no \"d\" NotFound
 ";
 
 /// Returns whether that many threads read the files of these names once, once and never.
-fn are_read_once<R: Threads + Sync>(
+fn are_read_once<R: Abort + AllocGlobal + Threads + Sync>(
     rt: &R,
-    alloc: Global,
     (script, names): (&str, [&str; 3]),
     is_shared: bool,
     threads: usize,
-) -> Result<bool, Fail> {
-    let mut made = Made::of(alloc, script, is_shared)?;
-    let lines = closed(rt, alloc, &mut made, threads)?;
+) -> bool {
+    let repo = made(rt, script);
+    let mut targets = Counting::of(rt.alloc(), &repo.targets, is_shared).expect(rt, "memory");
+    let lines = closed(rt, &repo, &mut targets, threads);
     let [a, b, c] = names;
-    Ok(
-        lines.as_slice() == LINES.as_bytes()
-            && made.targets.reads(a) == Some(1)
-            && made.targets.reads(b) == Some(1)
-            && made.targets.reads(c) == Some(0),
-    )
+    lines.as_slice() == LINES.as_bytes()
+        && targets.reads(a) == Some(1)
+        && targets.reads(b) == Some(1)
+        && targets.reads(c) == Some(0)
 }
 
 #[test]
-fn found_files_are_read_once(rt: HostRuntime) -> Result<(), Fail> {
+fn found_files_are_read_once(rt: HostRuntime) {
     let row = (PLAIN, ["a", "b", "c"]);
     for (is_shared, threads) in [(false, 0), (true, 0), (false, 2), (true, 2)] {
-        let is_once = are_read_once(&rt, rt.alloc(), row, is_shared, threads)?;
-        assert!(rt; is_once, "{threads}");
+        assert!(rt; are_read_once(&rt, row, is_shared, threads), "{threads}");
     }
-    Ok(())
 }
 
 #[test]
-fn found_files_with_consistent_names_are_read_once(rt: HostRuntime) -> Result<(), Fail> {
-    let script = format!(in rt.alloc(); "consistent yes\n{PLAIN}")?;
+fn found_files_with_consistent_names_are_read_once(rt: HostRuntime) {
+    let script = format!(in rt.alloc(); "consistent yes\n{PLAIN}").expect(&rt, "memory");
     let row = (script.as_str(), CONSISTENT);
     for (is_shared, threads) in [(false, 0), (true, 0), (false, 2), (true, 2)] {
-        let is_once = are_read_once(&rt, rt.alloc(), row, is_shared, threads)?;
-        assert!(rt; is_once, "{threads}");
+        assert!(rt; are_read_once(&rt, row, is_shared, threads), "{threads}");
     }
-    Ok(())
+}
+
+/// Returns whether the names are consistent once the cycle from the state has ended.
+fn ends_consistent<R: Abort + AllocGlobal>(
+    rt: &R,
+    trusted: &Trusted,
+    repo: &Repo,
+    wanted: &[String],
+) -> bool {
+    has_consistent_names(&cycle_of(rt, trusted, repo, wanted)).expect(rt, "memory")
 }
 
 #[test]
-fn names_are_consistent_by_the_last_root(rt: HostRuntime) -> Result<(), Fail> {
+fn names_are_consistent_by_the_last_root(rt: HostRuntime) {
     let alloc = rt.alloc();
-    let script = format!(in alloc; "{PLAIN}consistent yes\nwrite root 2 1\n")?;
-    let made = Made::of(alloc, script.as_str(), true)?;
-    let trusted = first_state(alloc, &made.repo)?;
+    let script = format!(in alloc; "{PLAIN}consistent yes\nwrite root 2 1\n");
+    let repo = made(&rt, script.expect(&rt, "memory").as_str());
+    let trusted = first_state(&rt, &repo);
     assert!(rt; !trusted.root().reading().consistent());
-    let wanted = wanted(alloc)?;
-    let round = Round {
-        repo: &made.repo,
-        now: moment()?,
-        wanted: wanted.as_slice(),
-    };
-    let cycle = Cycle {
-        alloc,
-        trusted: &trusted,
-        round,
-        limits: Limits::new(32, 0).ok_or("limits")?,
-    };
-    assert!(rt; has_consistent_names(&cycle)?);
-    let last = final_root(alloc, &trusted, &made.repo, moment()?, &mut Direct)?;
-    let second = made
-        .repo
-        .metadata
-        .get("2.root.json")
-        .ok_or("a second root")?;
-    assert!(rt; last.bytes() == second.as_slice());
-    Ok(())
+    assert!(rt; ends_consistent(&rt, &trusted, &repo, &wanted(&rt)));
+    let last = final_root(alloc, &trusted, &repo, moment(&rt), &mut Direct).expect(&rt, "memory");
+    assert!(rt; last.bytes() == metadata(&rt, &repo, "2.root.json"));
 }

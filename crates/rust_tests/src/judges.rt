@@ -7,15 +7,15 @@ use keys::{Ask, Direct, Judge};
 #[derive(Drop)]
 pub struct Counting {
     /// Number of checks.
-    pub asks: u32,
+    pub checks: u32,
     /// The check that is out of memory, from 1.
     pub refused_at: u32,
 }
 
 impl Judge for Counting {
     fn valid(&mut self, ask: &Ask) -> Result<bool, NoMemory> {
-        self.asks = self.asks.saturating_add(1);
-        if self.asks == self.refused_at {
+        self.checks = self.checks.saturating_add(1);
+        if self.checks == self.refused_at {
             return Err(NoMemory);
         }
         Direct.valid(ask)

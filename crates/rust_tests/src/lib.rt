@@ -22,6 +22,8 @@ mod outputs;
 #[cfg(test)]
 mod progress_lines;
 #[cfg(test)]
+mod repositories;
+#[cfg(test)]
 mod sealing;
 #[cfg(test)]
 mod stored;

@@ -1,9 +1,8 @@
 //! Measures of what a reader returns, a piece at a time.
 
 use folder::{Measure, Need};
-use std::alloc::{AllocError, Global};
 use std::io::{self, ErrorKind, Read};
-use std::test::Fail;
+use std::process::Abort;
 
 /// Lengths, and what `sha256sum` and `sha512sum` print of that many first bytes of the pattern,
 /// which another program wrote.
@@ -69,17 +68,17 @@ impl Read for Pieces {
 }
 
 /// Returns the reader of `count` bytes of the pattern, which goes through 0 to 250 again and again.
-fn reader_of(alloc: Global, count: usize, piece: usize, calls: u64) -> Result<Pieces, AllocError> {
-    let mut bytes = Vec::with_capacity(alloc, count)?;
+fn reader_of<R: Abort + AllocGlobal>(rt: &R, count: usize, piece: usize, calls: u64) -> Pieces {
+    let mut bytes = Vec::with_capacity(rt.alloc(), count).expect(rt, "memory");
     for place in 0..count {
-        bytes.push((place % 251) as u8)?;
+        bytes.push((place % 251) as u8).expect(rt, "memory");
     }
-    Ok(Pieces {
+    Pieces {
         bytes,
         at: 0,
         piece,
         calls,
-    })
+    }
 }
 
 /// Returns the need for both digests of at most `up_to` bytes.
@@ -92,97 +91,93 @@ fn both(up_to: u64) -> Need {
 }
 
 /// Returns whether the measure has this length and both digests, in lower case.
-fn is(
-    alloc: Global,
+fn is<R: Abort + AllocGlobal>(
+    rt: &R,
     measure: &Measure,
     length: usize,
     digests: (&str, &str),
-) -> Result<bool, AllocError> {
+) -> bool {
     let (Some(sha256), Some(sha512)) = (measure.sha256, measure.sha512) else {
-        return Ok(false);
+        return false;
     };
-    let sha256 = hex::encode(alloc, sha256.as_slice())?;
-    let sha512 = hex::encode(alloc, sha512.as_slice())?;
-    Ok(
-        measure.length == length as u64
-            && sha256.as_str() == digests.0
-            && sha512.as_str() == digests.1,
-    )
+    let sha256 = hex::encode(rt.alloc(), sha256.as_slice()).expect(rt, "memory");
+    let sha512 = hex::encode(rt.alloc(), sha512.as_slice()).expect(rt, "memory");
+    measure.length == length as u64 && sha256.as_str() == digests.0 && sha512.as_str() == digests.1
 }
 
 /// Returns whether all lengths are measured right by pieces of that size, if `more` bytes than
 /// there are may be read.
-fn are_right(alloc: Global, piece: usize, more: u64) -> Result<bool, Fail> {
+fn are_right<R: Abort + AllocGlobal>(rt: &R, piece: usize, more: u64) -> bool {
     for (count, sha256, sha512) in DIGESTS {
-        let mut reader = reader_of(alloc, count, piece, u64::MAX)?;
+        let mut reader = reader_of(rt, count, piece, u64::MAX);
         let need = both((count as u64).saturating_add(more));
-        let measure = Measure::of_reader(alloc, need, &mut reader)?;
-        if !is(alloc, &measure, count, (sha256, sha512))? {
-            return Ok(false);
+        let measure = Measure::of_reader(rt.alloc(), need, &mut reader).expect(rt, "a measure");
+        if !is(rt, &measure, count, (sha256, sha512)) {
+            return false;
         }
     }
-    Ok(true)
+    true
 }
 
 #[test]
-fn pieces_of_any_size_are_measured(rt: HostRuntime) -> Result<(), Fail> {
+fn pieces_of_any_size_are_measured(rt: HostRuntime) {
     for piece in [1_000, 32_768, 65_535, 65_536, 65_537, 100_000] {
-        assert!(rt; are_right(rt.alloc(), piece, 0)?, "{piece}");
-        assert!(rt; are_right(rt.alloc(), piece, 1)?, "{piece}");
-        assert!(rt; are_right(rt.alloc(), piece, 100_000)?, "{piece}");
+        for more in [0, 1, 100_000] {
+            assert!(rt; are_right(&rt, piece, more), "{piece} {more}");
+        }
     }
-    Ok(())
 }
 
-/// Returns whether no more than `up_to` bytes of 65,537 are read and measured, as the row of that
-/// number says.
-fn is_cut(alloc: Global, row: usize) -> Result<bool, Fail> {
-    let Some((up_to, sha256, sha512)) = DIGESTS.get(row) else {
-        return Ok(false);
-    };
-    let mut reader = reader_of(alloc, 65_537, 100_000, u64::MAX)?;
-    let measure = Measure::of_reader(alloc, both(*up_to as u64), &mut reader)?;
-    Ok(is(alloc, &measure, *up_to, (sha256, sha512))? && reader.at == *up_to)
+/// Returns whether no more than `up_to` bytes of 65,537 are read and measured.
+fn is_cut<R: Abort + AllocGlobal>(rt: &R, (up_to, sha256, sha512): (usize, &str, &str)) -> bool {
+    let mut reader = reader_of(rt, 65_537, 100_000, u64::MAX);
+    let need = both(up_to as u64);
+    let measure = Measure::of_reader(rt.alloc(), need, &mut reader).expect(rt, "a measure");
+    is(rt, &measure, up_to, (sha256, sha512)) && reader.at == up_to
 }
 
 #[test]
-fn no_more_is_read_than_is_needed(rt: HostRuntime) -> Result<(), Fail> {
-    for row in 0..4 {
-        assert!(rt; is_cut(rt.alloc(), row)?, "{row}");
+fn no_more_is_read_than_is_needed(rt: HostRuntime) {
+    for row in DIGESTS {
+        assert!(rt; is_cut(&rt, row), "{}", row.0);
     }
-    Ok(())
 }
 
 /// Returns the length that is measured of `count` bytes if the first `calls` calls of the reader
 /// succeed, or the kind of its error.
-fn length_after(
-    alloc: Global,
+fn length_after<R: Abort + AllocGlobal>(
+    rt: &R,
     (count, piece, up_to): (usize, usize, u64),
     calls: u64,
-) -> Result<Result<u64, ErrorKind>, Fail> {
-    let mut reader = reader_of(alloc, count, piece, calls)?;
-    Ok(match Measure::of_reader(alloc, both(up_to), &mut reader) {
+) -> Result<u64, ErrorKind> {
+    let mut reader = reader_of(rt, count, piece, calls);
+    match Measure::of_reader(rt.alloc(), both(up_to), &mut reader) {
         Ok(measure) => Ok(measure.length),
         Err(error) => Err(error.kind()),
-    })
+    }
 }
 
 /// Returns whether a measure needs exactly that many calls of the reader, and fails at each of
 /// them.
-fn takes(alloc: Global, row: (usize, usize, u64), calls: u64, length: u64) -> Result<bool, Fail> {
+fn takes<R: Abort + AllocGlobal>(
+    rt: &R,
+    row: (usize, usize, u64),
+    calls: u64,
+    length: u64,
+) -> bool {
     for fewer in 0..calls {
-        if length_after(alloc, row, fewer)? != Err(ErrorKind::ConnectionReset) {
-            return Ok(false);
+        if length_after(rt, row, fewer) != Err(ErrorKind::ConnectionReset) {
+            return false;
         }
     }
-    Ok(length_after(alloc, row, calls)? == Ok(length))
+    length_after(rt, row, calls) == Ok(length)
 }
 
 /// Rows of how many bytes there are, how many the reader returns at once, and how many are read at
 /// most; and then of how many calls that takes, and how many bytes are measured. One more call
 /// finds the end, unless all is read that may be. No more than 65,536 bytes are taken at once.
 #[test]
-fn measures_fail_at_each_read(rt: HostRuntime) -> Result<(), Fail> {
+fn measures_fail_at_each_read(rt: HostRuntime) {
     let rows = [
         ((0, 100_000, 0), 0, 0),
         ((0, 100_000, 1), 1, 0),
@@ -199,24 +194,22 @@ fn measures_fail_at_each_read(rt: HostRuntime) -> Result<(), Fail> {
         ((65_537, 65_535, 65_538), 3, 65_537),
     ];
     for (row, calls, length) in rows {
-        assert!(rt; takes(rt.alloc(), row, calls, length)?, "{calls} {length}");
+        assert!(rt; takes(&rt, row, calls, length), "{calls} {length}");
     }
-    Ok(())
 }
 
 #[test]
-fn only_wanted_digests_are_made(rt: HostRuntime) -> Result<(), Fail> {
+fn only_wanted_digests_are_made(rt: HostRuntime) {
     for (sha256, sha512) in [(false, false), (true, false), (false, true), (true, true)] {
         let need = Need {
             up_to: 2,
             sha256,
             sha512,
         };
-        let mut reader = reader_of(rt.alloc(), 1, 1, 2)?;
-        let measure = Measure::of_reader(rt.alloc(), need, &mut reader)?;
+        let mut reader = reader_of(&rt, 1, 1, 2);
+        let measure = Measure::of_reader(rt.alloc(), need, &mut reader).expect(&rt, "a measure");
         assert_eq!(rt; measure.length, 1);
         assert_eq!(rt; measure.sha256.is_some(), sha256);
         assert_eq!(rt; measure.sha512.is_some(), sha512);
     }
-    Ok(())
 }

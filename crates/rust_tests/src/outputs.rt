@@ -3,7 +3,6 @@
 use failure::{Failure, tell_failure};
 use report::{put, root_line};
 use std::io::{self, ErrorKind, Write};
-use std::test::Fail;
 
 /// A writer whose writes all fail.
 #[derive(Drop)]
@@ -20,21 +19,19 @@ impl Write for Refuses {
 }
 
 #[test]
-fn lines_are_put(rt: HostRuntime) -> Result<(), Fail> {
-    let alloc = rt.alloc();
-    let line = root_line(alloc, u64::MAX)?;
-    let mut out = Vec::new(alloc);
-    put(&mut out, line.as_str())?;
+fn lines_are_put(rt: HostRuntime) {
+    let line = root_line(rt.alloc(), u64::MAX).expect(&rt, "memory");
+    let mut out = Vec::new(rt.alloc());
+    put(&mut out, line.as_str()).expect(&rt, "memory");
     assert_eq!(rt; out.as_slice(), b"root 18446744073709551615\n".as_slice());
     assert_eq!(rt;
         put(&mut Refuses, line.as_str()).err(),
         Some(Failure::Output)
     );
-    Ok(())
 }
 
 #[test]
-fn failures_are_printed(rt: HostRuntime) -> Result<(), Fail> {
+fn failures_are_printed(rt: HostRuntime) {
     let rows = [
         (Failure::Words, 3, "tufcheck: words\n"),
         (Failure::Now, 3, "tufcheck: now\n"),
@@ -48,10 +45,9 @@ fn failures_are_printed(rt: HostRuntime) -> Result<(), Fail> {
     ];
     for (failure, status, line) in rows {
         let mut err = Vec::new(rt.alloc());
-        tell_failure(failure, &mut err)?;
+        tell_failure(failure, &mut err).expect(&rt, "memory");
         assert_eq!(rt; failure.status(), status);
         assert_eq!(rt; err.as_slice(), line.as_bytes());
         assert!(rt; tell_failure(failure, &mut Refuses).is_err());
     }
-    Ok(())
 }

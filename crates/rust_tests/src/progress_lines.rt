@@ -1,12 +1,12 @@
 //! Lines about the progress of a run.
 
+use crate::repositories::string;
 use cycle::{Gate, Watch};
 use folder::{Depth, Disk, Folder, Job, Need};
 use progress::{Counted, Ground, Progress, Watched};
-use std::alloc::{AllocError, Global};
 use std::fs;
+use std::process::Abort;
 use std::sync::atomic::{AtomicU64, Ordering};
-use std::test::Fail;
 
 /// What the clock shows next, and what was done with it and with the lines.
 #[derive(Drop)]
@@ -80,7 +80,7 @@ fn count_all(progress: &Progress<'_, Expecting<'_>>) {
 
 /// The clock goes on by 400 milliseconds, so the third and the sixth count find it late.
 #[test]
-fn a_line_is_printed_once_a_second(rt: HostRuntime) -> Result<(), Fail> {
+fn a_line_is_printed_once_a_second(rt: HostRuntime) {
     let lines = [
         "tufcheck: 2 files read, 1 signatures checked, 0 of 0 bytes digested",
         "tufcheck: 2 files read, 2 signatures checked, 4 of 10 bytes digested",
@@ -94,11 +94,10 @@ fn a_line_is_printed_once_a_second(rt: HostRuntime) -> Result<(), Fail> {
     let progress = Progress::new(&ground, rt.alloc(), true);
     count_all(&progress);
     assert_eq!(rt; seen.counts(), (8, 2, 0));
-    Ok(())
 }
 
 #[test]
-fn no_line_is_printed_unless_wanted(rt: HostRuntime) -> Result<(), Fail> {
+fn no_line_is_printed_unless_wanted(rt: HostRuntime) {
     let seen = Seen::new();
     let ground = Expecting {
         step: 400,
@@ -108,7 +107,6 @@ fn no_line_is_printed_unless_wanted(rt: HostRuntime) -> Result<(), Fail> {
     let progress = Progress::new(&ground, rt.alloc(), false);
     count_all(&progress);
     assert_eq!(rt; seen.counts(), (0, 0, 0));
-    Ok(())
 }
 
 /// Returns the need for the SHA-256 digest of at most `up_to` bytes.
@@ -120,39 +118,42 @@ fn up_to(up_to: u64) -> Need {
     }
 }
 
-fn job(alloc: Global, name: &str, most: u64) -> Result<Job, AllocError> {
-    Ok(Job {
-        name: String::from_str(alloc, name)?,
+fn job<R: Abort + AllocGlobal>(rt: &R, name: &str, most: u64) -> Job {
+    Job {
+        name: string(rt, name),
         need: up_to(most),
-    })
+    }
 }
 
 /// Reads `a` as metadata, and measures it and then both files as targets.
-fn read_all(
-    rt: &HostRuntime,
-    alloc: Global,
+fn read_all<R: Abort + AllocGlobal>(
+    rt: &R,
+    files: &HostRuntime,
     path: &str,
     progress: &Progress<'_, Expecting<'_>>,
-) -> Result<usize, Fail> {
-    let opened = Counted::opened(rt, progress);
-    let mut metadata = Disk::new(&opened, String::from_str(alloc, path)?, Depth::Here);
-    let digested = Counted::digested(rt, progress);
-    let disk = Disk::new(&digested, String::from_str(alloc, path)?, Depth::Below);
+) -> usize {
+    let alloc = rt.alloc();
+    let opened = Counted::opened(files, progress);
+    let mut metadata = Disk::new(&opened, string(rt, path), Depth::Here);
+    let digested = Counted::digested(files, progress);
+    let disk = Disk::new(&digested, string(rt, path), Depth::Below);
     let mut targets = Watched::new(disk, progress);
-    metadata.read(alloc, "a")?;
-    targets.measure(alloc, "a", up_to(4))?;
-    let jobs = vec![in alloc; job(alloc, "a", 4)?, job(alloc, "b", 2)?]?;
-    Ok(targets.measure_many(alloc, jobs).len())
+    metadata.read(alloc, "a").expect(rt, "a file");
+    targets
+        .measure(alloc, "a", up_to(4))
+        .expect(rt, "a measure");
+    let jobs = vec![in alloc; job(rt, "a", 4), job(rt, "b", 2)];
+    targets.measure_many(alloc, jobs.expect(rt, "memory")).len()
 }
 
 /// Four files are opened. Of the targets, 3 of 4 bytes are read, 3 of 4 again, and 2 of 2.
 #[test]
-fn files_of_folders_are_counted(rt: HostRuntime) -> Result<(), Fail> {
+fn files_of_folders_are_counted(rt: HostRuntime) {
     let folder = "files_of_folders_are_counted";
     let _ = fs::remove_dir_all(&rt, folder);
-    fs::create_dir(&rt, folder)?;
-    fs::write(&rt, "files_of_folders_are_counted/a", "abc")?;
-    fs::write(&rt, "files_of_folders_are_counted/b", "more")?;
+    fs::create_dir(&rt, folder).expect(&rt, "a folder");
+    fs::write(&rt, "files_of_folders_are_counted/a", "abc").expect(&rt, "a file");
+    fs::write(&rt, "files_of_folders_are_counted/b", "more").expect(&rt, "a file");
     let lines = ["tufcheck: 4 files read, 1 signatures checked, 8 of 10 bytes digested"];
     let seen = Seen::new();
     let ground = Expecting {
@@ -161,10 +162,10 @@ fn files_of_folders_are_counted(rt: HostRuntime) -> Result<(), Fail> {
         seen: &seen,
     };
     let progress = Progress::new(&ground, rt.alloc(), true);
-    assert_eq!(rt; read_all(&rt, rt.alloc(), folder, &progress)?, 2);
+    assert_eq!(rt; read_all(&rt, &rt, folder, &progress), 2);
     seen.millis.fetch_add(1000, Ordering::SeqCst);
     progress.checked();
     let (_, printed, wrong) = seen.counts();
     assert_eq!(rt; (printed, wrong), (1, 0));
-    Ok(fs::remove_dir_all(&rt, folder)?)
+    fs::remove_dir_all(&rt, folder).expect(&rt, "a folder");
 }

@@ -1,11 +1,10 @@
 //! A count of signers whose judge is out of memory.
 
 use crate::judges::Counting;
-use cjson::{NoMemory, read_tree, signed_bytes};
+use cjson::{NoMemory, Tree, read_tree, signed_bytes};
 use keys::{KeyRing, RoleKeys, enough, key_id};
 use lms::{Height, Secret};
-use std::alloc::Global;
-use std::test::Fail;
+use std::process::Abort;
 
 /// The canonical text of what is signed.
 const SIGNED: &[u8] = b"{\"a\":1,\"b\":[]}";
@@ -24,59 +23,71 @@ impl Drop for Signer {
 }
 
 impl Signer {
-    fn new(alloc: Global, seed: u8) -> Result<Signer, Fail> {
-        let mut secret = Secret::new(alloc, [seed; 16], [seed; 32], Height::H5)?;
-        let public = hex::encode(alloc, *secret.public().bytes())?;
+    fn new<R: Abort + AllocGlobal>(rt: &R, seed: u8) -> Signer {
+        let alloc = rt.alloc();
+        let secret = Secret::new(alloc, [seed; 16], [seed; 32], Height::H5);
+        let mut secret = secret.expect(rt, "memory");
+        let public = hex::encode(alloc, *secret.public().bytes()).expect(rt, "memory");
         let key = format!(in alloc;
             "{{\"scheme\":\"lms-sha256\",\"keytype\":\"lms\",\
 \"keyval\":{{\"public\":\"{public}\"}}}}"
-        )?;
-        let id = key_id(alloc, &read_tree(alloc, key.as_bytes())?)?;
-        let sig = hex::encode(alloc, secret.sign(SIGNED)?)?;
-        let member = format!(in alloc; "\"{id}\":{key}")?;
-        let entry = format!(in alloc; "{{\"sig\":\"{sig}\",\"keyid\":\"{id}\"}}")?;
-        Ok(Signer { id, member, entry })
+        );
+        let key = key.expect(rt, "memory");
+        let id = key_id(alloc, &tree(rt, key.as_str())).expect(rt, "an id");
+        let sig = secret.sign(SIGNED).expect(rt, "a signature");
+        let sig = hex::encode(alloc, sig).expect(rt, "memory");
+        let member = format!(in alloc; "\"{id}\":{key}");
+        let entry = format!(in alloc; "{{\"sig\":\"{sig}\",\"keyid\":\"{id}\"}}");
+        Signer {
+            id,
+            member: member.expect(rt, "memory"),
+            entry: entry.expect(rt, "memory"),
+        }
     }
 }
 
-fn ring(alloc: Global, one: &Signer, two: &Signer) -> Result<KeyRing, Fail> {
-    let json = format!(in alloc; "{{{},{}}}", one.member, two.member)?;
-    let value = read_tree(alloc, json.as_bytes())?;
-    Ok(KeyRing::read(alloc, &value)?.ok_or("a ring")?)
+fn tree<R: Abort + AllocGlobal>(rt: &R, json: &str) -> Tree {
+    read_tree(rt.alloc(), json.as_bytes()).expect(rt, "a tree")
 }
 
-fn role(alloc: Global, one: &Signer, two: &Signer) -> Result<RoleKeys, Fail> {
-    let json = format!(in alloc;
+fn ring<R: Abort + AllocGlobal>(rt: &R, one: &Signer, two: &Signer) -> KeyRing {
+    let json = format!(in rt.alloc(); "{{{},{}}}", one.member, two.member);
+    let value = tree(rt, json.expect(rt, "memory").as_str());
+    let ring = KeyRing::read(rt.alloc(), &value).expect(rt, "memory");
+    ring.expect(rt, "a ring")
+}
+
+fn role<R: Abort + AllocGlobal>(rt: &R, one: &Signer, two: &Signer) -> RoleKeys {
+    let json = format!(in rt.alloc();
         "{{\"keyids\":[\"{}\",\"{}\"],\"threshold\":2}}",
         one.id, two.id
-    )?;
-    let value = read_tree(alloc, json.as_bytes())?;
-    Ok(RoleKeys::read(alloc, &value)?.ok_or("a role")?)
+    );
+    let value = tree(rt, json.expect(rt, "memory").as_str());
+    let role = RoleKeys::read(rt.alloc(), &value).expect(rt, "memory");
+    role.expect(rt, "a role")
 }
 
 /// Returns the result for two valid entries, if the judge is out of memory at one of its checks.
-fn answer(alloc: Global, judge: &mut Counting) -> Result<Result<bool, NoMemory>, Fail> {
-    let one = Signer::new(alloc, 1)?;
-    let two = Signer::new(alloc, 2)?;
+fn result<R: Abort + AllocGlobal>(rt: &R, judge: &mut Counting) -> Result<bool, NoMemory> {
+    let alloc = rt.alloc();
+    let (one, two) = (Signer::new(rt, 1), Signer::new(rt, 2));
     let file = format!(in alloc;
         "{{\"signatures\":[{},{}],\"signed\":{{ \"b\" : [ ], \"a\" : 1 }}}}",
         one.entry, two.entry
-    )?;
-    let doc = signed_bytes(alloc, file.as_bytes())?;
-    let ring = ring(alloc, &one, &two)?;
-    let role = role(alloc, &one, &two)?;
-    Ok(enough(alloc, &doc, "root.json", &ring, &role, judge))
+    );
+    let doc = signed_bytes(alloc, file.expect(rt, "memory").as_bytes()).expect(rt, "a document");
+    let (ring, role) = (ring(rt, &one, &two), role(rt, &one, &two));
+    enough(alloc, &doc, "root.json", &ring, &role, judge)
 }
 
 #[test]
-fn judge_without_memory(rt: HostRuntime) -> Result<(), Fail> {
+fn judge_without_memory(rt: HostRuntime) {
     for (refused_at, wanted) in [(1, Err(NoMemory)), (2, Err(NoMemory)), (3, Ok(true))] {
         let mut judge = Counting {
-            asks: 0,
+            checks: 0,
             refused_at,
         };
-        assert_eq!(rt; answer(rt.alloc(), &mut judge)?, wanted);
-        assert_eq!(rt; judge.asks, if refused_at < 3 { refused_at } else { 2 });
+        assert_eq!(rt; result(&rt, &mut judge), wanted);
+        assert_eq!(rt; judge.checks, if refused_at < 3 { refused_at } else { 2 });
     }
-    Ok(())
 }

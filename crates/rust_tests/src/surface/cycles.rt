@@ -1,6 +1,7 @@
 //! Runs and keepers.
 
-use super::repository::{first_state, moment, repository, wanted};
+use super::repository::{repository, wanted};
+use crate::repositories::{first_state, limits_of, moment};
 use cjson::NoMemory;
 use cycle::{
     Accepted, End, Fault, Keeper, Limits, Open, Outcome, Repo, Round, Stats, Step, Trusted,
@@ -62,10 +63,10 @@ fn limits(rt: HostRuntime) {
 #[test]
 fn runs(rt: HostRuntime) {
     let alloc = rt.alloc();
-    let repo = repository(&rt, alloc);
-    let trusted = first_state(&rt, alloc, &repo);
-    let wanted = wanted(alloc).expect(&rt, "memory");
-    let (now, limits) = (moment(&rt), Limits::new(32, 4096).expect(&rt, "limits"));
+    let repo = repository(&rt);
+    let trusted = first_state(&rt, &repo);
+    let wanted = wanted(&rt);
+    let (now, limits) = (moment(&rt), limits_of(&rt, 4096));
     let alone: Result<Outcome, NoMemory> = run_alone(alloc, &trusted, &repo, now, &wanted, &limits);
     let alone = alone.expect(&rt, "memory");
     assert!(rt; is_good(&alone));
@@ -80,12 +81,12 @@ fn runs(rt: HostRuntime) {
 #[test]
 fn refusals(rt: HostRuntime) {
     let alloc = rt.alloc();
-    let mut repo = repository(&rt, alloc);
-    let trusted = first_state(&rt, alloc, &repo);
-    let wanted = wanted(alloc).expect(&rt, "memory");
+    let mut repo = repository(&rt);
+    let trusted = first_state(&rt, &repo);
+    let wanted = wanted(&rt);
     let _ = repo.targets.remove("x/1");
     let _ = repo.metadata.remove("a.json");
-    let (now, limits) = (moment(&rt), Limits::new(32, 0).expect(&rt, "limits"));
+    let (now, limits) = (moment(&rt), limits_of(&rt, 0));
     let outcome = run_alone(alloc, &trusted, &repo, now, &wanted, &limits).expect(&rt, "memory");
     let [_, second] = outcome.verdicts() else {
         panic!(rt; "two verdicts");
@@ -109,7 +110,7 @@ fn keeps<R: Abort + Threads + Wait + Sync>(
     repo: &Repo,
     wanted: &[String],
 ) -> bool {
-    let (now, limits) = (moment(rt), Limits::new(32, 4096).expect(rt, "limits"));
+    let (now, limits) = (moment(rt), limits_of(rt, 4096));
     let first: Result<Outcome, NoMemory> = keeper.cycle(rt, repo, now, wanted, &limits, 0, &Open);
     let rounds = [Round { repo, now, wanted }, Round { repo, now, wanted }];
     let more: Result<Vec<Outcome>, NoMemory> = keeper.cycles(rt, &rounds, &limits, 2, &Open);
@@ -119,9 +120,9 @@ fn keeps<R: Abort + Threads + Wait + Sync>(
 
 #[test]
 fn keepers(rt: HostRuntime) {
-    let repo = repository(&rt, rt.alloc());
-    let trusted = first_state(&rt, rt.alloc(), &repo);
-    let wanted = wanted(rt.alloc()).expect(&rt, "memory");
+    let repo = repository(&rt);
+    let trusted = first_state(&rt, &repo);
+    let wanted = wanted(&rt);
     let keeper: Result<Keeper, NoMemory> = Keeper::new(rt.alloc(), trusted, 64);
     let mut keeper = keeper.expect(&rt, "memory");
     assert!(rt; keeps(&rt, &mut keeper, &repo, &wanted));

@@ -1,6 +1,7 @@
 //! Metadata files, moments and names.
 
-use super::repository::{first_state, metadata, moment, repository};
+use super::repository::repository;
+use crate::repositories::{first_state, metadata, moment};
 use cjson::{Doc, NoMemory, signed_bytes};
 use cycle::Repo;
 use examine::{Examined, Expect, Expectation, File, Kind, Listed, examine};
@@ -11,48 +12,47 @@ use meta::{
     Targets, Timestamp, read_root, read_snapshot, read_targets, read_timestamp,
 };
 use rolechain::{Trusted, advance};
-use std::alloc::Global;
 use std::process::Abort;
 
 /// Returns the state after a cycle over the repository.
-fn ready_state<R: Abort>(rt: &R, alloc: Global, repo: &Repo) -> Trusted {
-    let first = first_state(rt, alloc, repo);
-    advance(alloc, &first, repo, moment(rt), &mut Direct)
+fn ready_state<R: Abort + AllocGlobal>(rt: &R, repo: &Repo) -> Trusted {
+    let first = first_state(rt, repo);
+    advance(rt.alloc(), &first, repo, moment(rt), &mut Direct)
         .expect(rt, "memory")
         .0
 }
 
 /// Returns the document of a file of the repository.
-fn document<R: Abort>(rt: &R, alloc: Global, repo: &Repo, name: &str) -> Doc {
-    signed_bytes(alloc, metadata(rt, repo, name)).expect(rt, "a document")
+fn document<R: Abort + AllocGlobal>(rt: &R, repo: &Repo, name: &str) -> Doc {
+    signed_bytes(rt.alloc(), metadata(rt, repo, name)).expect(rt, "a document")
 }
 
 #[test]
 fn readings(rt: HostRuntime) {
     let alloc = rt.alloc();
-    let repo = repository(&rt, alloc);
-    let doc = document(&rt, alloc, &repo, "1.root.json");
+    let repo = repository(&rt);
+    let doc = document(&rt, &repo, "1.root.json");
     let root: Result<Root, ReadFault> = read_root(alloc, &doc);
     assert_eq!(rt; root.expect(&rt, "a root").header().version.get(), 1);
     assert_eq!(rt;
         read_timestamp(alloc, &doc).err(),
         Some(ReadFault::Malformed)
     );
-    let doc = document(&rt, alloc, &repo, "timestamp.json");
+    let doc = document(&rt, &repo, "timestamp.json");
     let timestamp: Result<Timestamp, ReadFault> = read_timestamp(alloc, &doc);
     assert_eq!(rt; timestamp.expect(&rt, "memory").header().version.get(), 1);
-    let doc = document(&rt, alloc, &repo, "snapshot.json");
+    let doc = document(&rt, &repo, "snapshot.json");
     let snapshot: Result<Snapshot, ReadFault> = read_snapshot(alloc, &doc);
     assert_eq!(rt; snapshot.expect(&rt, "memory").files().len(), 2);
-    let doc = document(&rt, alloc, &repo, "targets.json");
+    let doc = document(&rt, &repo, "targets.json");
     let targets: Result<Targets, ReadFault> = read_targets(alloc, &doc);
     assert_eq!(rt; targets.expect(&rt, "memory").targets().len(), 1);
 }
 
 #[test]
 fn examinations(rt: HostRuntime) {
-    let repo = repository(&rt, rt.alloc());
-    let state = first_state(&rt, rt.alloc(), &repo);
+    let repo = repository(&rt);
+    let state = first_state(&rt, &repo);
     let root = state.root().reading();
     let expect = Expect {
         kind: Kind::Timestamp { trusted: None },
@@ -91,8 +91,8 @@ fn moments(rt: HostRuntime) {
 
 #[test]
 fn parts_of_a_root(rt: HostRuntime) {
-    let repo = repository(&rt, rt.alloc());
-    let state = ready_state(&rt, rt.alloc(), &repo);
+    let repo = repository(&rt);
+    let state = ready_state(&rt, &repo);
     let part: &Part<Root> = state.root();
     let copy: Result<Part<Root>, NoMemory> = part.copy();
     let is_copied = copy.expect(&rt, "memory").bytes() == part.bytes();
@@ -113,8 +113,8 @@ fn parts_of_a_root(rt: HostRuntime) {
 
 #[test]
 fn listings(rt: HostRuntime) {
-    let repo = repository(&rt, rt.alloc());
-    let state = ready_state(&rt, rt.alloc(), &repo);
+    let repo = repository(&rt);
+    let state = ready_state(&rt, &repo);
     let timestamp: &Part<Timestamp> = state.timestamp().expect(&rt, "a timestamp");
     let listing: &Listing = timestamp.reading().snapshot();
     let versions = (
@@ -141,8 +141,8 @@ fn listings(rt: HostRuntime) {
 
 #[test]
 fn listed_targets(rt: HostRuntime) {
-    let repo = repository(&rt, rt.alloc());
-    let state = ready_state(&rt, rt.alloc(), &repo);
+    let repo = repository(&rt);
+    let state = ready_state(&rt, &repo);
     let targets: &Targets = state.targets().expect(&rt, "targets").reading();
     let all: &[Target] = targets.targets();
     let delegations: Option<&Delegations> = targets.delegations();

@@ -2,23 +2,23 @@
 
 ghost use Rattle.std.specs.Prelude.{◌≤◌};
 
-use super::repository::{first_state, moment, repository};
+use super::repository::repository;
+use crate::repositories::{first_state, moment};
 use cjson::NoMemory;
 use cycle::Repo;
 use deleg::{Accepted, Found, Search, matches, prefix_matches, search};
 use keys::Direct;
 use meta::Fault;
 use rolechain::advance;
-use std::alloc::Global;
 use std::process::Abort;
 
 /// Searches for a path in the repository with a limit of 1 to 256, from the state after a cycle.
-fn searched<R: Abort>(rt: &R, alloc: Global, repo: &Repo, path: &str, limit: usize) -> Search
+fn searched<R: Abort + AllocGlobal>(rt: &R, repo: &Repo, path: &str, limit: usize) -> Search
     requires least { 1 ≤ limit }
     requires most { limit ≤ 256 }
 {
-    let now = moment(rt);
-    let first = first_state(rt, alloc, repo);
+    let (alloc, now) = (rt.alloc(), moment(rt));
+    let first = first_state(rt, repo);
     let (state, _) = advance(alloc, &first, repo, now, &mut Direct).expect(rt, "memory");
     assert!(rt; state.is_ready());
     let found: Result<Search, NoMemory> = search(
@@ -43,9 +43,9 @@ fn paths(rt: HostRuntime) {
 
 #[test]
 fn listed_paths(rt: HostRuntime) {
-    let repo = repository(&rt, rt.alloc());
+    let repo = repository(&rt);
     for (path, wanted) in [("abc.txt", (3, 1)), ("x/1", (1, 2))] {
-        let Search { found, accepted } = searched(&rt, rt.alloc(), &repo, path, 2);
+        let Search { found, accepted } = searched(&rt, &repo, path, 2);
         let Found::Listed {
             role: _,
             target,
@@ -65,13 +65,13 @@ fn listed_paths(rt: HostRuntime) {
 
 #[test]
 fn other_paths(rt: HostRuntime) {
-    let mut repo = repository(&rt, rt.alloc());
-    let found = searched(&rt, rt.alloc(), &repo, "y", 256).found;
+    let mut repo = repository(&rt);
+    let found = searched(&rt, &repo, "y", 256).found;
     assert!(rt; matches!(found, Found::NotFound));
-    let found = searched(&rt, rt.alloc(), &repo, "x/1", 1).found;
+    let found = searched(&rt, &repo, "x/1", 1).found;
     assert!(rt; matches!(found, Found::LimitReached));
     let _ = repo.metadata.remove("a.json");
-    let found = searched(&rt, rt.alloc(), &repo, "x/1", 2).found;
+    let found = searched(&rt, &repo, "x/1", 2).found;
     let Found::RoleRefused { role, fault } = found else {
         panic!(rt; "a role that isn't refused");
     };

@@ -1,6 +1,7 @@
 //! Trusted states and the workflow up to the top-level targets file.
 
-use super::repository::{first_state, metadata, moment, repository};
+use super::repository::repository;
+use crate::repositories::{first_state, metadata, moment};
 use cjson::NoMemory;
 use keys::Direct;
 use meta::Fault;
@@ -8,7 +9,7 @@ use rolechain::{End, StateFault, Step, Trusted, advance};
 
 #[test]
 fn states(rt: HostRuntime) {
-    let repo = repository(&rt, rt.alloc());
+    let repo = repository(&rt);
     let root = metadata(&rt, &repo, "1.root.json");
     let trusted: Result<Trusted, StateFault> = Trusted::from_root(rt.alloc(), root);
     let trusted = trusted.expect(&rt, "memory");
@@ -40,8 +41,8 @@ fn refused_states(rt: HostRuntime) {
 
 #[test]
 fn workflow(rt: HostRuntime) {
-    let mut repo = repository(&rt, rt.alloc());
-    let trusted = first_state(&rt, rt.alloc(), &repo);
+    let mut repo = repository(&rt);
+    let trusted = first_state(&rt, &repo);
     let result: Result<(Trusted, End), NoMemory> = advance(
         rt.alloc(),
         &trusted,

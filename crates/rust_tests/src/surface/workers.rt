@@ -1,6 +1,7 @@
 //! Plans, hands and workers.
 
-use super::repository::{first_state, repository, wanted};
+use super::repository::{repository, wanted};
+use crate::repositories::first_state;
 use board::{Board, Checks, Seat, done, retire};
 use cjson::NoMemory;
 use crew::{Gate, Hand, Open, deal, work};
@@ -22,9 +23,9 @@ fn published<R: Abort, G: Gate>(rt: &R, alloc: Global, plan: &Plan, gate: &G) ->
 /// The signatures of timestamp, snapshot, targets file and role a, and the two targets' digests.
 #[test]
 fn plans_are_worked(rt: HostRuntime) {
-    let repo = repository(&rt, rt.alloc());
-    let trusted = first_state(&rt, rt.alloc(), &repo);
-    let wanted = wanted(rt.alloc()).expect(&rt, "memory");
+    let repo = repository(&rt);
+    let trusted = first_state(&rt, &repo);
+    let wanted = wanted(&rt);
     let plan: Result<Plan, NoMemory> = Plan::of(rt.alloc(), &trusted, &repo, &wanted, 4096);
     let plan = plan.expect(&rt, "memory");
     assert_eq!(rt; plan.count(), 6);
