@@ -2,12 +2,13 @@
 
 ghost use Rattle.std.specs.Prelude.{◌≤◌, IfSome};
 
-use crate::asked::Asked;
 use crate::gates::Schedule;
+use crate::parameters::Parameters;
 use crate::repositories::{Made, read};
-use crate::runs::{MOMENT, ROLES};
+use crate::runs::{limits_of, moment};
+use crate::shell::Shell;
 use anyhow::{Context, Result};
-use cycle::{Keeper, Limits, Moment, Outcome, Round, Stats};
+use cycle::{Keeper, Outcome, Round, Stats};
 use report::tell_cycles;
 use sessions::{Output, Step};
 use std::alloc::Global;
@@ -19,28 +20,19 @@ use std::thread::Threads;
 const MOST_KEPT: usize = 4096;
 
 /// Returns the lines of a keeper's cycles over repositories, and the status of the last one.
-pub fn cycles<T: Threads + Wait + Sync>(
-    files: &HostRuntime,
-    rt: &T,
-    alloc: Global,
-    step: &Step,
-) -> Result<Output> {
-    let gate = Schedule::new(Asked::of_step(step)?.rule);
-    let all = outcomes(files, rt, alloc, step, &gate)?;
-    output(alloc, all.as_slice(), step.words_behind(5))
+pub fn cycles<T: Threads + Wait + Sync>(shell: &Shell<'_, T>, step: &Step) -> Result<Output> {
+    let (all, _) = outcomes(shell, step)?;
+    let mut output = Output::nothing(shell.alloc);
+    let wanted = step.words_behind(5);
+    output.status = tell_cycles(shell.alloc, all.as_slice(), wanted, &mut output.out)?;
+    Ok(output)
 }
 
 /// Returns the counts of each of a keeper's cycles over repositories, and how many waits of the
 /// gate met their limit.
-pub fn kept<T: Threads + Wait + Sync>(
-    files: &HostRuntime,
-    rt: &T,
-    alloc: Global,
-    step: &Step,
-) -> Result<Output> {
-    let gate = Schedule::new(Asked::of_step(step)?.rule);
-    let all = outcomes(files, rt, alloc, step, &gate)?;
-    counted(alloc, all.as_slice(), &gate)
+pub fn kept<T: Threads + Wait + Sync>(shell: &Shell<'_, T>, step: &Step) -> Result<Output> {
+    let (all, gate) = outcomes(shell, step)?;
+    counted(shell.alloc, all.as_slice(), &gate)
 }
 
 /// Reads the repositories of these names, which are separated by commas.
@@ -73,34 +65,28 @@ fn capacity_of(word: &str) -> Option<usize>
 }
 
 /// Runs a keeper's cycles over the repositories that the step names, and returns their outcomes, in
-/// order.
+/// order, and the gate.
 fn outcomes<T: Threads + Wait + Sync>(
-    files: &HostRuntime,
-    rt: &T,
-    alloc: Global,
+    shell: &Shell<'_, T>,
     step: &Step,
-    gate: &Schedule,
-) -> Result<Vec<Outcome>> {
-    let asked = Asked::of_step(step)?;
-    let made = all_read(files, alloc, step.word(0)?)?;
-    let rounds = rounds_of(alloc, made.as_slice(), step.words_behind(5))?;
-    let mut keeper = keeper_of(alloc, made.as_slice(), step.word(4)?)?;
-    all_run(rt, &mut keeper, rounds.as_slice(), asked, gate)
-}
-
-fn all_run<R: Threads + Wait + Sync>(
-    rt: &R,
-    keeper: &mut Keeper,
-    rounds: &[Round],
-    asked: Asked,
-    gate: &Schedule,
-) -> Result<Vec<Outcome>> {
-    let limits = Limits::new(ROLES, asked.most).context("too many questions")?;
-    Ok(keeper.cycles(rt, rounds, &limits, asked.workers, gate)?)
+) -> Result<(Vec<Outcome>, Schedule)> {
+    let parameters = Parameters::of_step(step)?;
+    let (gate, limits) = (Schedule::new(parameters.rule), limits_of(parameters.most)?);
+    let made = all_read(shell.files, shell.alloc, step.word(0)?)?;
+    let rounds = rounds_of(shell.alloc, made.as_slice(), step.words_behind(5))?;
+    let mut keeper = keeper_of(shell.alloc, made.as_slice(), step.word(4)?)?;
+    let all = keeper.cycles(
+        shell.threads,
+        rounds.as_slice(),
+        &limits,
+        parameters.workers,
+        &gate,
+    )?;
+    Ok((all, gate))
 }
 
 fn rounds_of<'a>(alloc: Global, made: &'a [Made], wanted: &'a [String]) -> Result<Vec<Round<'a>>> {
-    let now = Moment::read(MOMENT).context("no moment")?;
+    let now = moment()?;
     let mut rounds = Vec::new(alloc);
     for one in made {
         let repo = &one.repo;
@@ -109,13 +95,8 @@ fn rounds_of<'a>(alloc: Global, made: &'a [Made], wanted: &'a [String]) -> Resul
     Ok(rounds)
 }
 
-fn output(alloc: Global, all: &[Outcome], wanted: &[String]) -> Result<Output> {
-    let mut output = Output::nothing(alloc);
-    output.status = tell_cycles(alloc, all, wanted, &mut output.out)?;
-    Ok(output)
-}
-
-fn counted(alloc: Global, all: &[Outcome], gate: &Schedule) -> Result<Output> {
+/// Returns the counts of each of the outcomes, and how many waits of the gate met their limit.
+pub fn counted(alloc: Global, all: &[Outcome], gate: &Schedule) -> Result<Output> {
     let mut text = String::new(alloc);
     for outcome in all {
         push_counts(&mut text, outcome.stats())?;

@@ -2,15 +2,16 @@
 //! places, and keepers. `trials` runs them.
 #![tactic(auto)]
 
-mod asked;
 mod boards;
 mod gates;
 mod given;
 mod keepers;
+mod parameters;
 mod plans;
 mod repositories;
 mod runs;
 mod session;
+mod shell;
 mod stress;
 mod walks;
 

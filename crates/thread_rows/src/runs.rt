@@ -1,33 +1,22 @@
 //! Cycles with workers, beside cycles on one thread.
 
-use crate::asked::Asked;
 use crate::gates::Schedule;
+use crate::keepers::counted;
+use crate::parameters::Parameters;
 use crate::repositories::{Made, read};
+use crate::shell::Shell;
 use anyhow::{Context, Result};
-use cycle::{Cycle, InMemory, Limits, Moment, Outcome, Round, Stats, follow_alone, run, run_alone};
+use cycle::{Cycle, InMemory, Limits, Moment, Outcome, Round, follow_alone, run, run_alone};
 use report::tell;
 use sessions::{Output, Step};
 use std::alloc::Global;
 use std::sync::Wait;
 use std::thread::Threads;
 
-/// The moment of the verification.
-pub const MOMENT: &str = "2026-01-01T00:00:00Z";
-
-/// Maximum number of roles that a search visits.
-pub const ROLES: usize = 256;
-
 /// Returns the lines and the status of a run with workers.
-pub fn lines<T: Threads + Wait + Sync>(
-    files: &HostRuntime,
-    rt: &T,
-    alloc: Global,
-    step: &Step,
-) -> Result<Output> {
-    let asked = Asked::of_step(step)?;
-    let made = read(files, alloc, step.word(0)?)?;
-    let gate = Schedule::new(asked.rule);
-    lines_of_run(rt, alloc, &made, asked, step.words_behind(4), &gate)
+pub fn lines<T: Threads + Wait + Sync>(shell: &Shell<'_, T>, step: &Step) -> Result<Output> {
+    let (outcome, _) = ran_as(shell, step)?;
+    output(shell.alloc, &outcome, step.words_behind(4))
 }
 
 /// Returns the lines and the status of a cycle on one thread.
@@ -46,100 +35,49 @@ pub fn course(rt: &HostRuntime, alloc: Global, step: &Step) -> Result<Output> {
 }
 
 /// Returns the counts of a run, and how many waits of its gate met their limit.
-pub fn counts<T: Threads + Wait + Sync>(
-    files: &HostRuntime,
-    rt: &T,
-    alloc: Global,
-    step: &Step,
-) -> Result<Output> {
-    let asked = Asked::of_step(step)?;
-    let gate = Schedule::new(asked.rule);
-    let stats = stats_of(files, rt, alloc, step, asked, &gate)?;
-    let text = format!(in alloc;
-        "planned {}, taken over {}, alone {}\nlate {}\n",
-        stats.planned,
-        stats.taken_over,
-        stats.alone,
-        gate.late()
-    )?;
-    Ok(Output::printed(alloc, text))
+pub fn counts<T: Threads + Wait + Sync>(shell: &Shell<'_, T>, step: &Step) -> Result<Output> {
+    let (outcome, gate) = ran_as(shell, step)?;
+    counted(shell.alloc, &[outcome], &gate)
 }
 
 /// Returns how many checks entered, and how many waits of the gate met their limit.
-pub fn entered<T: Threads + Wait + Sync>(
-    files: &HostRuntime,
-    rt: &T,
-    alloc: Global,
-    step: &Step,
-) -> Result<Output> {
-    let asked = Asked::of_step(step)?;
-    let gate = Schedule::new(asked.rule);
-    let _ = stats_of(files, rt, alloc, step, asked, &gate)?;
-    let text = format!(in alloc; "entered {}\nlate {}\n", gate.entered(), gate.late())?;
-    Ok(Output::printed(alloc, text))
-}
-
-fn stats_of<T: Threads + Wait + Sync>(
-    files: &HostRuntime,
-    rt: &T,
-    alloc: Global,
-    step: &Step,
-    asked: Asked,
-    gate: &Schedule,
-) -> Result<Stats> {
-    let made = read(files, alloc, step.word(0)?)?;
-    let outcome = ran(rt, alloc, &made, asked, step.words_behind(4), gate)?;
-    Ok(outcome.stats())
+pub fn entered<T: Threads + Wait + Sync>(shell: &Shell<'_, T>, step: &Step) -> Result<Output> {
+    let (_, gate) = ran_as(shell, step)?;
+    let (entered, late) = (gate.entered(), gate.late());
+    let text = format!(in shell.alloc; "entered {entered}\nlate {late}\n")?;
+    Ok(Output::printed(shell.alloc, text))
 }
 
 /// Returns whether a run with workers prints what a cycle on one thread prints, and how many waits
 /// of its gate met their limit.
-pub fn agrees<T: Threads + Wait + Sync>(
-    files: &HostRuntime,
-    rt: &T,
-    alloc: Global,
-    step: &Step,
-) -> Result<Output> {
-    let asked = Asked::of_step(step)?;
-    let made = read(files, alloc, step.word(0)?)?;
+pub fn agrees<T: Threads + Wait + Sync>(shell: &Shell<'_, T>, step: &Step) -> Result<Output> {
+    let parameters = Parameters::of_step(step)?;
+    let made = read(shell.files, shell.alloc, step.word(0)?)?;
     let wanted = step.words_behind(4);
-    let gate = Schedule::new(asked.rule);
-    let alone = lines_alone(alloc, &made, wanted)?;
-    let is_same = prints_the_same(rt, alloc, &made, asked, wanted, &gate, &alone)?;
+    let alone = lines_alone(shell.alloc, &made, wanted)?;
+    let (is_same, gate) = prints_the_same(shell, &made, wanted, parameters, &alone)?;
     let word = if is_same { "yes" } else { "no" };
-    let text = format!(in alloc; "{word}\nlate {}\n", gate.late())?;
-    Ok(Output::printed(alloc, text))
+    let text = format!(in shell.alloc; "{word}\nlate {}\n", gate.late())?;
+    Ok(Output::printed(shell.alloc, text))
 }
 
-/// Returns whether a run with workers prints this.
-pub fn prints_the_same<R: Threads + Wait + Sync>(
-    rt: &R,
-    alloc: Global,
+/// Returns whether a run with workers prints this, and its gate.
+pub fn prints_the_same<T: Threads + Wait + Sync>(
+    shell: &Shell<'_, T>,
     made: &Made,
-    asked: Asked,
     wanted: &[String],
-    gate: &Schedule,
+    parameters: Parameters,
     alone: &Output,
-) -> Result<bool> {
-    let output = lines_of_run(rt, alloc, made, asked, wanted, gate)?;
-    Ok(output.status == alone.status && output.out == alone.out)
-}
-
-fn lines_of_run<R: Threads + Wait + Sync>(
-    rt: &R,
-    alloc: Global,
-    made: &Made,
-    asked: Asked,
-    wanted: &[String],
-    gate: &Schedule,
-) -> Result<Output> {
-    let outcome = ran(rt, alloc, made, asked, wanted, gate)?;
-    output(alloc, &outcome, wanted)
+) -> Result<(bool, Schedule)> {
+    let (outcome, gate) = ran(shell, made, wanted, parameters)?;
+    let output = output(shell.alloc, &outcome, wanted)?;
+    Ok((output.is(alone), gate))
 }
 
 /// Returns what a cycle on one thread prints.
 pub fn lines_alone(alloc: Global, made: &Made, wanted: &[String]) -> Result<Output> {
-    let outcome = ran_alone(alloc, made, wanted)?;
+    let (trusted, repo) = (&made.trusted, &made.repo);
+    let outcome = run_alone(alloc, trusted, repo, moment()?, wanted, &limits_of(0)?)?;
     output(alloc, &outcome, wanted)
 }
 
@@ -149,46 +87,56 @@ fn output(alloc: Global, outcome: &Outcome, wanted: &[String]) -> Result<Output>
     Ok(output)
 }
 
-fn ran<R: Threads + Wait + Sync>(
-    rt: &R,
-    alloc: Global,
+/// Runs a cycle as the step says, and returns its outcome and its gate.
+fn ran_as<T: Threads + Wait + Sync>(
+    shell: &Shell<'_, T>,
+    step: &Step,
+) -> Result<(Outcome, Schedule)> {
+    let parameters = Parameters::of_step(step)?;
+    let made = read(shell.files, shell.alloc, step.word(0)?)?;
+    ran(shell, &made, step.words_behind(4), parameters)
+}
+
+fn ran<T: Threads + Wait + Sync>(
+    shell: &Shell<'_, T>,
     made: &Made,
-    asked: Asked,
     wanted: &[String],
-    gate: &Schedule,
-) -> Result<Outcome> {
-    let limits = Limits::new(ROLES, asked.most).context("too many questions")?;
-    let now = Moment::read(MOMENT).context("no moment")?;
-    let (trusted, repo) = (&made.trusted, &made.repo);
-    Ok(run(
-        rt,
-        alloc,
-        trusted,
-        repo,
+    parameters: Parameters,
+) -> Result<(Outcome, Schedule)> {
+    let (now, limits) = (moment()?, limits_of(parameters.most)?);
+    let gate = Schedule::new(parameters.rule);
+    let outcome = run(
+        shell.threads,
+        shell.alloc,
+        &made.trusted,
+        &made.repo,
         now,
         wanted,
         &limits,
-        asked.workers,
-        gate,
-    )?)
-}
-
-fn ran_alone(alloc: Global, made: &Made, wanted: &[String]) -> Result<Outcome> {
-    let limits = Limits::new(ROLES, 0).context("too many questions")?;
-    let now = Moment::read(MOMENT).context("no moment")?;
-    let (trusted, repo) = (&made.trusted, &made.repo);
-    Ok(run_alone(alloc, trusted, repo, now, wanted, &limits)?)
+        parameters.workers,
+        &gate,
+    )?;
+    Ok((outcome, gate))
 }
 
 fn followed(alloc: Global, made: &Made, wanted: &[String]) -> Result<Outcome> {
-    let repo = &made.repo;
-    let now = Moment::read(MOMENT).context("no moment")?;
+    let (repo, now) = (&made.repo, moment()?);
     let course = follow_alone(&Cycle {
         alloc,
         trusted: &made.trusted,
         round: Round { repo, now, wanted },
-        limits: Limits::new(ROLES, 0).context("too many questions")?,
+        limits: limits_of(0)?,
     })?;
     let files = &repo.targets;
     Ok(course.close(alloc, &InMemory { alloc, files })?)
+}
+
+/// Returns the moment of a verification.
+pub fn moment() -> Result<Moment> {
+    Moment::read("2026-01-01T00:00:00Z").context("no moment")
+}
+
+/// Returns the limits for a plan of at most this number of checks.
+pub fn limits_of(checks: usize) -> Result<Limits> {
+    Limits::new(256, checks).context("too many questions")
 }

@@ -5,6 +5,7 @@ use crate::keepers::{cycles, kept};
 use crate::plans::plan;
 use crate::repositories::make;
 use crate::runs::{agrees, alone, counts, course, entered, lines};
+use crate::shell::Shell;
 use crate::stress::stress;
 use crate::walks::walk;
 use anyhow::Result;
@@ -21,19 +22,24 @@ pub fn perform<T: Threads + Wait + Sync>(
     alloc: Global,
     step: &Step,
 ) -> Result<Output> {
+    let shell = Shell {
+        files,
+        threads,
+        alloc,
+    };
     match step.name()? {
         "make" => make(files, alloc, step),
         "plan" => plan(files, alloc, step),
         "alone" => alone(files, alloc, step),
         "course" => course(files, alloc, step),
-        "lines" => lines(files, threads, alloc, step),
-        "counts" => counts(files, threads, alloc, step),
-        "entered" => entered(files, threads, alloc, step),
-        "agrees" => agrees(files, threads, alloc, step),
-        "cycles" => cycles(files, threads, alloc, step),
-        "kept" => kept(files, threads, alloc, step),
-        "walk" => walk(files, threads, alloc, step),
-        "stress" => stress(files, threads, alloc, step),
+        "lines" => lines(&shell, step),
+        "counts" => counts(&shell, step),
+        "entered" => entered(&shell, step),
+        "agrees" => agrees(&shell, step),
+        "cycles" => cycles(&shell, step),
+        "kept" => kept(&shell, step),
+        "walk" => walk(&shell, step),
+        "stress" => stress(&shell, step),
         _ => share(threads, alloc, step),
     }
 }

@@ -1,44 +1,38 @@
 //! Many runs under drawn schedules.
 
-use crate::asked::Asked;
-use crate::gates::{Rule, Schedule, mixed};
+use crate::gates::{Rule, mixed};
+use crate::parameters::Parameters;
 use crate::repositories::{Made, read};
 use crate::runs::{lines_alone, prints_the_same};
+use crate::shell::Shell;
 use anyhow::Result;
 use sessions::{Output, Step};
-use std::alloc::Global;
 use std::sync::Wait;
 use std::thread::Threads;
 
 /// Returns how many of a number of runs print something else than a cycle on one thread.
-pub fn stress<T: Threads + Wait + Sync>(
-    files: &HostRuntime,
-    rt: &T,
-    alloc: Global,
-    step: &Step,
-) -> Result<Output> {
+pub fn stress<T: Threads + Wait + Sync>(shell: &Shell<'_, T>, step: &Step) -> Result<Output> {
     let runs = step.word(1)?.parse::<u64>()?;
     let seed = mixed(step.word(2)?.parse::<u64>()?);
-    let made = read(files, alloc, step.word(0)?)?;
-    let differing = differing(rt, alloc, &made, step.words_behind(3), runs, seed)?;
-    let text = format!(in alloc; "{runs} runs, {differing} differ\n")?;
-    Ok(Output::printed(alloc, text))
+    let made = read(shell.files, shell.alloc, step.word(0)?)?;
+    let differing = differing(shell, &made, step.words_behind(3), runs, seed)?;
+    let text = format!(in shell.alloc; "{runs} runs, {differing} differ\n")?;
+    Ok(Output::printed(shell.alloc, text))
 }
 
-fn differing<R: Threads + Wait + Sync>(
-    rt: &R,
-    alloc: Global,
+fn differing<T: Threads + Wait + Sync>(
+    shell: &Shell<'_, T>,
     made: &Made,
     wanted: &[String],
     runs: u64,
     seed: u64,
 ) -> Result<u64> {
-    let alone = lines_alone(alloc, made, wanted)?;
+    let alone = lines_alone(shell.alloc, made, wanted)?;
     let mut differing: u64 = 0;
     for run in 0..runs {
-        let asked = drawn(mixed(seed ^ run));
-        let gate = Schedule::new(asked.rule);
-        if !prints_the_same(rt, alloc, made, asked, wanted, &gate, &alone)? {
+        let parameters = drawn(mixed(seed ^ run));
+        let (is_same, _) = prints_the_same(shell, made, wanted, parameters, &alone)?;
+        if !is_same {
             differing = differing.saturating_add(1);
         }
     }
@@ -47,9 +41,9 @@ fn differing<R: Threads + Wait + Sync>(
 
 /// Returns up to 8 workers with a plan of any length, and a gate at which none of them can wait for
 /// long.
-pub fn drawn(seed: u64) -> Asked {
+pub fn drawn(seed: u64) -> Parameters {
     let draw = mixed(seed);
-    Asked {
+    Parameters {
         workers: (draw % 9) as usize,
         most: if draw & 0x1000 == 0 { 4096 } else { 3 },
         rule: match (draw >> 16) % 4 {

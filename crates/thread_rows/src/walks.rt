@@ -1,13 +1,14 @@
 //! Cycles of a keeper over repositories that a seed draws, beside cycles on one thread.
 
-use crate::asked::Asked;
 use crate::gates::{Schedule, mixed};
 use crate::keepers::{all_read, keeper_of};
+use crate::parameters::Parameters;
 use crate::repositories::Made;
-use crate::runs::{MOMENT, ROLES};
+use crate::runs::{limits_of, moment};
+use crate::shell::Shell;
 use crate::stress::drawn;
 use anyhow::{Context, Result};
-use cycle::{Keeper, Limits, Moment, Outcome, Repo, run_alone};
+use cycle::{Keeper, Outcome, Repo, run_alone};
 use report::tell;
 use sessions::{Output, Step};
 use std::alloc::Global;
@@ -25,39 +26,24 @@ struct Course<'a> {
 
 /// Returns how many of a number of cycles of a keeper print something else than a cycle on one
 /// thread from the state of the cycle before, or lead to another state.
-pub fn walk<T: Threads + Wait + Sync>(
-    files: &HostRuntime,
-    rt: &T,
-    alloc: Global,
-    step: &Step,
-) -> Result<Output> {
+pub fn walk<T: Threads + Wait + Sync>(shell: &Shell<'_, T>, step: &Step) -> Result<Output> {
     let cycles = step.word(1)?.parse::<u64>()?;
     let seed = mixed(step.word(2)?.parse::<u64>()?);
-    let made = all_read(files, alloc, step.word(0)?)?;
+    let made = all_read(shell.files, shell.alloc, step.word(0)?)?;
+    let mut keeper = keeper_of(shell.alloc, made.as_slice(), step.word(3)?)?;
     let course = Course {
         made: made.as_slice(),
         wanted: step.words_behind(4),
         cycles,
         seed,
     };
-    let differing = walked(rt, alloc, course, step.word(3)?)?;
-    let text = format!(in alloc; "{cycles} cycles, {differing} differ\n")?;
-    Ok(Output::printed(alloc, text))
+    let differing = differing(shell, &mut keeper, course)?;
+    let text = format!(in shell.alloc; "{cycles} cycles, {differing} differ\n")?;
+    Ok(Output::printed(shell.alloc, text))
 }
 
-fn walked<R: Threads + Wait + Sync>(
-    rt: &R,
-    alloc: Global,
-    course: Course,
-    capacity: &str,
-) -> Result<u64> {
-    let mut keeper = keeper_of(alloc, course.made, capacity)?;
-    differing(rt, alloc, &mut keeper, course)
-}
-
-fn differing<R: Threads + Wait + Sync>(
-    rt: &R,
-    alloc: Global,
+fn differing<T: Threads + Wait + Sync>(
+    shell: &Shell<'_, T>,
     keeper: &mut Keeper,
     course: Course,
 ) -> Result<u64> {
@@ -65,7 +51,7 @@ fn differing<R: Threads + Wait + Sync>(
     for cycle in 0..course.cycles {
         let draw = mixed(course.seed ^ cycle);
         let repo = repo_of(course.made, draw)?;
-        if !agrees(rt, alloc, keeper, repo, course.wanted, drawn(draw))? {
+        if !agrees(shell, keeper, repo, course.wanted, drawn(draw))? {
             differing = differing.saturating_add(1);
         }
     }
@@ -83,42 +69,19 @@ fn repo_of(made: &[Made], draw: u64) -> Result<&Repo> {
 
 /// Returns whether the next cycle of the keeper prints what one on one thread prints from the
 /// keeper's state, and leads to its state.
-fn agrees<R: Threads + Wait + Sync>(
-    rt: &R,
-    alloc: Global,
+fn agrees<T: Threads + Wait + Sync>(
+    shell: &Shell<'_, T>,
     keeper: &mut Keeper,
     repo: &Repo,
     wanted: &[String],
-    asked: Asked,
+    parameters: Parameters,
 ) -> Result<bool> {
-    let alone = alone(alloc, keeper, repo, wanted)?;
-    let kept = kept(rt, alloc, keeper, repo, wanted, asked)?;
-    Ok(alone == kept)
-}
-
-/// Returns what a cycle on one thread prints from the keeper's state, and the state that it leads
-/// to.
-fn alone(alloc: Global, keeper: &Keeper, repo: &Repo, wanted: &[String]) -> Result<Vec<u8>> {
-    let limits = Limits::new(ROLES, 0).context("too many questions")?;
-    let now = Moment::read(MOMENT).context("no moment")?;
-    let outcome = run_alone(alloc, keeper.trusted(), repo, now, wanted, &limits)?;
-    all_of(alloc, &outcome, wanted)
-}
-
-/// Returns what the keeper's next cycle prints, and the state that it leads to.
-fn kept<R: Threads + Wait + Sync>(
-    rt: &R,
-    alloc: Global,
-    keeper: &mut Keeper,
-    repo: &Repo,
-    wanted: &[String],
-    asked: Asked,
-) -> Result<Vec<u8>> {
-    let limits = Limits::new(ROLES, asked.most).context("too many questions")?;
-    let now = Moment::read(MOMENT).context("no moment")?;
-    let gate = Schedule::new(asked.rule);
-    let outcome = keeper.cycle(rt, repo, now, wanted, &limits, asked.workers, &gate)?;
-    all_of(alloc, &outcome, wanted)
+    let (now, limits) = (moment()?, limits_of(parameters.most)?);
+    let (rt, alloc) = (shell.threads, shell.alloc);
+    let alone = run_alone(alloc, keeper.trusted(), repo, now, wanted, &limits)?;
+    let gate = Schedule::new(parameters.rule);
+    let kept = keeper.cycle(rt, repo, now, wanted, &limits, parameters.workers, &gate)?;
+    Ok(all_of(alloc, &alone, wanted)? == all_of(alloc, &kept, wanted)?)
 }
 
 /// Returns the text of the outcome's state, followed by its lines. The status is a function of
