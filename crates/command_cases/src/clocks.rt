@@ -9,7 +9,7 @@ use cycle::{Moment, Open, Threading, Trusted};
 use failure::{Failure, tell_failure};
 use folder::{Depth, Disk, Folder, LoadFault};
 use sessions::{Output, Step};
-use std::alloc::{AllocError, Global};
+use std::alloc::Global;
 use std::rt::{Clock, Files};
 use std::sync::Wait;
 use std::thread::Threads;
@@ -24,14 +24,6 @@ struct Stopped<'a, R> {
     rt: &'a R,
     time: Option<Duration>,
 }
-
-impl<'a, R> Clone for Stopped<'a, R> {
-    fn clone(&self) -> Result<Stopped<'a, R>, AllocError> {
-        Ok(*self)
-    }
-}
-
-impl<'a, R> Copy for Stopped<'a, R> {}
 
 impl<'a, R> Clock for Stopped<'a, R> {
     fn monotonic(&self) -> io::Result<Duration> {

@@ -2,7 +2,6 @@
 
 use crate::shell::Shell;
 use anyhow::Result;
-use command::command;
 use sessions::{Output, Step};
 use std::io::{self, ErrorKind, Write};
 use std::sync::Wait;
@@ -30,23 +29,20 @@ impl Write for Narrow {
     }
 }
 
+/// Returns the writer of the number of bytes that is the step's first word.
+fn writer_of(step: &Step) -> Result<Narrow> {
+    let room = step.word(0)?.parse::<usize>()?;
+    Ok(Narrow { room })
+}
+
 /// Runs the command line with a standard output that takes a number of bytes.
 pub fn with_narrow_output<T: Threads + Wait + Sync>(
     shell: &Shell<'_, T>,
     step: &Step,
 ) -> Result<Output> {
-    let mut out = Narrow {
-        room: step.word(0)?.parse::<usize>()?,
-    };
+    let mut out = writer_of(step)?;
     let mut output = Output::nothing(shell.alloc);
-    output.status = command(
-        shell.rt,
-        shell.threads,
-        shell.alloc,
-        step.words_behind(1),
-        &mut out,
-        &mut output.err,
-    );
+    output.status = shell.status(step.words_behind(1), &mut out, &mut output.err);
     Ok(output)
 }
 
@@ -55,17 +51,8 @@ pub fn with_narrow_error<T: Threads + Wait + Sync>(
     shell: &Shell<'_, T>,
     step: &Step,
 ) -> Result<Output> {
-    let mut err = Narrow {
-        room: step.word(0)?.parse::<usize>()?,
-    };
+    let mut err = writer_of(step)?;
     let mut output = Output::nothing(shell.alloc);
-    output.status = command(
-        shell.rt,
-        shell.threads,
-        shell.alloc,
-        step.words_behind(1),
-        &mut output.out,
-        &mut err,
-    );
+    output.status = shell.status(step.words_behind(1), &mut output.out, &mut err);
     Ok(output)
 }

@@ -3,8 +3,9 @@
 use anyhow::Result;
 use command::command;
 use sessions::{Output, Step, script_of, words_of};
-use std::alloc::{AllocError, Global};
+use std::alloc::Global;
 use std::fs;
+use std::io::Write;
 use std::sync::Wait;
 use std::thread::Threads;
 
@@ -19,14 +20,6 @@ pub struct Shell<'a, T> {
     pub alloc: Global,
 }
 
-impl<'a, T> Clone for Shell<'a, T> {
-    fn clone(&self) -> Result<Shell<'a, T>, AllocError> {
-        Ok(*self)
-    }
-}
-
-impl<'a, T> Copy for Shell<'a, T> {}
-
 impl<'a, T: Threads + Wait + Sync> Shell<'a, T> {
     pub fn new(rt: &'a HostRuntime, threads: &'a T, alloc: Global) -> Shell<'a, T> {
         Shell { rt, threads, alloc }
@@ -35,15 +28,13 @@ impl<'a, T: Threads + Wait + Sync> Shell<'a, T> {
     /// Runs the command line with these arguments.
     pub fn run(&self, words: &[String]) -> Result<Output> {
         let mut output = Output::nothing(self.alloc);
-        output.status = command(
-            self.rt,
-            self.threads,
-            self.alloc,
-            words,
-            &mut output.out,
-            &mut output.err,
-        );
+        output.status = self.status(words, &mut output.out, &mut output.err);
         Ok(output)
+    }
+
+    /// Runs the command line with these arguments and outputs, and returns its status.
+    pub fn status<O: Write, E: Write>(&self, words: &[String], out: &mut O, err: &mut E) -> u8 {
+        command(self.rt, self.threads, self.alloc, words, out, err)
     }
 
     /// Runs the command line with the words of a line as arguments.
