@@ -95,7 +95,7 @@ impl<'a, R: Files> Below<'a, R> {
             None => path,
         };
         match &self.own {
-            Some(own) => first == own.name.as_str(),
+            Some(folder) => first == folder.name.as_str(),
             None => false,
         }
     }
@@ -110,12 +110,12 @@ impl<'a, R: Files> Destination for Below<'a, R> {
         if self.own.is_none() {
             self.make_own(alloc)?;
         }
-        let Some(own) = &self.own else {
+        let Some(folder) = &self.own else {
             return Err(io::Error::from(ErrorKind::NotFound));
         };
         self.count = self.count.saturating_add(1);
         let number = format!(in alloc; "{}", self.count)?;
-        let path = path_below(alloc, own.path.as_str(), number.as_str())?;
+        let path = path_below(alloc, folder.path.as_str(), number.as_str())?;
         let mut options = OpenOptions::new();
         options.write(true).create_new(true);
         let file = options.open(self.rt, path.as_str())?;
@@ -148,8 +148,8 @@ impl<'a, R: Files> Destination for Below<'a, R> {
     }
 
     fn clear(&mut self, alloc: Global) {
-        if let Some(own) = self.own.take() {
-            let _ = self.rt.remove_dir_all(alloc, own.path.as_str());
+        if let Some(folder) = self.own.take() {
+            let _ = self.rt.remove_dir_all(alloc, folder.path.as_str());
         }
     }
 }

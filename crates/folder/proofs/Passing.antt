@@ -1,7 +1,7 @@
 -- Bytes that are passed on, a piece at a time, while they are measured.
-use Rattle.std.proofs.Common.{◌≡◌, ◌≤◌, ◌+◌, ◌-◌, ℕ, min, Bool, true, List, [], ◌++◌, length, take, None, refl, sym, ◌∙◌, ap, subst, append_assoc, append-nil, arith, length-append}
+use Rattle.std.proofs.Common.{◌≡◌, ◌≤◌, ◌+◌, ◌-◌, ℕ, min, Bool, true, List, [], ◌++◌, length, None, refl, sym, ◌∙◌, ap, subst, append_assoc, append-nil, arith, length-append}
 use Rattle.std.proofs.lemmas.List.{take_all}
-use Rattle.folder.specs.Measures.{HasTaken, TakesMore, measure_of}
+use Rattle.folder.specs.Measures.{HasTaken, measure_of}
 use Rattle.folder.specs.Passing.{IsPassedOn, IsTaken, PassesOn}
 use Rattle.folder.specs.declared.measure.Measure.{Measure}
 use Rattle.folder.specs.declared.measure.Measuring.{Measuring}

@@ -9,7 +9,7 @@ use Rattle.sha2.specs.Sha256.{digest_bytes, hash_after, initial_hash_256, padded
 use Rattle.sha2.specs.Sha512.{sha512}
 use Rattle.lanes.specs.Pending.{IsAfter, Reaches}
 use Rattle.lanes.specs.declared.pending.Pending.{Pending}
-use Rattle.folder.specs.Streams.{IsMeasureIn, IsOpened, IsStream, message}
+use Rattle.folder.specs.Streams.{IsDrained, IsMeasureIn, IsOpened, IsStream, message}
 use Rattle.folder.specs.declared.measure.Need.{Need}
 use Rattle.folder.specs.declared.stream.Stream.{Stream}
 use Rattle.folder.proofs.Taking.{joined, kept, known_of, starts, whole}
@@ -79,10 +79,13 @@ begun had has p s none going_on has256 has512 left is = record {
 -- ---- more of a file
 
 module _ {F : Type 0} (had has now : Option (List ℕ)) (hash : List ℕ) (p q : Pending) (s t : Stream F) (bytes : List ℕ) (n : ℕ) where
-  pub more_read : IsStream had has hash p s → p.left ≡ 0 → s.ended ≡ false → Consumes has now (take n bytes) → n ≤ length bytes → n ≤ s.need.up_to - s.length
+  pub more_read : IsDrained false had has hash p s → Consumes has now (take n bytes) → n ≤ length bytes → n ≤ s.need.up_to - s.length
       → t.need ≡ s.need → t.length ≡ s.length + n → t.ended ≡ false → n % 64 ≡ 0
       → ((m : List ℕ) → length m % 64 ≡ 0 → IsAfter hash m → Reaches hash q (m ++ take n bytes)) → IsStream had now hash q t
-  more_read was left going_on consumes le most need counted still blocks reach =
+  more_read drained consumes le most need counted still blocks reach =
+      let was = drained.stream in
+      let left = drained.left in
+      let going_on = drained.is_ended in
       let piece : List ℕ = take n bytes in
       let size : length piece ≡ n = length-take-le n bytes le in
       let all : length (was.taken ++ piece) ≡ length was.taken + length piece = length-append was.taken piece in
@@ -100,10 +103,13 @@ module _ {F : Type 0} (had has now : Option (List ℕ)) (hash : List ℕ) (p q :
         reaches = subst (Reaches hash q) (sym (going t (was.taken ++ piece) still)) (reach was.taken (was.whole going_on) after);
       }
 
-  pub end_read : IsStream had has hash p s → p.left ≡ 0 → s.ended ≡ false → Consumes has now (take n bytes) → n ≤ length bytes → n ≤ s.need.up_to - s.length
+  pub end_read : IsDrained false had has hash p s → Consumes has now (take n bytes) → n ≤ length bytes → n ≤ s.need.up_to - s.length
       → t.need ≡ s.need → t.length ≡ s.length + n → t.ended ≡ true → (s.need.up_to ≤ s.length + n) ⊎ IsAtEnd now
       → ((m : List ℕ) → length m % 64 ≡ 0 → length m + n ≡ t.length → IsAfter hash m → Reaches hash q (padded_message (m ++ take n bytes))) → IsStream had now hash q t
-  end_read was left going_on consumes le most need counted ended done reach =
+  end_read drained consumes le most need counted ended done reach =
+      let was = drained.stream in
+      let left = drained.left in
+      let going_on = drained.is_ended in
       let piece : List ℕ = take n bytes in
       let size : length piece ≡ n = length-take-le n bytes le in
       let all : length (was.taken ++ piece) ≡ length was.taken + length piece = length-append was.taken piece in
@@ -137,9 +143,12 @@ digest_of : (hash m digest : List ℕ) → IsAfter hash (padded_message m) → d
 unfolding sha256
 digest_of hash m digest after is = is ∙ ap (λ h. digest_bytes h 8) after
 
-pub measured : {F : Type 0} (had has : Option (List ℕ)) (hash digest : List ℕ) (p : Pending) (s : Stream F) → p.left ≡ 0 → s.ended ≡ true → digest ≡ digest_bytes hash 8
-    → IsStream had has hash p s → IsMeasureIn had s.need (record { length = s.length; sha256 = Some digest; sha512 = None })
-measured had has hash digest p s left over_now is it =
+pub measured : {F : Type 0} (had has : Option (List ℕ)) (hash digest : List ℕ) (p : Pending) (s : Stream F) → IsDrained true had has hash p s
+    → digest ≡ digest_bytes hash 8 → IsMeasureIn had s.need (record { length = s.length; sha256 = Some digest; sha512 = None })
+measured had has hash digest p s drained is =
+    let it = drained.stream in
+    let left = drained.left in
+    let over_now = drained.is_ended in
     let u = s.need.up_to in
     let all : take u it.taken ≡ it.taken = take_all u it.taken it.few in
     let after = all_taken hash p _ left (subst (Reaches hash p) (over s it.taken over_now) it.reaches) in

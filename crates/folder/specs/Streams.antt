@@ -1,5 +1,5 @@
 -- Files that are measured side by side.
-use Rattle.std.specs.Prelude.{ℕ, ◌≡◌, ◌≤◌, ◌<◌, ◌%◌, ◌⊎◌, true, false, if◌then◌else◌, Option, Some, IfSome, List, length, slice_index_or, All, string_bytes}
+use Rattle.std.specs.Prelude.{ℕ, Bool, ◌≡◌, ◌≤◌, ◌<◌, ◌%◌, ◌⊎◌, true, false, if◌then◌else◌, Option, Some, IfSome, List, length, slice_index_or, All, string_bytes}
 use Rattle.std.specs.Io.KnownBytes.{Consumes, IsAtEnd}
 use Rattle.sha2.specs.Sha256.{padded_message}
 use Rattle.lanes.specs.Lanes.{lane}
@@ -39,6 +39,13 @@ module _ {F : Type 0} where
     pub whole : s.ended ≡ false → length taken % 64 ≡ 0
     pub end : s.ended ≡ true → (s.need.up_to ≤ length taken) ⊎ IsAtEnd has
     pub reaches : Reaches hash p (message s taken)
+
+  -- such a file whose lane has no blocks left, and that has ended or not
+  pub record IsDrained (ended : Bool) (had has : Option (List ℕ)) (hash : List ℕ) (p : Pending)
+      (s : Stream F) : Type 0 where
+    pub left : p.left ≡ 0
+    pub is_ended : s.ended ≡ ended
+    pub stream : IsStream had has hash p s
 
 -- measures of files whose bytes are known for some names
 abbrev pub AreMeasured : (List ℕ → Option (List ℕ)) → List Done → Type 0

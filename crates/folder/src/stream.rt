@@ -6,7 +6,7 @@ ghost use Rattle.std.specs.Prelude.{IfOk, IfSome, OnOk, length, min, string_byte
 ghost use Rattle.std.specs.Io.KnownBytes.{Consumes, IsAtEnd};
 ghost use Rattle.sha2.specs.Sha256.{digest_bytes, initial_hash_256};
 ghost use Rattle.lanes.specs.Pending.{IsPending};
-ghost use Rattle.folder.specs.Streams.{IsMeasureIn, IsOpened, IsStream};
+ghost use Rattle.folder.specs.Streams.{IsDrained, IsMeasureIn, IsOpened, IsStream};
 
 use crate::job::{Done, Job};
 use crate::measure::{Measure, Need};
@@ -81,8 +81,7 @@ impl<F: Read + Drop> Stream<F> {
         ensures room { IsPending room.new }
         ensures name { self.new.name ≡ self.old.name }
         ensures stream { OnOk result ((had : Option (List ℕ)) (hash : List ℕ)
-            → room.old.left ≡ 0 → self.old.ended ≡ false
-            → IsStream had (F.remaining self.old.file) hash room.old self.old
+            → IsDrained false had (F.remaining self.old.file) hash room.old self.old
             → IsStream had (F.remaining self.new.file) hash room.new self.new) }
     {
         let most = self.most(PIECE);
@@ -101,8 +100,8 @@ impl<F: Read + Drop> Stream<F> {
     pub fn done(self, digest: [u8; 32]) -> Done
         ensures name { result.name ≡ self.name }
         ensures measure { (had : Option (List ℕ)) (hash : List ℕ) (p : Pending)
-            → p.left ≡ 0 → self.ended ≡ true → digest ≡ digest_bytes hash 8
-            → IsStream had (F.remaining self.file) hash p self
+            → IsDrained true had (F.remaining self.file) hash p self
+            → digest ≡ digest_bytes hash 8
             → IsMeasureIn had result.need result.measure }
     {
         Done {

@@ -1,6 +1,6 @@
 //! Files that are measured side by side, each in a lane.
 
-ghost use Rattle.std.specs.Prelude.{◌≡◌, ◌≢◌, ◌≤◌, ◌<◌, ℕ, List, Option, false, IfOk, IfSome, All};
+ghost use Rattle.std.specs.Prelude.{◌≡◌, ◌≢◌, ◌≤◌, ◌<◌, ℕ, List, Option, Some, false, IfOk, IfSome, All};
 ghost use Rattle.std.specs.Prelude.{length, string_bytes};
 ghost use Rattle.sha2.specs.Sha256.{initial_hash_256};
 ghost use Rattle.lanes.specs.Lanes.{IsRow, lane};
@@ -207,12 +207,10 @@ fn more_of<F: Read + Drop, const N: usize>(
     requires room { IsPending room.old }
     ensures room { IsPending room.new }
     ensures stream { (content : List ℕ → Option (List ℕ))
-        → IsStream (content (string_bytes stream.name)) (F.remaining stream.file)
-        (lane l state.now) room.old stream
+        → IsInLane content F.remaining (lane l state.now) room.old (Some stream)
         → IsInLane content F.remaining (lane l state.now) room.new result }
     ensures done { (content : List ℕ → Option (List ℕ))
-        → IsStream (content (string_bytes stream.name)) (F.remaining stream.file)
-        (lane l state.now) room.old stream
+        → IsInLane content F.remaining (lane l state.now) room.old (Some stream)
         → AreMeasured content work.old.done.items → AreMeasured content work.new.done.items }
 {
     if room.left > 0 {

@@ -2,12 +2,11 @@
 use Rattle.std.proofs.Common.{◌≡◌, ℕ, zero, suc, ◌+◌, ◌-◌, ◌*◌, ◌/◌, ◌%◌, ◌^◌, ◌<◌, ◌≤◌, List, [], ◌∷◌, ◌++◌, length, take, drop, replicate, slice_index, append_assoc, length-append, refl, sym, ap, ◌∙◌, subst, arith, add-zero}
 use Rattle.std.proofs.Math.Nat.{add-suc}
 use Rattle.std.proofs.Math.Seq.{drop-append_seam, drop-drop, take-append_seam}
-use Rattle.std.proofs.lemmas.List.{append-nil, length-take-le, take-append-drop}
+use Rattle.std.proofs.lemmas.List.{length-take-le, take-append-drop}
 use Rattle.std.proofs.lemmas.Simd.{get_or-chunk, length-replicate}
 use Rattle.std.specs.Int.{w32, w64, from_be_bytes, to_be_bytes}
 use Rattle.sha2.specs.Sha256.{compress, hash_after, initial_hash_256, padded_message, padding, word_at}
 use Rattle.sha2.proofs.Absorbing256.{hash_after-append, hash_after_next}
-use Rattle.lanes.specs.Lanes.{IsBlock}
 use Rattle.lanes.specs.Pending.{IsAfter, Reaches}
 use Rattle.lanes.specs.declared.pending.Pending.{Pending}
 

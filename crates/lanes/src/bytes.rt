@@ -2,8 +2,8 @@
 
 ghost use Rattle.std.specs.Prelude.{◌≡◌, ◌≢◌, ℕ, ◌<◌, ◌≤◌, ◌+◌, ◌*◌, [], length};
 ghost use Rattle.std.specs.Prelude.{slice_index, slice_index_or};
-ghost use Rattle.sha2.specs.Sha256.{digest_bytes, word_at};
-ghost use Rattle.lanes.specs.Lanes.{IsDigest, IsPrefix, IsRow, lane};
+ghost use Rattle.sha2.specs.Sha256.{word_at};
+ghost use Rattle.lanes.specs.Lanes.{IsDigest, IsPrefix, IsRow, digest_in, lane};
 
 use crate::arrays::{eight, four, six, three};
 use std::simd::prelude::*;
@@ -71,7 +71,7 @@ fn prefix_column<const N: usize>(texts: &[[u8; 22]; N], k: usize) -> Simd<u32, N
 pub fn digest_words<const N: usize>(digests: &[[u8; 32]; N]) -> [Simd<u32, N>; 8]
     ensures row { IsRow N 8 result }
     ensures lanes { (i : ℕ) → i < N
-        → digest_bytes (lane i result) 8 ≡ slice_index_or digests.now i [] }
+        → digest_in i result ≡ slice_index_or digests.now i [] }
 {
     eight(
         four(
@@ -114,7 +114,7 @@ pub fn prefix_words<const N: usize>(texts: &[[u8; 22]; N]) -> [Simd<u32, N>; 6]
 pub fn digest<const N: usize>(words: &[Simd<u32, N>; 8], i: usize) -> [u8; 32]
     requires row { IsRow N 8 words.now }
     requires lane { i < N }
-    ensures value { result ≡ digest_bytes (lane i words.now) 8 }
+    ensures value { result ≡ digest_in i words.now }
 {
     let mut out = [0u8; 32];
     'words: for k in 0..8 {
@@ -142,7 +142,7 @@ pub fn put_digest<const N: usize>(words: &mut [Simd<u32, N>; 8], i: usize, diges
     requires row { IsRow N 8 words.old }
     requires lane { i < N }
     ensures row { IsRow N 8 words.new }
-    ensures lane { digest_bytes (lane i words.new) 8 ≡ digest.now }
+    ensures lane { digest_in i words.new ≡ digest.now }
     ensures others { (j : ℕ) → j ≢ i → lane j words.new ≡ lane j words.old }
 {
     'words: for k in 0..8 {

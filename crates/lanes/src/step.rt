@@ -3,8 +3,8 @@
 ghost use Rattle.std.specs.Prelude.{◌≡◌, ℕ, ◌<◌, ◌≤◌, ◌+◌, ◌*◌, ◌%◌, ◌^◌, List, ◌∷◌, ◌++◌, length};
 ghost use Rattle.std.specs.Prelude.{slice_index};
 ghost use Rattle.std.specs.Int.{w32, to_be_bytes};
-ghost use Rattle.sha2.specs.Sha256.{digest_bytes, initial_hash_256, padded_message, sha256};
-ghost use Rattle.lanes.specs.Lanes.{IsAt, IsBlock, IsPrefix, IsRow, joined, lane};
+ghost use Rattle.sha2.specs.Sha256.{initial_hash_256, padded_message, sha256};
+ghost use Rattle.lanes.specs.Lanes.{IsAt, IsBlock, IsPrefix, IsRow, digest_in, joined, lane};
 
 use crate::arrays::{eight, four, sixteen};
 use crate::block::compress;
@@ -33,10 +33,9 @@ fn counter_word<const N: usize>(
     low: Simd<u32, N>,
 ) -> Simd<u32, N>
     ensures size { length result ≡ N }
-    ensures lanes { (i : ℕ) → i < N → slice_index end.entry i % 2 ^ 16 ≡ 0
-        → slice_index j.entry i < 256
-        → IsAt N i result (slice_index end.entry i + slice_index j.entry i * 256
-        + slice_index (to_be_bytes w32 (slice_index low.entry i)) 0) }
+    ensures lanes { (i : ℕ) → i < N → let e = slice_index end.entry i in
+        let n = slice_index j.entry i in e % 2 ^ 16 ≡ 0 → n < 256 → IsAt N i result
+        (e + n * 256 + slice_index (to_be_bytes w32 (slice_index low.entry i)) 0) }
 {
     end + (j << 8) + (low >> 24)
 }
@@ -53,7 +52,7 @@ fn block_words<const N: usize>(
     ensures block { (i : ℕ) (p : List ℕ) → i < N → slice_index j.entry i < 256
         → IsPrefix (lane i prefix.now) p
         → IsBlock (lane i result)
-        (padded_message (p ++ slice_index j.entry i ∷ digest_bytes (lane i value.now) 8)) }
+        (padded_message (p ++ slice_index j.entry i ∷ digest_in i value.now)) }
 {
     sixteen(
         eight(
@@ -116,8 +115,7 @@ pub fn chain_step<const N: usize>(
     ensures row { IsRow N 8 result }
     ensures lanes { (i : ℕ) (p : List ℕ) → i < N → slice_index j.entry i < 256
         → IsPrefix (lane i prefix.now) p
-        → digest_bytes (lane i result) 8
-        ≡ sha256 (p ++ slice_index j.entry i ∷ digest_bytes (lane i value.now) 8) }
+        → digest_in i result ≡ sha256 (p ++ slice_index j.entry i ∷ digest_in i value.now) }
 {
     compress(initial(), block_words(prefix, j, value))
 }

@@ -18,6 +18,11 @@ is_name_of consistent name t =
 abbrev pub is_found_by : Bool → List ℕ → Option Search → Bool
 is_found_by consistent name s = option_map_or (is_name_of consistent name) (target_of s) false
 
+-- all names of the target that the search found are among these
+abbrev pub HasNamesOf : Bool → Option Search → (List ℕ → Bool) → Type 0
+HasNamesOf consistent s names =
+    (name : List ℕ) → is_found_by consistent name s ≡ true → names name ≡ true
+
 -- the name is one of a target that one of the searches found
 abbrev pub is_found : Bool → List (Option Search) → List ℕ → Bool
 is_found consistent all name = list_any (is_found_by consistent name) all

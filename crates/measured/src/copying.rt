@@ -4,7 +4,7 @@ ghost use Rattle.std.specs.Prelude.{◌≡◌, ◌≤◌, ◌⊎◌, true, List,
 ghost use Rattle.std.specs.Prelude.{OnOk, is_some, map, string_bytes};
 ghost use Rattle.std.specs.BTreeMap.{get_by_text};
 ghost use Rattle.folder.specs.Folders.{HasFailed};
-ghost use Rattle.measured.specs.Closed.{IsClosed, is_found, is_found_by};
+ghost use Rattle.measured.specs.Closed.{HasNamesOf, IsClosed, is_found};
 ghost use Rattle.measured.specs.Copied.{AreCopiesFor, HasContentOf, IsCopyFor, IsMeasuredInto};
 ghost use Rattle.measured.specs.Known.{IsCovered, IsKnown, StaysKnown};
 
@@ -146,8 +146,7 @@ fn copy_one<F: Folder, D: Destination>(
     to: &mut D,
 ) -> Result<Option<D::Temporary>, Failure>
     ensures known { (names : List (List ℕ)) (found : List ℕ → Bool)
-        → ((name : List ℕ) → is_found_by sought.now.consistent name sought.now.search.now ≡ true
-        → found name ≡ true)
+        → HasNamesOf sought.now.consistent sought.now.search.now found
         → StaysKnown names (F.holds folder.old) found known.old known.new }
     ensures copy { IfOk result (λ copy. IsCopyFor D.Temporary.took copy sought.now.search.now) }
     ensures failed { IfErr result (λ f. f ≡ Failure.Folder

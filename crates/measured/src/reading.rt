@@ -6,7 +6,7 @@ ghost use Rattle.std.specs.BTreeMap.{get_by_text};
 ghost use Rattle.std.specs.Option.{option_map_or};
 ghost use Rattle.folder.specs.Folders.{HasFailed};
 ghost use Rattle.cycle.specs.Workflow.{Target, target_of};
-ghost use Rattle.measured.specs.Closed.{is_found_by, is_found};
+ghost use Rattle.measured.specs.Closed.{HasNamesOf, is_found};
 ghost use Rattle.measured.specs.Known as spec;
 ghost use Rattle.measured.specs.Known.{Grows, IsCovered, StaysKnown};
 
@@ -51,8 +51,7 @@ fn note(
     known: &mut Known,
 ) -> Result<(), AllocError>
     ensures known { (names : List (List ℕ)) (holds : List ℕ → List ℕ → Bool)
-        (found : List ℕ → Bool)
-        → ((name : List ℕ) → is_found_by consistent name search.now ≡ true → found name ≡ true)
+        (found : List ℕ → Bool) → HasNamesOf consistent search.now found
         → StaysKnown names holds found known.old known.new }
 {
     let Some(target) = target_of(search) else {
@@ -119,7 +118,7 @@ fn read<F: Folder>(
     known: &mut Known,
 ) -> Result<(), Failure>
     ensures known { (names : List (List ℕ)) (found : List ℕ → Bool)
-        → ((name : List ℕ) → is_found_by consistent name search.now ≡ true → found name ≡ true)
+        → HasNamesOf consistent search.now found
         → StaysKnown names (F.holds folder.old) found known.old known.new }
     ensures covered { OnOk result (IsCovered known.new consistent search.now) }
     ensures grows { Grows known.old known.new }

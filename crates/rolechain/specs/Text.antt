@@ -1,5 +1,6 @@
 -- The state file: the canonical JSON of an object with the trusted files in hexadecimal.
-use Rattle.std.specs.Prelude.{◌≡◌, ◌≢◌, ℕ, not, List, Option, Some, None, bytes_eq, Result, Ok, Err}
+use denote.Ref.{Bor}
+use Rattle.std.specs.Prelude.{◌≡◌, ◌≢◌, ℕ, not, List, Option, Some, None, bytes_eq, option_map, Result, Ok, Err}
 use Rattle.cjson.specs.Document.{tree_of, ◌>>=◌, refuse_if, or_refuse}
 use Rattle.meta.specs.Content.{Part, part_of, root_limit, timestamp_limit, snapshot_limit, targets_limit}
 use Rattle.meta.specs.declared.fault.Fault.{Fault}
@@ -25,6 +26,10 @@ part_in read None = Ok None
 part_in read (Some bytes) = do
   part ← or_state_fault (read bytes)
   Ok (Some part)
+
+-- the bytes that are lent, if there are some
+abbrev pub lent_bytes : Option (Bor (List ℕ)) → Option (List ℕ)
+lent_bytes = option_map (λ b. b.now)
 
 -- the state of a root file that the caller trusts
 abbrev pub root_state : List ℕ → Result State StateFault

@@ -1,11 +1,11 @@
 //! The text of a trusted state.
 
-ghost use Rattle.std.specs.Prelude.{◌≡◌, ◌++◌, Ok, Some, IfOk, OnOk, option_map};
+ghost use Rattle.std.specs.Prelude.{◌≡◌, ◌++◌, Ok, Some, IfOk, OnOk};
 ghost use Rattle.cjson.specs.Canon.{canon};
 ghost use Rattle.meta.specs.Content.{part_of};
 ghost use Rattle.rolechain.specs.Kept as spec;
 ghost use Rattle.rolechain.specs.Text.{ReadsState, or_state_fault, of_fault, root_state, state_of};
-ghost use Rattle.rolechain.specs.Text.{state_in, kept_in, part_in};
+ghost use Rattle.rolechain.specs.Text.{kept_in, lent_bytes, part_in, state_in};
 
 use crate::fault::StateFault;
 use crate::state::Trusted;
@@ -157,7 +157,7 @@ fn own_text(alloc: Global, kept: &Kept) -> Result<Vec<u8>, NoMemory>
 }
 
 fn bytes_of(hex: &Option<Hex>) -> Option<&[u8]>
-    ensures { option_map (λ b. b.now) result ≡ hex.now }
+    ensures { lent_bytes result ≡ hex.now }
 {
     Some(hex.as_ref()?.bytes.as_slice())
 }
@@ -211,9 +211,9 @@ fn text_of(
 ) -> Result<Vec<u8>, NoMemory>
     ensures { IfOk result (λ text. text.items ≡ spec.kept_text (record {
       root = root.now;
-      snapshot = option_map (λ b. b.now) snapshot.entry;
-      targets = option_map (λ b. b.now) targets.entry;
-      timestamp = option_map (λ b. b.now) timestamp.entry;
+      snapshot = lent_bytes snapshot.entry;
+      targets = lent_bytes targets.entry;
+      timestamp = lent_bytes timestamp.entry;
     })) }
 {
     let mut out = Vec::new(alloc);
@@ -233,7 +233,7 @@ fn push_later(
     bytes: Option<&[u8]>,
 ) -> Result<(), AllocError>
     ensures { OnOk result (out.new.items ≡ out.old.items
-        ++ spec.later_text name.now (option_map (λ b. b.now) bytes.entry)) }
+        ++ spec.later_text name.now (lent_bytes bytes.entry)) }
 {
     match bytes {
         Some(bytes) => {

@@ -57,9 +57,13 @@ abbrev pub IsListed : List Mirror → Request → Option Place → Option (List 
 IsListed (m ∷ []) r only old new = IsListedOn m r only old new
 IsListed _ r only old new = ⊥
 
+-- the same of what the words request, with a state and a moment that were read
+abbrev pub IsNextFrom : Wants → chain.State → Moment → World → World → Type 0
+IsNextFrom w trusted moment old new =
+    IsListed old.mirrors (request_of w trusted moment) w.only old.printed new.printed
+
 abbrev pub IsNext : Wants → World → World → Type 0
-IsNext w old new = Starts w old (λ trusted moment.
-    IsListed old.mirrors (request_of w trusted moment) w.only old.printed new.printed)
+IsNext w old new = Starts w old (λ trusted moment. IsNextFrom w trusted moment old new)
 
 -- # Why it fails.
 

@@ -2,6 +2,7 @@
 use Rattle.std.specs.Prelude.{◌≡◌, ℕ, List, String, true, map, string_bytes, [], ◌∷◌}
 use Rattle.std.specs.declared.alloc.Global.{Global}
 use Rattle.examine.specs.Checks.{file_in}
+use Rattle.rolechain.specs.Advance.{advanced}
 use Rattle.update.specs.Runs.{AreMetadata, AreWanted, Loaded, course, start_of}
 use Rattle.update.specs.World.{Mirror}
 use Rattle.update.specs.declared.following.Followed.{Followed}
@@ -19,6 +20,14 @@ pub record IsOpened (mirror : Mirror) (o : Opened) : Type 0 where
 abbrev pub paths_from : Wanted → List (String Global) → List (String Global)
 paths_from (Paths given) listed = given.items
 paths_from Every listed = listed
+
+-- the paths of what was listed, if every file is wanted; the names are consistent if the root says
+-- so that is trusted once the metadata was examined
+abbrev pub AreListed : program.Start → Wanted → Opened → List (String Global) → Type 0
+AreListed s wanted o listed =
+    let root = (advanced (file_in o.repo.metadata) s.moment s.trusted).state.root in
+    AreWanted wanted root.reading.consistent (map string_bytes o.names.items)
+    (map string_bytes (paths_from wanted listed))
 
 -- the wanted paths of a course
 abbrev pub paths_of : Wanted → Followed → List (List ℕ)

@@ -65,10 +65,8 @@ impl<S: System, M: Folder, T: Folder, W: Write> Host<S, Folders<M, T>, W> {
         trusted: &Trusted,
         moment: Moment,
     ) -> Result<(), Failure>
-        ensures listed { OnOk result (spec.IsListed (⟦<Self as HasWorld>⟧.world self.old).mirrors
-            (spec.request_of wants.now trusted.now moment) wants.now.only
-            (⟦<Self as HasWorld>⟧.world self.old).printed
-            (⟦<Self as HasWorld>⟧.world self.new).printed) }
+        ensures listed { OnOk result (spec.IsNextFrom wants.now trusted.now moment
+            (⟦<Self as HasWorld>⟧.world self.old) (⟦<Self as HasWorld>⟧.world self.new)) }
         ensures untouched { (⟦<Self as HasWorld>⟧.world self.new).keeps
             ≡ (⟦<Self as HasWorld>⟧.world self.old).keeps }
         ensures quiet { IfErr result (λ f. f ≢ Failure.Memory → f ≢ Failure.Output → IsUntouched

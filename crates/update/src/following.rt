@@ -1,12 +1,9 @@
 //! The course of a verification, before any target file is read.
 
-ghost use Rattle.std.specs.Prelude.{◌≡◌, ◌⊎◌, IfErr, IfOk, map, string_bytes};
+ghost use Rattle.std.specs.Prelude.{◌≡◌, ◌⊎◌, IfErr, IfOk};
 ghost use Rattle.std.specs.List.{AllZip};
-ghost use Rattle.examine.specs.Checks.{file_in};
-ghost use Rattle.rolechain.specs.Advance.{advanced};
 ghost use Rattle.update.specs.Causes.{AreWrong, IsCauseFrom};
-ghost use Rattle.update.specs.Opened.{IsFollowed, paths_from};
-ghost use Rattle.update.specs.Runs.{AreWanted};
+ghost use Rattle.update.specs.Opened.{AreListed, IsFollowed};
 ghost use Rattle.update.specs.Same.{IsSame};
 
 use crate::host::{Folders, HasMirrors};
@@ -72,11 +69,8 @@ impl<M: Folder, T: Folder> Folders<M, T> {
 /// Returns the paths of the names that were listed, if each is wanted. The names are consistent if
 /// the root says so that is trusted once the metadata was examined.
 fn listed_paths(start: &Start<'_>, wanted: &Wanted, opened: &Opened) -> Result<Vec<String>, Failure>
-    ensures paths { let s = start.now in
-        let root = (advanced (file_in opened.now.repo.metadata) s.moment s.trusted).state.root in
-        IfOk result (λ listed. AreWanted wanted.now root.reading.consistent
-        (map string_bytes opened.now.names.items)
-        (map string_bytes (paths_from wanted.now listed.items))) }
+    ensures paths { IfOk result
+        (λ listed. AreListed start.now wanted.now opened.now listed.items) }
     ensures refused { IfErr result (λ f. (f ≡ Failure.Memory)
         ⊎ ((f ≡ Failure.Words) × AreWrong start.now.limit start.now.workers)) }
 {

@@ -8,5 +8,6 @@ returns-then-has_ended-clause-done g c = λ content stream all.
     let left : c.args.room.now.left ≡ 0 = omega (arith, c.if-room-gt0.false) in
     c.note.ensures.done content
     (subst (λ n. IsMeasureIn (content (string_bytes n)) c.done.result.need c.done.result.measure) (sym c.done.ensures.name)
-    (c.done.ensures.measure (content (string_bytes c.args.stream.name)) (lane c.args.l c.args.state.now) c.args.room.now left (sym c.has_ended.ensures ∙ c.if-has_ended.true) c.digest.ensures.value stream))
+    (c.done.ensures.measure (content (string_bytes c.args.stream.name)) (lane c.args.l c.args.state.now) c.args.room.now
+    (record { left = left; is_ended = sym c.has_ended.ensures ∙ c.if-has_ended.true; stream = stream }) c.digest.ensures.value))
     all

@@ -1,4 +1,4 @@
-use Rattle.std.proofs.Common.{◌≡◌, ◌∙◌, ℕ, ◌<◌, arith, refl, slice_index}
+use Rattle.std.proofs.Common.{◌∙◌, ℕ, ◌<◌, arith, slice_index}
 use Rattle.std.proofs.lemmas.Grind.{same_number_lists}
 use Rattle.sha2.specs.Sha256.{initial_hash_256}
 use Rattle.lanes.proofs.Row.{lane_filled, lane_stays, length-lane, row_set}

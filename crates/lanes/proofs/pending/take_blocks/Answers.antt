@@ -1,4 +1,4 @@
-use Rattle.std.proofs.Common.{arith, slice_index_or, length, ◌≡◌, ◌<◌, ℕ}
+use Rattle.std.proofs.Common.{arith, slice_index_or, length, ◌<◌}
 use Rattle.lanes.specs.Lanes.{lane}
 use Rattle.lanes.proofs.Blocks.{advanced}
 use Rattle.lanes.proofs.pending.take_blocks.Goals as goal

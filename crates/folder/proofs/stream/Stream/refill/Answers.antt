@@ -7,7 +7,7 @@ use Rattle.folder.proofs.Streaming.{end_read, more_read, written}
 use Rattle.folder.proofs.stream.Stream.refill.Goals as goal
 
 pub returns-then-count-eq-PIECE-clause-stream : goal.returns-then-count-eq-PIECE-clause-stream
-returns-then-count-eq-PIECE-clause-stream g c = λ had hash left still stream.
+returns-then-count-eq-PIECE-clause-stream g c = λ had hash drained.
     let room : List ℕ = c.read_most.new.room in
     let n : ℕ = c.in_ok-count.count in
     let most = c.most-most.ensures.count in
@@ -15,13 +15,13 @@ returns-then-count-eq-PIECE-clause-stream g c = λ had hash left still stream.
     let size : length room ≡ 32832 = c.read_most.auto.room ∙ ap length c.as_mut_slice.ensures.value ∙ c.requires.size in
     let piece : n ≡ 32768 = c.if-count-eq-PIECE.true in
     let whole = written _ room c.args.room.now.bytes.items (c.read_most.auto.room ∙ c.as_mut_slice.ensures.len) in
-    more_read had _ _ hash c.args.room.now c.put_piece.new.self c.args.self.now _ room n stream left still
-    c.in_ok-count.ensures.taken (omega (arith, size, piece)) (omega (arith, most, some)) refl refl still (omega (arith, piece))
+    more_read had _ _ hash c.args.room.now c.put_piece.new.self c.args.self.now _ room n drained
+    c.in_ok-count.ensures.taken (omega (arith, size, piece)) (omega (arith, most, some)) refl refl drained.is_ended (omega (arith, piece))
     (λ m blocks after. subst (λ k. Reaches hash c.put_piece.new.self (m ++ take k room)) (sym piece)
     (subst (λ b. Reaches hash c.put_piece.new.self (m ++ take 32768 b)) whole (c.put_piece.ensures.reaches hash m blocks after)))
 
 pub returns-clause-stream : goal.returns-clause-stream
-returns-clause-stream g c = λ had hash left still stream.
+returns-clause-stream g c = λ had hash drained.
     let room : List ℕ = c.read_most.new.room in
     let n : ℕ = c.in_ok-count.count in
     let most = c.most-most.ensures.count in
@@ -34,6 +34,6 @@ returns-clause-stream g c = λ had hash left still stream.
       | inl few ↦ inr (c.in_ok-count.ensures.end few)
       | inr all ↦ inl (omega (arith, all, most, some, short))
     ] in
-    end_read had _ _ hash c.args.room.now c.put_end.new.self c.args.self.now _ room n stream left still
+    end_read had _ _ hash c.args.room.now c.put_end.new.self c.args.self.now _ room n drained
     c.in_ok-count.ensures.taken (omega (arith, size, most, some)) (omega (arith, most, some)) refl refl refl done
     (λ m blocks count after. subst (λ b. Reaches hash c.put_end.new.self (padded_message (m ++ take n b))) whole (c.put_end.ensures.reaches hash m blocks count after))
