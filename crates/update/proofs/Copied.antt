@@ -87,6 +87,16 @@ again_copied found done p before now there was = record {
   others = λ q h. was.others q (left_false (is_named done q) (bytes_eq p q) (sym (named_more done p q) ∙ h));
 }
 
+-- the path was one of those that were stored, or a copy was stored for it, and nothing for any other
+pub once_copied : {Y : Type 0} (set : BTreeSet (String Y)) (found : List ℕ → Option Target) (done : List (List ℕ)) (p : List ℕ) (before old new : Kept) → HasPaths set done
+    → AreCopied found done before old → (contains_text set p ≡ true → new ≡ old) → (contains_text set p ≡ false → IsSomeAnd (found p) (IsCopied new p))
+    → ((other : List ℕ) → other ≢ p → IsSameAt other old new) → AreCopied found (done ++ p ∷ []) before new
+once_copied set found done p before old new has was again copy others = by (contains_text set p) refl
+  where
+    by : (b : Bool) → contains_text set p ≡ b → AreCopied found (done ++ p ∷ []) before new
+    by true is = subst (λ k. AreCopied found (done ++ p ∷ []) before k) (sym (again is)) (again_copied found done p before old (sym (has p) ∙ is) was)
+    by false is = more_copied found done p before old new was others (copy is)
+
 pub again_paths : {Y : Type 0} (set : BTreeSet (String Y)) (done : List (List ℕ)) (p : List ℕ) → contains_text set p ≡ true → HasPaths set done → HasPaths set (done ++ p ∷ [])
 again_paths set done p there has q = by (bytes_eq p q) refl
   where

@@ -31,10 +31,6 @@ is_good_at verdicts i = option_map_or is_good (slice_get verdicts i) false
 abbrev pub HasPaths : {Y : Type 0} → BTreeSet (String Y) → List (List ℕ) → Type 0
 HasPaths set paths = (path : List ℕ) → contains_text set path ≡ is_named paths path
 
--- these paths were copied, and one more
-abbrev pub AreCopiedWith : (List ℕ → Option Target) → List (List ℕ) → List ℕ → Kept → Kept → Type 0
-AreCopiedWith found paths path old new = AreCopied found (paths ++ path ∷ []) old new
-
 -- # The copies of wanted paths, of whose targets something is known by `found`.
 
 -- there is a copy for each path, if there is one for a target

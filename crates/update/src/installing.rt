@@ -1,14 +1,16 @@
 //! The copies of good targets, stored for their paths.
 
-ghost use Rattle.std.specs.Prelude.{◌≡◌, ◌⊎◌, ◌++◌, ◌∷◌, [], List, ℕ, Some};
-ghost use Rattle.std.specs.Prelude.{IfErr, IfSome, OnErr, OnOk, map, string_bytes};
-ghost use Rattle.std.specs.Prelude.{bytes_eq, if◌then◌else◌, true};
+ghost use Rattle.std.specs.Prelude.{◌≡◌, ◌≢◌, ◌⊎◌, ◌++◌, ◌∷◌, [], List, ℕ, Option, Some};
+ghost use Rattle.std.specs.Prelude.{IfErr, IfSome, IsSomeAnd, OnErr, OnOk, map, string_bytes};
+ghost use Rattle.std.specs.Prelude.{bytes_eq, if◌then◌else◌, false, true};
 ghost use Rattle.std.specs.BTreeSet.{contains_text};
 ghost use Rattle.std.specs.List.{slice_get};
-ghost use Rattle.update.specs.Copies.{AreCopied, Kept};
+ghost use Rattle.copies.specs.Paths.{IsSameAt};
+ghost use Rattle.cycle.specs.Workflow.{Target};
+ghost use Rattle.update.specs.Copies.{IsCopied};
 ghost use Rattle.update.specs.Stored as glue;
-ghost use Rattle.update.specs.Stored.{AreCopiedWith, AreCopiesOf, AreFirstGoodCopied};
-ghost use Rattle.update.specs.Stored.{AreGoodCopied, HasPaths, IsLentFor, Lookup};
+ghost use Rattle.update.specs.Stored.{AreCopiesOf, AreFirstGoodCopied, AreGoodCopied, HasPaths};
+ghost use Rattle.update.specs.Stored.{IsLentFor, Lookup};
 
 use copies::{Destination, is_below};
 use cycle::Verdict;
@@ -71,10 +73,13 @@ fn store_copy<D: Destination>(
 ) -> Result<(), Failure>
     ensures paths { (done : List (List ℕ)) → HasPaths stored.old done
         → OnOk result (HasPaths stored.new (done ++ path.now ∷ [])) }
-    ensures copied { (found : Lookup) (all : List (List ℕ)) (old : Kept)
-        → IsLentFor D.Temporary.took copy.entry (found path.now)
-        → HasPaths stored.old all → AreCopied found all old (D.keeps to.old)
-        → OnOk result (AreCopiedWith found all path.now old (D.keeps to.new)) }
+    ensures copied { (t : Option Target) → IsLentFor D.Temporary.took copy.entry t
+        → contains_text stored.old path.now ≡ false
+        → OnOk result (IsSomeAnd t (IsCopied (D.keeps to.new) path.now)) }
+    ensures again { contains_text stored.old path.now ≡ true
+        → OnOk result (D.keeps to.new ≡ D.keeps to.old) }
+    ensures others { OnOk result ((other : List ℕ) → other ≢ path.now
+        → IsSameAt other (D.keeps to.old) (D.keeps to.new)) }
     ensures unchanged { OnErr result (D.keeps to.new ≡ D.keeps to.old) }
     ensures refused { IfErr result (λ f. (f ≡ Failure.Memory) ⊎ (f ≡ Failure.Output)) }
 {

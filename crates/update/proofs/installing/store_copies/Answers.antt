@@ -2,7 +2,7 @@ use Rattle.std.proofs.Common.{◌≡◌, ◌∙◌, ◌++◌, ◌∷◌, ◌+◌
 use Rattle.std.specs.List.{slice_get}
 use Rattle.update.specs.Copies.{AreCopied}
 use Rattle.update.specs.Stored.{HasPaths}
-use Rattle.update.proofs.Copied.{IsDone, all_done, copy_for, first_done, inside_paths, none_done, none_in, one_skipped, one_stored, path_at, same_count}
+use Rattle.update.proofs.Copied.{IsDone, all_done, copy_for, first_done, inside_paths, none_done, none_in, once_copied, one_skipped, one_stored, path_at, same_count}
 use Rattle.update.proofs.installing.store_copies.Goals as goal
 use Rattle.update.proofs.installing.store_copies.Goals.{then-is_good_at+in_ok-store_copy, else-is_good_at}
 
@@ -36,8 +36,10 @@ loop-i-preserved g c =
           (sym c.is_good_at.ensures ∙ b.if-is_good_at.true)
           (λ done has. subst (λ z. HasPaths b.store_copy.new.stored (done ++ z ∷ [])) q (b.in_ok-store_copy.ensures.paths done has))
           (λ found done h has was. subst (λ z. AreCopied found (done ++ z ∷ []) before (keeps b.store_copy.new.to)) q
-          (b.in_ok-store_copy.ensures.copied found done before
-          (copy_for took w copies c.loop-i.i b.as_str.result.now _ b.copy_at-copy.ensures (at ∙ ap Some (sym q)) found h) has was))
+          (once_copied c.loop-i.stored found done b.as_str.result.now before _ _ has was b.in_ok-store_copy.ensures.again
+          (b.in_ok-store_copy.ensures.copied (found b.as_str.result.now)
+          (copy_for took w copies c.loop-i.i b.as_str.result.now _ b.copy_at-copy.ensures (at ∙ ap Some (sym q)) found h))
+          b.in_ok-store_copy.ensures.others))
           c.loop-i.invariant))
       | else-is_good_at b ↦
           subst (λ s. IsDone took w v copies (c.loop-i.i + 1) s before (keeps c.if-is_good_at.to)) (sym b.stored-is)
