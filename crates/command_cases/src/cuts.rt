@@ -1,6 +1,5 @@
 //! Verifications of a truncated file.
 
-use crate::shell::Shell;
 use crate::workers::by;
 use anyhow::{Result, ensure};
 use sessions::{Output, Step};
@@ -9,6 +8,7 @@ use std::fs;
 use std::io::Write;
 use std::sync::Wait;
 use std::thread::Threads;
+use system_cases::Shell;
 
 /// An output, and the number of lengths that led to it.
 #[derive(Drop)]

@@ -4,15 +4,11 @@
 //! whose output differs from the expected one.
 #![tactic(auto)]
 
-mod change;
-mod clocks;
 mod cuts;
-mod files;
 mod narrow;
-mod rights;
+mod program;
 mod run;
 mod session;
-mod shell;
 mod workers;
 
 pub use run::run_sessions;

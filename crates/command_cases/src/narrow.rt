@@ -1,11 +1,12 @@
 //! Outputs that fail.
 
-use crate::shell::Shell;
+use crate::program::status;
 use anyhow::Result;
 use sessions::{Output, Step};
 use std::io::{self, ErrorKind, Write};
 use std::sync::Wait;
 use std::thread::Threads;
+use system_cases::Shell;
 
 /// A writer that takes a number of bytes, after which writes and flushes fail.
 #[derive(Drop)]
@@ -42,7 +43,7 @@ pub fn with_narrow_output<T: Threads + Wait + Sync>(
 ) -> Result<Output> {
     let mut out = writer_of(step)?;
     let mut output = Output::nothing(shell.alloc);
-    output.status = shell.status(step.words_behind(1), &mut out, &mut output.err);
+    output.status = status(shell, step.words_behind(1), &mut out, &mut output.err);
     Ok(output)
 }
 
@@ -53,6 +54,6 @@ pub fn with_narrow_error<T: Threads + Wait + Sync>(
 ) -> Result<Output> {
     let mut err = writer_of(step)?;
     let mut output = Output::nothing(shell.alloc);
-    output.status = shell.status(step.words_behind(1), &mut output.out, &mut err);
+    output.status = status(shell, step.words_behind(1), &mut output.out, &mut err);
     Ok(output)
 }

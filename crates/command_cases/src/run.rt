@@ -1,11 +1,12 @@
 //! All sessions of a folder.
 
-use crate::shell::Shell;
+use crate::session::perform;
 use sessions::run_all;
 use std::alloc::Global;
 use std::io::Write;
 use std::sync::Wait;
 use std::thread::Threads;
+use system_cases::Shell;
 
 /// Runs the sessions of the files `cases/NAME.t` of the current folder, and prints what [`run_all`]
 /// does. The folder must contain `cases` and nothing else: each session begins with nothing beside
@@ -18,8 +19,8 @@ pub fn run_sessions<T: Threads + Wait + Sync, O: Write, E: Write>(
     out: &mut O,
     err: &mut E,
 ) -> u8 {
-    let shell = Shell::new(rt, threads, alloc);
-    match run_all(rt, alloc, out, ".t", |step| shell.perform(step)) {
+    let shell = Shell { rt, threads, alloc };
+    match run_all(rt, alloc, out, ".t", |step| perform(&shell, step)) {
         Ok(0) => 0,
         Ok(_) => 1,
         Err(error) => {

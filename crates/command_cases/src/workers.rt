@@ -1,11 +1,12 @@
 //! Verifications by several numbers of workers.
 
-use crate::shell::{Shell, push_word, push_words};
+use crate::program::verify_from;
 use anyhow::{Context, Result, bail};
 use sessions::{Output, Step};
 use std::fs;
 use std::sync::Wait;
 use std::thread::Threads;
+use system_cases::{Shell, push_word, push_words};
 
 /// The output of a verification, and the state that is at its place afterwards, if there is one.
 #[derive(Drop)]
@@ -22,7 +23,7 @@ impl Ran {
 
 /// Verifies as the step says: from one state to another, with further arguments.
 pub fn verify<T: Threads + Wait + Sync>(shell: &Shell<'_, T>, step: &Step) -> Result<Output> {
-    shell.verify(step.word(0)?, step.word(1)?, step.words_behind(2))
+    verify_from(shell, step.word(0)?, step.word(1)?, step.words_behind(2))
 }
 
 /// Verifies as the step says by each of the numbers of workers that its first word lists.
@@ -66,7 +67,7 @@ fn verify_with<T: Threads + Wait + Sync>(
     push_word(shell.alloc, &mut words, "--workers")?;
     push_word(shell.alloc, &mut words, number)?;
     push_words(&mut words, more)?;
-    let output = shell.verify(old, new, words.as_slice())?;
+    let output = verify_from(shell, old, new, words.as_slice())?;
     let state = state_at(shell.rt, new)?;
     Ok(Ran { output, state })
 }

@@ -1,5 +1,5 @@
-use Rattle.rust_tests.proofs.Names.{copied_names}
-use Rattle.rust_tests.proofs.stored.MemoryFolder.names.Goals as goal
+use Rattle.file_tests.proofs.Names.{copied_names}
+use Rattle.file_tests.proofs.stored.MemoryFolder.names.Goals as goal
 
 pub returns-clause-given : goal.returns-clause-given
 returns-clause-given c =

@@ -1,6 +1,5 @@
 //! Folders on the disk and in memory.
 
-use crate::repositories::string;
 use crate::stored::Memory;
 use folder::{Depth, Disk, Folder, LoadFault, load, load_starts, path_below};
 use std::collections::BTreeMap;
@@ -8,6 +7,11 @@ use std::fs;
 use std::os::unix::fs::symlink;
 use std::process::Abort;
 use std::rt::Files;
+
+/// Returns a copy of the text.
+fn string<R: Abort + AllocGlobal>(rt: &R, text: &str) -> String {
+    String::from_str(rt.alloc(), text).expect(rt, "memory")
+}
 
 /// Makes an empty folder for a test, even if a run that failed has left one.
 fn fresh<R: Abort + Files + AllocGlobal>(rt: &R, folder: &str) {

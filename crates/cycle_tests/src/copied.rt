@@ -4,9 +4,9 @@ ghost use Rattle.std.specs.Prelude.{◌≡◌, true};
 
 use crate::found::{LINES, PLAIN, course, wanted};
 use crate::repositories::made;
-use crate::stored::Memory;
 use copies::Destination;
 use failure::Failure;
+use file_tests::Memory;
 use folder::{Folder, Sink};
 use measured::{Copied, close_into};
 use report::tell;

@@ -1,7 +1,7 @@
 //! Cycles that cache verdicts, one of which is out of memory at a check.
 
-use crate::judges::Counting;
 use crate::repositories::{first_state, made, moment};
+use file_tests::Counting;
 use keys::{Direct, Judge};
 use memory::{Cache, Kept};
 use meta::Repo;

@@ -2,7 +2,6 @@
 
 ghost use Rattle.std.specs.Prelude.{◌<◌, All, length};
 
-use crate::repositories::string;
 use cjson::{Doc, canonical, signed_bytes, tree_from};
 use lms::{Height, Public, verify};
 use seals::{MakeFault, Signer, seal, secret};
@@ -16,7 +15,7 @@ const NOBODY: &str = "{\"signatures\":[],\"signed\":{\"_type\":\"mirrors\",\"exp
 /// Returns the key of the byte, under the id.
 fn signer<R: Abort + AllocGlobal>(rt: &R, id: &str, byte: u8) -> Signer {
     Signer {
-        id: string(rt, id),
+        id: String::from_str(rt.alloc(), id).expect(rt, "memory"),
         secret: secret(rt.alloc(), byte, Height::H5).expect(rt, "memory"),
     }
 }
