@@ -1,6 +1,6 @@
-//! The commands of sessions of the command line that don't run the program. They change files of the
-//! folder, print what these contain, and set their modes; or they read a clock, or verify folders,
-//! that fail.
+//! The commands of sessions of the command line that don't run the program. They change files of
+//! the folder, print what these contain, and set their modes; or they read a clock, or verify
+//! folders, that fail.
 #![tactic(auto)]
 
 mod changes;
