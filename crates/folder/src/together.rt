@@ -1,7 +1,7 @@
 //! Files that are measured side by side, each in a lane.
 
-ghost use Rattle.std.specs.Prelude.{◌≡◌, ◌≢◌, ◌≤◌, ◌<◌, ℕ, List, Option, Some, false, IfOk, IfSome, All};
-ghost use Rattle.std.specs.Prelude.{length, string_bytes};
+ghost use Rattle.std.specs.Prelude.{◌≡◌, ◌≢◌, ◌≤◌, ◌<◌, ℕ, List, Option, Some, false};
+ghost use Rattle.std.specs.Prelude.{All, IfOk, IfSome, length, string_bytes};
 ghost use Rattle.sha2.specs.Sha256.{initial_hash_256};
 ghost use Rattle.lanes.specs.Lanes.{IsRow, lane};
 ghost use Rattle.lanes.specs.Pending.{IsPending};
