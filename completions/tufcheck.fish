@@ -14,6 +14,7 @@ complete -c tufcheck -n '__fish_seen_subcommand_from help' -a 'init verify repla
 complete -c tufcheck -n '__fish_seen_subcommand_from init make replay show' -F
 complete -c tufcheck -n '__fish_seen_subcommand_from init verify replay' -l out -r -F -d 'Where the state is written'
 complete -c tufcheck -n '__fish_seen_subcommand_from verify replay next' -l state -r -F -d 'The trusted state'
+complete -c tufcheck -n '__fish_seen_subcommand_from verify replay' -l unlocked -d 'Read the trusted state without a lock'
 complete -c tufcheck -n '__fish_seen_subcommand_from verify next' -l metadata -x -a '(__fish_complete_directories)' -d 'The folder of metadata files'
 complete -c tufcheck -n '__fish_seen_subcommand_from verify next' -l targets -x -a '(__fish_complete_directories)' -d 'The folder of target files'
 complete -c tufcheck -n '__fish_seen_subcommand_from verify replay next' -l now -x -d 'The moment in place of the clock'

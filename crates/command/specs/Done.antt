@@ -1,47 +1,64 @@
 -- What the subcommands print and return.
 use Rattle.std.specs.Bool.{⊤}
-use Rattle.std.specs.Prelude.{◌≡◌, ◌⊎◌, ℕ, List, true, Option, length, option_map, [], ◌∷◌}
+use Rattle.std.specs.Prelude.{◌≡◌, ◌⊎◌, ℕ, List, Bool, true, false, Option, Some, length, option_map, [], ◌∷◌}
 use Rattle.failure.specs.declared.failure.Failure.{Failure}
-use Rattle.update.specs.Causes.{IsCauseOfFirst, IsCauseToReplay, IsCauseToVerify}
+use Rattle.update.specs.Causes.{IsCauseOfFirst}
+use Rattle.update.specs.Causes as run
 use Rattle.update.specs.Copies.{IsCauseToVerifyInto, IsVerifiedInto}
-use Rattle.update.specs.Cycles.{IsReplayed}
+use Rattle.replay.specs.Cycles.{IsReplayed}
 use Rattle.update.specs.Fetching.{IsCauseOfNext, IsNext}
 use Rattle.update.specs.declared.fetching.Wants.{Wants}
 use Rattle.update.specs.First.{IsRefused, IsTrusted}
 use Rattle.update.specs.Runs.{IsVerified}
 use Rattle.update.specs.Shown.{IsCauseToShow, IsShown}
 use Rattle.update.specs.World.{Mirror, World}
-use Rattle.update.specs.declared.replaying.Cycles.{Cycles}
+use Rattle.replay.specs.declared.replaying.Cycles.{Cycles}
 use Rattle.update.specs.declared.start.Terms.{Terms}
+use Rattle.command.specs.declared.subcommand.FolderPaths.{FolderPaths}
 use Rattle.command.specs.declared.subcommand.Subcommand.{Subcommand}
 use Rattle.command.specs.declared.subcommand.Subcommand.TheVariants.{Init, Verify, VerifyInto, Replay, Next, Show, Make}
 
 -- # What a run works on.
 
--- The file system and the clock, of which any file may give any bytes, be locked and be stored with
--- any bytes, with these folders of repositories, and what was printed.
-abbrev pub system_with : List Mirror → Option (List ℕ) → World
-system_with mirrors printed = record {
+-- the paths that this run has locked, and what was stored
+pub record Held : Type 0 where
+  pub locks : List ℕ → Bool
+  pub keeps : List ℕ → List ℕ → Bool
+
+-- The file system and the clock, of which any file may give any bytes, with what is held, the
+-- folders of repositories, and what was printed.
+abbrev pub system_of : Held → List Mirror → Option (List ℕ) → World
+system_of held mirrors printed = record {
   gives = λ _ _. true;
   gives_locked = λ _ _. true;
   refuses = λ _. true;
-  locks = λ _. true;
+  locks = held.locks;
   shows = λ _. true;
-  keeps = λ _ _. true;
+  keeps = held.keeps;
   mirrors = mirrors;
   printed = printed;
 }
 
--- the folders of a repository, of which more holds
-pub record OfOne (follows : List Mirror → Type 0) : Type 0 where
-  pub mirror : Mirror
-  pub then : follows (mirror ∷ [])
+-- the same, where nothing depends on what is held
+abbrev pub system_with : List Mirror → Option (List ℕ) → World
+system_with = system_of (record { locks = λ _. false; keeps = λ _ _. true })
 
--- the folders of a repository, and folders afterwards, of which more holds
-pub record OfOneAfter (follows : List Mirror → List Mirror → Type 0) : Type 0 where
+-- these are the folders of those paths
+abbrev pub AreAt : FolderPaths → Mirror → Type 0
+AreAt folders m =
+    (m.metadata.place ≡ Some folders.metadata.now) × (m.targets.place ≡ Some folders.targets.now)
+
+-- what is held before and afterwards, of which more holds
+pub record OfHeld (follows : Held → Held → Type 0) : Type 0 where
+  pub before : Held
+  pub afterwards : Held
+  pub then : follows before afterwards
+
+-- the folders of a repository, of which more holds
+pub record OfOne (folders : FolderPaths) (follows : List Mirror → Type 0) : Type 0 where
   pub mirror : Mirror
-  pub afterwards : List Mirror
-  pub then : follows (mirror ∷ []) afterwards
+  pub at : AreAt folders mirror
+  pub then : follows (mirror ∷ [])
 
 -- the folders of so many repositories, of which more holds
 pub record OfEach (count : ℕ) (follows : List Mirror → Type 0) : Type 0 where
@@ -57,34 +74,40 @@ IsFirst root state old new status =
     ((status ≡ 0) × IsTrusted root state old new) ⊎ ((status ≡ 2) × IsRefused root old new)
 
 -- the repository is verified
-abbrev pub IsVerifiedOf : Terms → Option (List ℕ) → Option (List ℕ) → ℕ → Type 0
-IsVerifiedOf terms old new status =
-    OfOne (λ ms. IsVerified terms (system_with ms old) (system_with ms new) status)
+abbrev pub IsVerifiedOf : Terms → FolderPaths → Option (List ℕ) → Option (List ℕ) → ℕ → Type 0
+IsVerifiedOf terms folders old new status =
+    OfHeld (λ h k. OfOne folders (λ ms. IsVerified terms (system_of h ms old)
+    (system_of k ms new) status))
 
--- the repository is verified, and copies of its good targets are stored in the folder
-abbrev pub IsVerifiedIntoOf : Terms → Option (List ℕ) → Option (List ℕ) → ℕ → Type 0
-IsVerifiedIntoOf terms old new status = OfOneAfter (λ ms ns. IsVerifiedInto terms
-    (system_with ms old) (system_with ns new) (λ _ _. true) (λ _ _. true) status)
+-- the repository is verified, and copies of its good targets are stored below the folder `into`, in
+-- which any path may be blocked
+abbrev pub IsVerifiedIntoOf : Terms → FolderPaths → List ℕ → Option (List ℕ) → Option (List ℕ)
+    → ℕ → Type 0
+IsVerifiedIntoOf terms folders into old new status =
+    OfHeld (λ h k. OfOne folders (λ ms. IsVerifiedInto terms into (λ _. true)
+    (system_of h ms old) (system_of k ms new) status))
 
 -- so many repositories are verified, one after another
 abbrev pub IsReplayedOf : Cycles → ℕ → Option (List ℕ) → Option (List ℕ) → ℕ → Type 0
 IsReplayedOf cycles count old new status =
-    OfEach count (λ ms. IsReplayed cycles (system_with ms old) (system_with ms new) status)
+    OfHeld (λ h k. OfEach count (λ ms. IsReplayed cycles (system_of h ms old)
+    (system_of k ms new) status))
 
 -- the files that the repository lacks are listed, with status 0
-abbrev pub IsNextOf : Wants → Option (List ℕ) → Option (List ℕ) → ℕ → Type 0
-IsNextOf wants old new status =
-    (status ≡ 0) × OfOne (λ ms. IsNext wants (system_with ms old) (system_with ms new))
+abbrev pub IsNextOf : Wants → FolderPaths → Option (List ℕ) → Option (List ℕ) → ℕ → Type 0
+IsNextOf wants folders old new status =
+    (status ≡ 0) × OfOne folders (λ ms. IsNext wants (system_with ms old) (system_with ms new))
 
 -- what the subcommand does, by its run's own definition
 abbrev pub IsDone : Subcommand → Option (List ℕ) → Option (List ℕ) → ℕ → Type 0
 IsDone (Init root state) old new status =
-    IsFirst root.now state.now (system_with [] old) (system_with [] new) status
-IsDone (Verify terms folders) old new status = IsVerifiedOf terms old new status
-IsDone (VerifyInto terms folders into) old new status = IsVerifiedIntoOf terms old new status
+    OfHeld (λ h k. IsFirst root.now state.now (system_of h [] old) (system_of k [] new) status)
+IsDone (Verify terms folders) old new status = IsVerifiedOf terms folders old new status
+IsDone (VerifyInto terms folders into) old new status =
+    IsVerifiedIntoOf terms folders into.now old new status
 IsDone (Replay cycles repositories) old new status =
     IsReplayedOf cycles (length repositories.items) old new status
-IsDone (Next wants folders) old new status = IsNextOf wants old new status
+IsDone (Next wants folders) old new status = IsNextOf wants folders old new status
 IsDone (Show state before) old new status = IsShown state.now (option_map (λ t. t.now) before)
     (system_with [] old) (system_with [] new) status
 IsDone (Make script folder) old new status = (status ≡ 0) × (new ≡ old)
@@ -97,21 +120,22 @@ pub record OfBoth (follows : List Mirror → List Mirror → Type 0) : Type 0 wh
   pub afterwards : List Mirror
   pub then : follows before afterwards
 
+-- a run fails for such a cause, whatever is held
+abbrev pub IsCauseOf : (World → World → Type 0) → Option (List ℕ) → Type 0
+IsCauseOf cause old =
+    OfHeld (λ h k. OfBoth (λ ms ns. cause (system_of h ms old) (system_of k ns old)))
+
 abbrev pub IsCauseOfVerify : Terms → Option (List ℕ) → Failure → Type 0
-IsCauseOfVerify terms old f =
-    OfBoth (λ ms ns. IsCauseToVerify terms (system_with ms old) (system_with ns old) f)
+IsCauseOfVerify terms old f = IsCauseOf (λ w v. run.IsCause terms.settings w v f) old
 
 abbrev pub IsCauseOfVerifyInto : Terms → Option (List ℕ) → Failure → Type 0
-IsCauseOfVerifyInto terms old f =
-    OfBoth (λ ms ns. IsCauseToVerifyInto terms (system_with ms old) (system_with ns old) f)
+IsCauseOfVerifyInto terms old f = IsCauseOf (λ w v. IsCauseToVerifyInto terms w v f) old
 
 abbrev pub IsCauseOfReplay : Cycles → Option (List ℕ) → Failure → Type 0
-IsCauseOfReplay cycles old f =
-    OfBoth (λ ms ns. IsCauseToReplay cycles (system_with ms old) (system_with ns old) f)
+IsCauseOfReplay cycles old f = IsCauseOf (λ w v. run.IsCause cycles.settings w v f) old
 
 abbrev pub IsCauseOfFetching : Wants → Option (List ℕ) → Failure → Type 0
-IsCauseOfFetching wants old f =
-    OfBoth (λ ms ns. IsCauseOfNext wants (system_with ms old) (system_with ns old) f)
+IsCauseOfFetching wants old f = IsCauseOf (λ w v. IsCauseOfNext wants w v f) old
 
 -- the cause by the run's own definition; of `make` none is known
 abbrev pub IsCause : Subcommand → Option (List ℕ) → Failure → Type 0

@@ -1,7 +1,7 @@
 //! Carrying out a subcommand.
 
 ghost use Rattle.std.specs.Prelude.{◌≡◌, ◌≢◌, ◌≤◌, [], IfErr, IfOk, option_map};
-ghost use Rattle.command.specs.Done.{IsCause, IsDone, IsFirst, system_with};
+ghost use Rattle.command.specs.Done.{IsCause, IsDone, IsFirst, OfHeld, system_of, system_with};
 ghost use Rattle.update.specs.Causes.{IsCauseOfFirst};
 ghost use Rattle.update.specs.Shown.{IsCauseToShow, IsShown};
 
@@ -54,7 +54,7 @@ pub fn carry_out<T: Threads + Wait + Sync, W: Write>(
 }
 
 /// Trusts the root file of a path, and stores the state for a path.
-#[tactic(auto, using(crate::proofs::Doing::beginning))]
+#[tactic(auto, using(crate::proofs::Doing::quiet))]
 fn init<W: Write>(
     rt: &HostRuntime,
     alloc: Global,
@@ -63,8 +63,8 @@ fn init<W: Write>(
     out: W,
 ) -> (Result<u8, Failure>, W)
     ensures known { IfOk result.0 (λ status. status ≤ 2) }
-    ensures first { IfOk result.0 (IsFirst root.now state.now
-        (system_with [] (W.contents out)) (system_with [] (W.contents result.1))) }
+    ensures first { IfOk result.0 (λ status. OfHeld (λ h k. IsFirst root.now state.now
+        (system_of h [] (W.contents out)) (system_of k [] (W.contents result.1)) status)) }
     ensures quiet { IfErr result.0 (λ f. f ≢ Failure.Memory → f ≢ Failure.Output
         → W.contents result.1 ≡ W.contents out) }
     ensures cause { IfErr result.0

@@ -1,6 +1,6 @@
 //! Repositories in folders of the file system.
 
-ghost use Rattle.std.specs.Prelude.{◌≡◌, ◌≢◌, ◌≤◌, IfErr, IfOk, length};
+ghost use Rattle.std.specs.Prelude.{◌≡◌, ◌≢◌, ◌≤◌, IfErr, IfOk, length, string_bytes};
 ghost use Rattle.command.specs.Done.{IsCauseOfFetching, IsCauseOfReplay, IsCauseOfVerify};
 ghost use Rattle.command.specs.Done.{IsNextOf, IsReplayedOf, IsVerifiedOf};
 
@@ -9,15 +9,16 @@ use crate::subcommand::FolderPaths;
 use failure::Failure;
 use folder::{Depth, Disk, path_below};
 use progress::Watched;
+use replay::{Cycles, replay};
 use std::alloc::AllocError;
 use std::io::Write;
 use std::sync::Wait;
 use std::thread::Threads;
 use system::Machine;
-use update::{Cycles, Folders, Host, Terms, Wants};
+use update::{Folders, Host, Terms, Wants};
 
 /// Verifies the repository in the folders.
-#[tactic(auto, using(crate::proofs::Doing::verifying))]
+#[tactic(auto, using(crate::proofs::Doing::quiet))]
 pub fn verify_in<T: Threads + Wait + Sync, W: Write>(
     run: &Runtime<'_, T>,
     terms: &Terms<'_>,
@@ -25,7 +26,7 @@ pub fn verify_in<T: Threads + Wait + Sync, W: Write>(
     out: W,
 ) -> (Result<u8, Failure>, W)
     ensures known { IfOk result.0 (λ status. status ≤ 2) }
-    ensures verified { IfOk result.0 (IsVerifiedOf terms.now
+    ensures verified { IfOk result.0 (IsVerifiedOf terms.now folders.entry
         (W.contents out) (W.contents result.1)) }
     ensures quiet { IfErr result.0 (λ f. f ≢ Failure.Memory → f ≢ Failure.Output
         → W.contents result.1 ≡ W.contents out) }
@@ -45,7 +46,7 @@ pub fn verify_in<T: Threads + Wait + Sync, W: Write>(
 }
 
 /// Prints the names of the files that have to be fetched next.
-#[tactic(auto, using(crate::proofs::Doing::fetching))]
+#[tactic(auto, using(crate::proofs::Doing::quiet))]
 pub fn next_in<T: Threads + Wait + Sync, W: Write>(
     run: &Runtime<'_, T>,
     wants: &Wants<'_>,
@@ -53,7 +54,8 @@ pub fn next_in<T: Threads + Wait + Sync, W: Write>(
     out: W,
 ) -> (Result<u8, Failure>, W)
     ensures known { IfOk result.0 (λ status. status ≡ 0) }
-    ensures listed { IfOk result.0 (IsNextOf wants.now (W.contents out) (W.contents result.1)) }
+    ensures listed { IfOk result.0 (IsNextOf wants.now folders.entry
+        (W.contents out) (W.contents result.1)) }
     ensures quiet { IfErr result.0 (λ f. f ≢ Failure.Memory → f ≢ Failure.Output
         → W.contents result.1 ≡ W.contents out) }
     ensures cause { IfErr result.0 (IsCauseOfFetching wants.now (W.contents out)) }
@@ -75,14 +77,17 @@ pub fn next_in<T: Threads + Wait + Sync, W: Write>(
 pub(crate) fn two_folders<'a, T>(
     run: &'a Runtime<'_, T>,
     folders: FolderPaths<'_>,
-) -> Result<CountedFolders<'a>, AllocError> {
+) -> Result<CountedFolders<'a>, AllocError>
+    ensures metadata { IfOk result (λ f. f.metadata.path ≡ folders.entry.metadata.now) }
+    ensures targets { IfOk result (λ f. f.targets.folder.path ≡ folders.entry.targets.now) }
+{
     let metadata = String::from_str(run.alloc, folders.metadata)?;
     let targets = String::from_str(run.alloc, folders.targets)?;
     Ok(folders_of(run, metadata, targets))
 }
 
 /// Verifies the repositories, one after another.
-#[tactic(auto, using(crate::proofs::Doing::replaying))]
+#[tactic(auto, using(crate::proofs::Doing::quiet))]
 pub fn replay_in<T: Threads + Wait + Sync, W: Write>(
     run: &Runtime<'_, T>,
     cycles: &Cycles<'_>,
@@ -105,7 +110,7 @@ pub fn replay_in<T: Threads + Wait + Sync, W: Write>(
         folders,
         out,
     };
-    let done = host.replay(&run.threading(), run.alloc, cycles);
+    let done = replay(&mut host, &run.threading(), run.alloc, cycles);
     (done, host.out)
 }
 
@@ -130,7 +135,10 @@ fn folders_of<'a, T>(
     run: &'a Runtime<'_, T>,
     metadata: String,
     targets: String,
-) -> CountedFolders<'a> {
+) -> CountedFolders<'a>
+    ensures metadata { result.metadata.path ≡ string_bytes metadata }
+    ensures targets { result.targets.folder.path ≡ string_bytes targets }
+{
     let targets = Disk::new(&run.targets, targets, Depth::Below);
     Folders {
         metadata: Disk::new(&run.metadata, metadata, Depth::Here),

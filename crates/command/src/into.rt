@@ -1,6 +1,6 @@
 //! Repositories in folders of the file system, with copies of their good targets.
 
-ghost use Rattle.std.specs.Prelude.{◌≡◌, ◌≢◌, ◌≤◌, IfErr, IfOk};
+ghost use Rattle.std.specs.Prelude.{◌≡◌, ◌≢◌, ◌≤◌, IfErr, IfOk, string_bytes};
 ghost use Rattle.command.specs.Done.{IsCauseOfVerifyInto, IsVerifiedIntoOf};
 
 use crate::folders::two_folders;
@@ -16,7 +16,7 @@ use system::Machine;
 use update::{Host, Terms};
 
 /// Verifies the repository in the folders, and stores copies of the good targets below `into`.
-#[tactic(auto, using(crate::proofs::Doing::verifying_into))]
+#[tactic(auto, using(crate::proofs::Doing::quiet))]
 pub fn verify_into_in<T: Threads + Wait + Sync, W: Write>(
     run: &Runtime<'_, T>,
     terms: &Terms<'_>,
@@ -25,7 +25,7 @@ pub fn verify_into_in<T: Threads + Wait + Sync, W: Write>(
     out: W,
 ) -> (Result<u8, Failure>, W)
     ensures known { IfOk result.0 (λ status. status ≤ 2) }
-    ensures verified { IfOk result.0 (IsVerifiedIntoOf terms.now
+    ensures verified { IfOk result.0 (IsVerifiedIntoOf terms.now folders.entry into.now
         (W.contents out) (W.contents result.1)) }
     ensures quiet { IfErr result.0 (λ f. f ≢ Failure.Memory → f ≢ Failure.Output
         → W.contents result.1 ≡ W.contents out) }
@@ -49,7 +49,11 @@ fn three_folders<'a, T>(
     run: &'a Runtime<'_, T>,
     folders: FolderPaths<'_>,
     into: &str,
-) -> Result<(CountedFolders<'a>, Below<'a, HostRuntime>), AllocError> {
+) -> Result<(CountedFolders<'a>, Below<'a, HostRuntime>), AllocError>
+    ensures metadata { IfOk result (λ x. x.0.metadata.path ≡ folders.entry.metadata.now) }
+    ensures targets { IfOk result (λ x. x.0.targets.folder.path ≡ folders.entry.targets.now) }
+    ensures into { IfOk result (λ x. string_bytes x.1.folder ≡ into.now) }
+{
     let repository = two_folders(run, folders)?;
     let copies = Below::new(run.host, String::from_str(run.alloc, into)?);
     Ok((repository, copies))

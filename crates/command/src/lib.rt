@@ -7,6 +7,7 @@
 //!   `update` prints and returns that the subcommand names. A [`Runtime`] is what it runs on.
 #![tactic(auto)]
 
+mod apart;
 mod carrying;
 mod dispatch;
 mod folders;

@@ -2,6 +2,7 @@
 
 ghost use Rattle.std.specs.Prelude.{◌≡◌, IfOk};
 
+use crate::listed::MOST_GIVEN;
 use failure::{Failure, of_io};
 use folder::path_below;
 use std::alloc::Global;
@@ -15,7 +16,7 @@ use update::read_file;
 pub fn make(rt: &HostRuntime, alloc: Global, script: &str, folder: &str) -> Result<u8, Failure>
     ensures status { IfOk result (λ status. status ≡ 0) }
 {
-    let script = read_file(&Machine::new(rt), script, Failure::Input)?;
+    let script = read_file(&Machine::new(rt), script, MOST_GIVEN, Failure::Input)?;
     let Ok(text) = std::str::from_utf8(script.as_slice()) else {
         return Err(Failure::Input);
     };

@@ -1,12 +1,14 @@
 //! Subcommands, read from the command line.
 
+use crate::apart::are_apart;
 use crate::listed::given_paths;
 use crate::subcommand::{FolderPaths, Subcommand};
 use crate::terms::{all_of, number, settings, wants, word};
 use clap::ArgMatches;
 use failure::Failure;
+use replay::Cycles;
 use std::alloc::Global;
-use update::{Cycles, Terms, Wanted};
+use update::{Terms, Wanted};
 
 /// Returns the subcommand that the arguments name. Reads the file of `--paths-from`, if there is
 /// one. Fails with `Words` if an argument is missing, and as [`given_paths`] does.
@@ -70,8 +72,12 @@ fn replay_of<'a>(
     alloc: Global,
     words: &ArgMatches<'a>,
 ) -> Result<Subcommand<'a>, Failure> {
+    let settings = match settings(words) {
+        Ok(settings) => settings,
+        Err(failure) => return Err(failure),
+    };
     let cycles = Cycles {
-        settings: settings(words)?,
+        settings,
         wanted: given_paths(rt, alloc, words)?,
         keep: number(words, "keep")?,
     };
@@ -87,12 +93,17 @@ fn verify_of<'a>(
     alloc: Global,
     words: &ArgMatches<'a>,
 ) -> Result<Subcommand<'a>, Failure> {
-    let terms = Terms {
-        settings: settings(words)?,
-        wanted: wanted_of(rt, alloc, words)?,
+    let settings = match settings(words) {
+        Ok(settings) => settings,
+        Err(failure) => return Err(failure),
     };
     let folders = folder_paths(words)?;
-    Ok(match into_of(words)? {
+    let into = into_of(rt, alloc, words)?;
+    let terms = Terms {
+        settings,
+        wanted: wanted_of(rt, alloc, words)?,
+    };
+    Ok(match into {
         None => Subcommand::Verify { terms, folders },
         Some(into) => Subcommand::VerifyInto {
             terms,
@@ -118,10 +129,28 @@ fn folder_paths<'a>(words: &ArgMatches<'a>) -> Result<FolderPaths<'a>, Failure> 
     })
 }
 
-/// Returns the folder for copies, if there is one. Fails with `Words` if its path is empty.
-fn into_of<'a>(words: &ArgMatches<'a>) -> Result<Option<&'a str>, Failure> {
-    match words.get_str("into") {
-        Some("") => Err(Failure::Words),
-        into => Ok(into),
+/// The arguments that name what a run reads and stores.
+const NAMED: [&str; 5] = ["state", "out", "metadata", "targets", "paths-from"];
+
+/// Returns the folder for copies, if there is one. Fails with `Words` if its path is empty, or if it
+/// isn't apart from what the other arguments name.
+fn into_of<'a>(
+    rt: &HostRuntime,
+    alloc: Global,
+    words: &ArgMatches<'a>,
+) -> Result<Option<&'a str>, Failure> {
+    let Some(into) = words.get_str("into") else {
+        return Ok(None);
+    };
+    if into.is_empty() {
+        return Err(Failure::Words);
     }
+    for name in NAMED {
+        if let Some(path) = words.get_str(name) {
+            if path != "-" && !are_apart(rt, alloc, into, path)? {
+                return Err(Failure::Words);
+            }
+        }
+    }
+    Ok(Some(into))
 }

@@ -1,6 +1,7 @@
 //! The subcommands and their arguments.
 
-use update::{Cycles, Terms, Wants};
+use replay::Cycles;
+use update::{Terms, Wants};
 
 /// The paths of a repository's two folders.
 #[derive(Clone, Copy)]

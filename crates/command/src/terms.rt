@@ -1,20 +1,35 @@
 //! The arguments of a subcommand.
 
+use cjson::number::Within;
 use clap::ArgMatches;
+use cycle::Limits;
 use failure::Failure;
 use needs::Place;
 use std::alloc::{AllocError, Global};
-use update::{Settings, Wants};
+use update::{Locking, Settings, Wants};
+
+/// Maximum number of checks of a plan.
+const CHECKS: usize = 4096;
 
 /// Returns what the arguments of both `verify` and `replay` name.
 pub fn settings<'a>(matches: &ArgMatches<'a>) -> Result<Settings<'a>, Failure> {
     Ok(Settings {
         state: word(matches, "state")?,
+        locking: locking(matches),
         moment: matches.get_str("now"),
-        limit: number(matches, "limit")?,
+        limits: limits(matches)?,
         workers: number(matches, "workers")?,
         out: word(matches, "out")?,
     })
+}
+
+/// Returns whether the state file has to be locked.
+fn locking(matches: &ArgMatches<'_>) -> Locking {
+    if matches.get_flag("unlocked") {
+        Locking::Without
+    } else {
+        Locking::Needed
+    }
 }
 
 /// Returns what the arguments of `next` name, with these wanted paths.
@@ -22,10 +37,15 @@ pub fn wants<'a>(matches: &ArgMatches<'a>, wanted: Vec<String>) -> Result<Wants<
     Ok(Wants {
         state: word(matches, "state")?,
         moment: matches.get_str("now"),
-        limit: number(matches, "limit")?,
+        limits: limits(matches)?,
         wanted,
         only: matches.get_str("only").map(place_of),
     })
+}
+
+/// Returns the limits of a run. Fails with `Words` as [`number`] does.
+fn limits(matches: &ArgMatches<'_>) -> Result<Limits, Failure> {
+    Limits::new(whole(matches, "limit")?, CHECKS).ok_or(Failure::Words)
 }
 
 /// Returns the folder of that name.
@@ -42,8 +62,15 @@ pub fn word<'a>(matches: &ArgMatches<'a>, name: &str) -> Result<&'a str, Failure
     matches.get_str(name).ok_or(Failure::Words)
 }
 
-/// Returns the number of that name. Fails with `Words` if it is missing.
-pub fn number(matches: &ArgMatches<'_>, name: &str) -> Result<usize, Failure> {
+/// Returns the number of that name. Fails with `Words` if it is missing or out of its range.
+pub fn number<const LEAST: u64, const MOST: u64>(
+    matches: &ArgMatches<'_>,
+    name: &str,
+) -> Result<Within<LEAST, MOST>, Failure> {
+    Within::new(whole(matches, name)? as u64).ok_or(Failure::Words)
+}
+
+fn whole(matches: &ArgMatches<'_>, name: &str) -> Result<usize, Failure> {
     matches.get_one::<usize>(name).ok_or(Failure::Words)
 }
 

@@ -1,39 +1,31 @@
 //! A folder of the file system for copies.
 
-ghost use Rattle.std.specs.Prelude.{true};
+ghost use Rattle.std.specs.Prelude.{◌≡◌, is_none, is_some, string_bytes, true};
+ghost use Rattle.std.specs.Option.{option_map_or};
 
 use crate::destination::Destination;
+use crate::temporary::{Own, own_folder};
 use folder::{Sink, path_below};
-use std::alloc::Global;
-use std::fs::{self, DirBuilder, OpenFile, OpenOptions};
-use std::io::{self, ErrorKind, Write};
-use std::os::unix::fs::DirBuilderExt;
+use std::alloc::{AllocError, Global};
+use std::collections::BTreeSet;
+use std::fs::{self, OpenOptions};
+use std::io::{self, ErrorKind};
 use std::rt::Files;
-
-/// How many names are tried for the folder of the temporary files.
-const NAMES: u32 = 1000;
-
-/// The mode of a folder that only its owner may use.
-const OWNERS: u32 = 0o700;
+use system::{OwnFile, Temporary, flush_folder};
 
 /// A folder of the file system, which is made if it isn't there. The temporary files are in a new
 /// folder directly below it, which only its owner may use: `.tufcheck.N.new`, with the first N from
 /// 1 that is free.
 #[derive(Drop)]
-pub struct Below<'a, R> {
+pub struct Below<'a, R: Files> {
     rt: &'a R,
     folder: String,
     /// The folder of the temporary files, once it was made.
-    own: Option<Own>,
+    own: Option<Own<R::File>>,
     /// How many temporary files were made.
     count: u64,
-}
-
-/// The folder of the temporary files.
-#[derive(Drop)]
-struct Own {
-    name: String,
-    path: String,
+    /// Whether the folders of the copies are flushed.
+    is_flushed: bool,
 }
 
 /// A temporary file of the file system.
@@ -42,105 +34,148 @@ pub struct NewFile<F> {
     path: String,
     /// The open file, until it was written or a piece of it couldn't be.
     file: Option<F>,
+    is_ended: bool,
 }
 
-impl<F: Write + OpenFile + Drop> Sink for NewFile<F> {
-    ghost took = { λ _ _. true };
+impl<F: OwnFile + Drop> Sink for NewFile<F> {
+    ghost took = { λ f bytes. option_map_or (λ w. F.has w bytes) f.file true };
 
     fn take(&mut self, piece: &[u8]) {
         if let Some(file) = &mut self.file {
-            if file.write_all(piece).is_err() {
+            if file.add(piece).is_err() {
                 self.file = None;
             }
         }
     }
 }
 
+impl<F: OwnFile + Drop> Temporary for NewFile<F> {
+    ghost is_lost = { λ f. is_none f.file };
+
+    ghost wrote = { λ f _. f.is_ended };
+
+    fn path(&self) -> &str {
+        self.path.as_str()
+    }
+}
+
 impl<'a, R: Files> Below<'a, R> {
     /// Returns the folder of that path. Nothing is made yet.
-    pub fn new(rt: &'a R, folder: String) -> Below<'a, R> {
+    pub fn new(rt: &'a R, folder: String) -> Below<'a, R>
+        ensures folder { result.folder ≡ folder }
+    {
         Below {
             rt,
             folder,
             own: None,
             count: 0,
-        }
-    }
-
-    /// Makes the folder of the temporary files, under the first name that is free.
-    fn make_own(&mut self, alloc: Global) -> io::Result<()> {
-        fs::create_dir_all(self.rt, self.folder.as_str())?;
-        for number in 1..=NAMES {
-            let name = format!(in alloc; ".tufcheck.{number}.new")?;
-            let path = path_below(alloc, self.folder.as_str(), name.as_str())?;
-            match DirBuilder::new()
-                .mode(OWNERS)
-                .create(self.rt, path.as_str())
-            {
-                Err(error) if error.kind() == ErrorKind::AlreadyExists => {}
-                Err(error) => return Err(error),
-                Ok(()) => {
-                    self.own = Some(Own { name, path });
-                    return Ok(());
-                }
-            }
-        }
-        Err(io::Error::from(ErrorKind::AlreadyExists))
-    }
-
-    /// Returns whether the path leads to the folder of the temporary files, or into it.
-    fn is_taken(&self, path: &str) -> bool {
-        let first = match path.split_once('/') {
-            Some((first, _)) => first,
-            None => path,
-        };
-        match &self.own {
-            Some(folder) => first == folder.name.as_str(),
-            None => false,
+            is_flushed: false,
         }
     }
 }
 
-impl<'a, R: Files> Destination for Below<'a, R> {
+/// Returns the folders of the paths below `top` whose copy was stored, and those above them up to
+/// `top`.
+fn folders_of(
+    alloc: Global,
+    top: &str,
+    paths: &[String],
+    stored: &[bool],
+) -> Result<BTreeSet<String>, AllocError> {
+    let mut folders = BTreeSet::new(alloc);
+    for (path, is_stored) in paths.iter().zip(stored.iter()) {
+        let place = path_below(alloc, top, path.as_str())?;
+        if let Some((folder, _)) = place.rsplit_once('/') {
+            if *is_stored {
+                add_folder(alloc, &mut folders, top, folder)?;
+            }
+        }
+    }
+    Ok(folders)
+}
+
+/// Adds the folder, and those above it up to `top`.
+fn add_folder(
+    alloc: Global,
+    folders: &mut BTreeSet<String>,
+    top: &str,
+    folder: &str,
+) -> Result<(), AllocError> {
+    let mut folder = folder;
+    for _ in 0..folder.len() {
+        if folders.contains(folder) {
+            return Ok(());
+        }
+        folders.insert(String::from_str(alloc, folder)?)?;
+        if folder == top {
+            return Ok(());
+        }
+        if let Some((above, _)) = folder.rsplit_once('/') {
+            folder = above;
+        }
+    }
+    Ok(())
+}
+
+impl<'a, R: Files> Destination for Below<'a, R>
+where
+    R::File: OwnFile,
+{
     type Temporary = NewFile<R::File>;
 
-    ghost keeps = { λ _ _ _. true };
+    ghost place = { λ b. string_bytes b.folder };
+
+    ghost is_left = { λ b. is_some b.own };
+
+    ghost is_flushed = { λ b. b.is_flushed };
+
+    ghost blocks = { λ _ _. true };
 
     fn begin(&mut self, alloc: Global) -> io::Result<NewFile<R::File>> {
         if self.own.is_none() {
-            self.make_own(alloc)?;
+            self.own = Some(own_folder(self.rt, alloc, self.folder.as_str())?);
         }
         let Some(folder) = &self.own else {
             return Err(io::Error::from(ErrorKind::NotFound));
         };
         self.count = self.count.saturating_add(1);
         let number = format!(in alloc; "{}", self.count)?;
-        let path = path_below(alloc, folder.path.as_str(), number.as_str())?;
+        let path = path_below(alloc, folder.path(), number.as_str())?;
         let mut options = OpenOptions::new();
         options.write(true).create_new(true);
-        let file = options.open(self.rt, path.as_str())?;
+        let mut file = options.open(self.rt, path.as_str())?;
+        file.begin()?;
         Ok(NewFile {
             path,
             file: Some(file),
+            is_ended: false,
         })
     }
 
     fn finish(&mut self, file: &mut NewFile<R::File>) -> io::Result<()> {
-        let Some(open) = file.file.take() else {
+        let Some(mut open) = file.file.take() else {
             return Err(io::Error::from(ErrorKind::Other));
         };
-        open.sync_all()
+        open.flush_all()?;
+        file.is_ended = true;
+        Ok(())
     }
 
-    fn take_over(&mut self, alloc: Global, file: &NewFile<R::File>, path: &str) -> io::Result<()> {
-        if self.is_taken(path) {
-            return Err(io::Error::from(ErrorKind::AlreadyExists));
-        }
+    fn place_for(&self, alloc: Global, path: &str) -> io::Result<String> {
         let place = path_below(alloc, self.folder.as_str(), path)?;
-        if let Some((folders, _)) = place.rsplit_once('/') {
-            fs::create_dir_all(self.rt, folders)?;
+        if let Some((folder, _)) = place.rsplit_once('/') {
+            fs::create_dir_all(self.rt, folder)?;
         }
-        fs::rename(self.rt, file.path.as_str(), place.as_str())
+        Ok(place)
+    }
+
+    fn flush(&mut self, alloc: Global, paths: &[String], stored: &[bool]) -> io::Result<()> {
+        let folders = folders_of(alloc, self.folder.as_str(), paths, stored)?;
+        for folder in &folders {
+            flush_folder(self.rt, folder.as_str())?;
+        }
+        self.is_flushed = true;
+        Ok(())
     }
 
     fn discard(&mut self, file: NewFile<R::File>) {
@@ -149,7 +184,7 @@ impl<'a, R: Files> Destination for Below<'a, R> {
 
     fn clear(&mut self, alloc: Global) {
         if let Some(folder) = self.own.take() {
-            let _ = self.rt.remove_dir_all(alloc, folder.path.as_str());
+            folder.remove(self.rt, alloc);
         }
     }
 }

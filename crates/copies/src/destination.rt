@@ -1,48 +1,71 @@
 //! The interface of a folder for copies.
 
-ghost use Rattle.std.specs.Prelude.{◌≡◌, ◌≢◌, List, [], ℕ, Bool, true, IfOk, OnErr, OnOk};
-ghost use Rattle.copies.specs.Paths.{IsSameAt, is_below};
+ghost use Rattle.std.specs.Prelude.{◌≡◌, List, [], ℕ, Bool, true, false, IfErr, IfOk, OnOk};
+ghost use Rattle.std.specs.Prelude.{string_bytes};
+ghost use Rattle.std.specs.IoError.{error_kind};
+ghost use Rattle.copies.specs.Paths.{is_below};
+ghost use Rattle.folder.specs.Folders.{path_below};
+ghost use Rattle.system.specs.Blocked.{is_of_path};
 
-use folder::Sink;
 use std::alloc::Global;
 use std::io;
+use system::Temporary;
 
 /// A folder for copies of files. Each copy is written to a temporary file, a piece at a time, and
-/// has no path until it is complete.
+/// has no path until it is complete. Then it is a [`System`](system::System) that moves it to its
+/// place, which is the one that stores files.
 pub trait Destination {
     /// A temporary file.
-    type Temporary: Sink + Drop;
+    type Temporary: Temporary + Drop;
 
-    /// Whether the path was stored with the bytes.
-    ghost keeps: { Self → List ℕ → List ℕ → Bool };
+    /// The path of the folder.
+    ghost place: { Self → List ℕ };
+
+    /// Whether `place_for` may fail for the path since no file can be put there.
+    ghost blocks: { Self → List ℕ → Bool };
+
+    /// Whether a temporary file may be left.
+    ghost is_left: { Self → Bool };
+
+    /// Whether the folders of copies that were stored are flushed to the device.
+    ghost is_flushed: { Self → Bool };
 
     /// Makes a temporary file, which is empty.
     fn begin(&mut self, alloc: Global) -> io::Result<Self::Temporary>
         ensures empty { IfOk result (λ file. Self.Temporary.took file [] ≡ true) }
-        ensures kept { keeps self.new ≡ keeps self.old };
+        ensures same_place { place self.new ≡ place self.old };
 
     /// Ends the writing of a temporary file: flushes it to the device. Fails also if a piece
     /// couldn't be written.
     fn finish(&mut self, file: &mut Self::Temporary) -> io::Result<()>
-        ensures same { Self.Temporary.took file.new ≡ Self.Temporary.took file.old }
-        ensures kept { keeps self.new ≡ keeps self.old };
+        ensures whole { OnOk result (Self.Temporary.is_lost file.old ≡ false) }
+        ensures wrote { OnOk result ((bytes : List ℕ) → Self.Temporary.took file.old bytes ≡ true
+            → Self.Temporary.wrote file.new bytes ≡ true) }
+        ensures same_place { place self.new ≡ place self.old };
 
-    /// Stores a temporary file that is finished for the path, in one step, in place of what the
-    /// path had. Makes the folders of the path. On error nothing that was stored changes, and
-    /// nothing for other paths ever does.
-    fn take_over(&mut self, alloc: Global, file: &Self::Temporary, path: &str) -> io::Result<()>
+    /// Returns the place of the copy for a path, and makes the folders of the path.
+    fn place_for(&self, alloc: Global, path: &str) -> io::Result<String>
         requires below { is_below path.now ≡ true }
-        ensures stored { OnOk result ((bytes : List ℕ)
-            → Self.Temporary.took file.now bytes ≡ true → keeps self.new path.now bytes ≡ true) }
-        ensures others { (other : List ℕ) → other ≢ path.now
-            → IsSameAt other (keeps self.old) (keeps self.new) }
-        ensures refused { OnErr result (keeps self.new ≡ keeps self.old) };
+        ensures place { IfOk result (λ text.
+            string_bytes text ≡ path_below (place self.now) path.now) }
+        ensures blocked { IfErr result (λ e. is_of_path (error_kind e) ≡ true
+            → blocks self.now path.now ≡ true) };
+
+    /// Flushes the folders of the paths whose copy was stored to the device, and those above them
+    /// up to this one. `stored` has by position whether it was.
+    fn flush(&mut self, alloc: Global, paths: &[String], stored: &[bool]) -> io::Result<()>
+        ensures flushed { OnOk result (is_flushed self.new ≡ true) }
+        ensures same_blocks { blocks self.new ≡ blocks self.old }
+        ensures same_place { place self.new ≡ place self.old };
 
     /// Removes a temporary file.
     fn discard(&mut self, file: Self::Temporary)
-        ensures kept { keeps self.new ≡ keeps self.old };
+        ensures same_place { place self.new ≡ place self.old };
 
     /// Removes all temporary files.
     fn clear(&mut self, alloc: Global)
-        ensures kept { keeps self.new ≡ keeps self.old };
+        ensures gone { is_left self.new ≡ false }
+        ensures flushed { is_flushed self.new ≡ is_flushed self.old }
+        ensures same_blocks { blocks self.new ≡ blocks self.old }
+        ensures same_place { place self.new ≡ place self.old };
 }

@@ -10,6 +10,7 @@
 mod below;
 mod destination;
 mod path;
+mod temporary;
 
 pub use below::{Below, NewFile};
 pub use destination::Destination;

@@ -1,35 +1,45 @@
 //! Copies of the files that searches found.
 
-ghost use Rattle.std.specs.Prelude.{◌≡◌, true};
+ghost use Rattle.std.specs.Prelude.{◌≡◌, ◌&&◌, ◌||◌, bytes_eq, codes, false, true};
 
 use crate::found::{LINES, PLAIN, course, wanted};
 use crate::repositories::made;
 use copies::Destination;
 use failure::Failure;
 use file_tests::Memory;
-use folder::{Folder, Sink};
+use folder::{Folder, Sink, path_below};
 use measured::{Copied, close_into};
 use report::tell;
 use std::alloc::Global;
 use std::io::{self, ErrorKind};
 use std::process::Abort;
+use system::Temporary;
 
-/// A temporary file in memory.
+/// A temporary file in memory. What it was given is known, unless a piece of it was lost.
+#[derive(Drop)]
 struct Piece {
     bytes: Vec<u8>,
-}
-
-impl Drop for Piece {
-    fn drop(self) {
-        let Piece { bytes } = self;
-    }
+    is_lost: bool,
+    is_ended: bool,
 }
 
 impl Sink for Piece {
-    ghost took = { λ _ _. true };
+    ghost took = { λ p bytes. p.is_lost || bytes_eq p.bytes.items bytes };
 
     fn take(&mut self, piece: &[u8]) {
-        self.bytes.extend_from_slice(piece).ok();
+        if self.bytes.extend_from_slice(piece).is_err() {
+            self.is_lost = true;
+        }
+    }
+}
+
+impl Temporary for Piece {
+    ghost is_lost = { λ p. p.is_lost };
+
+    ghost wrote = { λ p bytes. p.is_ended && bytes_eq p.bytes.items bytes };
+
+    fn path(&self) -> &str {
+        ""
     }
 }
 
@@ -52,7 +62,13 @@ struct Kept {
 impl Destination for Kept {
     type Temporary = Piece;
 
-    ghost keeps = { λ _ _ _. true };
+    ghost place = { λ _. codes "to" };
+
+    ghost blocks = { λ _ _. true };
+
+    ghost is_left = { λ _. false };
+
+    ghost is_flushed = { λ _. true };
 
     fn begin(&mut self, alloc: Global) -> io::Result<Piece> {
         if self.failing == Failing::Begin {
@@ -61,17 +77,24 @@ impl Destination for Kept {
         self.made = self.made.saturating_add(1);
         Ok(Piece {
             bytes: Vec::new(alloc),
+            is_lost: false,
+            is_ended: false,
         })
     }
 
-    fn finish(&mut self, _file: &mut Piece) -> io::Result<()> {
-        if self.failing == Failing::Finish {
+    fn finish(&mut self, file: &mut Piece) -> io::Result<()> {
+        if self.failing == Failing::Finish || file.is_lost {
             return Err(io::Error::from(ErrorKind::Other));
         }
+        file.is_ended = true;
         Ok(())
     }
 
-    fn take_over(&mut self, _alloc: Global, _file: &Piece, _path: &str) -> io::Result<()> {
+    fn place_for(&self, alloc: Global, path: &str) -> io::Result<String> {
+        Ok(path_below(alloc, "to", path)?)
+    }
+
+    fn flush(&mut self, _alloc: Global, _paths: &[String], _stored: &[bool]) -> io::Result<()> {
         Ok(())
     }
 

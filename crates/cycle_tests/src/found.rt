@@ -1,7 +1,7 @@
 //! Target files that searches found, each of which is read once.
 
-ghost use Rattle.std.specs.Prelude.{◌≡◌, ◌≤◌, ◌<◌, ◌⊎◌, ◌^◌, ◌-◌, true, IfSome};
-ghost use Rattle.folder.specs.Folders.{HasFailed};
+ghost use Rattle.std.specs.Prelude.{◌≡◌, ◌≤◌, ◌<◌, ◌⊎◌, ◌^◌, ◌-◌, true, IfSome, None};
+ghost use Rattle.folder.specs.Folders.{HasGrown};
 ghost use Rattle.folder.specs.Measures.{IsMeasure};
 
 use crate::repositories::{first_state, limits_of, made, metadata, moment, string};
@@ -105,7 +105,7 @@ impl Counting {
     }
 
     fn fail(&mut self) -> LoadFault
-        ensures failed { HasFailed self.old.faults self.new.faults }
+        ensures failed { HasGrown self.old.faults self.new.faults }
         ensures counts { self.old.faults ≤ self.new.faults }
     {
         self.faults = self.faults.saturating_add(1);
@@ -114,11 +114,12 @@ impl Counting {
 }
 
 impl Folder for Counting {
-    ghost lists = { λ _ _. true };
-
-    ghost holds = { λ _ _ _. true };
-
-    ghost failures = { λ s. s.faults };
+    ghost gives = { λ s. record {
+      lists = λ _. true;
+      holds = λ _ _. true;
+      failures = s.faults;
+      place = None;
+    } };
 
     fn names(&mut self, alloc: Global) -> Result<Vec<String>, LoadFault> {
         let mut names = Vec::new(alloc);

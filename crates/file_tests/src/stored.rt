@@ -1,12 +1,12 @@
 //! A folder in memory.
 
 ghost use Rattle.std.specs.Prelude.{◌≡◌, ◌≤◌, ◌<◌, ◌⊎◌, ◌^◌, ◌-◌, List, ℕ, Bool, false, IsErr};
-ghost use Rattle.std.specs.Prelude.{OnErr, map, string_bytes};
+ghost use Rattle.std.specs.Prelude.{None, OnErr, map, string_bytes};
 ghost use Rattle.std.specs.BTreeMap.{get_by_text};
 ghost use Rattle.std.specs.Cmp.Lexicographic.{pointwise};
 ghost use Rattle.std.specs.Option.{option_map_or};
 ghost use Rattle.std.specs.Str.{bytes_eq};
-ghost use Rattle.folder.specs.Folders.{HasFailed};
+ghost use Rattle.folder.specs.Folders.{HasGrown};
 
 use folder::{Folder, LoadFault};
 use std::alloc::{AllocError, Global};
@@ -49,7 +49,7 @@ impl Memory {
     }
 
     fn fail(&mut self) -> LoadFault
-        ensures failed { HasFailed self.old.faults self.new.faults }
+        ensures failed { HasGrown self.old.faults self.new.faults }
         ensures counts { self.old.faults ≤ self.new.faults }
         ensures same_names { self.new.names ≡ self.old.names }
         ensures same_files { self.new.files ≡ self.old.files }
@@ -59,7 +59,7 @@ impl Memory {
     }
 
     fn turn(&mut self) -> Result<(), LoadFault>
-        ensures failed { OnErr result (HasFailed self.old.faults self.new.faults) }
+        ensures failed { OnErr result (HasGrown self.old.faults self.new.faults) }
         ensures counts { self.old.faults ≤ self.new.faults }
         ensures same_names { self.new.names ≡ self.old.names }
         ensures same_files { self.new.files ≡ self.old.files }
@@ -73,12 +73,13 @@ impl Memory {
 }
 
 impl Folder for Memory {
-    ghost lists = { λ s names. pointwise bytes_eq (map string_bytes s.names.items) names };
-
-    ghost holds = { λ s name bytes.
-        option_map_or (λ v. bytes_eq v.items bytes) (get_by_text s.files name) false };
-
-    ghost failures = { λ s. s.faults };
+    ghost gives = { λ s. record {
+      lists = λ names. pointwise bytes_eq (map string_bytes s.names.items) names;
+      holds = λ name bytes.
+          option_map_or (λ v. bytes_eq v.items bytes) (get_by_text s.files name) false;
+      failures = s.faults;
+      place = None;
+    } };
 
     fn names(&mut self, _alloc: Global) -> Result<Vec<String>, LoadFault> {
         self.turn()?;

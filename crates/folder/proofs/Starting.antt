@@ -7,6 +7,7 @@ use Rattle.std.proofs.lemmas.Slice.Eq.{bytes_eq-Decides}
 use Rattle.std.proofs.lemmas.Str.Pattern.{ends_text}
 use Rattle.std.proofs.lemmas.List.{map-append}
 use Rattle.std.proofs.lemmas.List.Folds.{list_any-append}
+use Rattle.folder.specs.Folders.{Giving, IsSameFolder}
 use Rattle.folder.specs.Seen.{IsStartOf, is_named}
 use Rattle.folder.specs.Starts.{AddsStart, HasStarts}
 use Rattle.folder.proofs.Loading.{holds_still}
@@ -60,12 +61,12 @@ module _ {Y Z : Type 0} where
     bytes = has.bytes;
   }
 
-  pub one_start : (ending : List ℕ) (up_to : ℕ) (holds now : List ℕ → List ℕ → Bool) (yielded : List (String Y)) (name : String Y) (old new : BTreeMap (String Y) (Vec ℕ Z))
-      → HasStarts ending up_to holds (map string_bytes yielded) old → ends_with eqb (string_bytes name) ending ≡ true → AddsStart up_to now (string_bytes name) old new → now ≡ holds
-      → HasStarts ending up_to holds (map string_bytes (yielded ++ name ∷ [])) new
-  one_start ending up_to holds now yielded name old new has ends adds same =
+  pub one_start : (ending : List ℕ) (up_to : ℕ) (was now : Giving) (yielded : List (String Y)) (name : String Y) (old new : BTreeMap (String Y) (Vec ℕ Z))
+      → HasStarts ending up_to was.holds (map string_bytes yielded) old → ends_with eqb (string_bytes name) ending ≡ true → AddsStart up_to now.holds (string_bytes name) old new
+      → IsSameFolder was now → HasStarts ending up_to was.holds (map string_bytes (yielded ++ name ∷ [])) new
+  one_start ending up_to was now yielded name old new has ends adds same =
       rw (map-append string_bytes yielded (name ∷ []))
-      (more ending up_to holds _ _ old new has ends (subst (λ h. AddsStart up_to h (string_bytes name) old new) same adds))
+      (more ending up_to was.holds _ _ old new has ends (subst (λ h. AddsStart up_to h (string_bytes name) old new) same.holds adds))
 
   pub one_passed_over : (ending : List ℕ) (up_to : ℕ) (holds : List ℕ → List ℕ → Bool) (yielded : List (String Y)) (name : String Y) (files : BTreeMap (String Y) (Vec ℕ Z))
       → HasStarts ending up_to holds (map string_bytes yielded) files → ends_with eqb (string_bytes name) ending ≡ false

@@ -1,6 +1,6 @@
 //! Folders of the file system.
 
-ghost use Rattle.std.specs.Prelude.{◌≡◌, ◌≤◌, ◌↔◌, true, List, ℕ, Bool, IfOk, None};
+ghost use Rattle.std.specs.Prelude.{◌≡◌, ◌≤◌, ◌↔◌, true, List, ℕ, Bool, IfOk, None, Some};
 ghost use Rattle.std.specs.Prelude.{length, string_bytes};
 ghost use Rattle.std.specs.IoError.{error_kind};
 ghost use Rattle.folder.specs.Folders as spec;
@@ -15,9 +15,10 @@ use crate::start::start_of_reader;
 use crate::stream::Opener;
 use crate::together::measure_jobs;
 use std::alloc::{AllocError, Global};
-use std::fs;
+use std::fs::{self, OpenFile};
 use std::io::{self, ErrorKind};
 use std::marker::Model;
+use std::os::unix::fs::MetadataExt;
 use std::rt::Files;
 
 /// Whether the folders below a folder are read too.
@@ -64,11 +65,12 @@ impl<'a, R> Disk<'a, R> {
 }
 
 impl<'a, R: Files + AllocGlobal + Clone + Drop> Folder for Disk<'a, R> {
-    ghost lists = { λ _ _. true };
-
-    ghost holds = { λ _ _ _. true };
-
-    ghost failures = { λ s. s.faults };
+    ghost gives = { λ s. record {
+      lists = λ _. true;
+      holds = λ _ _. true;
+      failures = s.faults;
+      place = Some s.path;
+    } };
 
     fn names(&mut self, alloc: Global) -> Result<Vec<String>, LoadFault> {
         match all_names(self.rt, alloc, self.path.as_str(), self.depth) {
@@ -81,14 +83,7 @@ impl<'a, R: Files + AllocGlobal + Clone + Drop> Folder for Disk<'a, R> {
     }
 
     fn read(&mut self, alloc: Global, name: &str) -> Result<Vec<u8>, LoadFault> {
-        let path = path_below(alloc, self.path.as_str(), name)?;
-        match fs::read(self.rt, path.as_str()) {
-            Ok(bytes) => Ok(bytes),
-            Err(error) => {
-                self.faults = self.faults.saturating_add(1);
-                Err(fault_of(&error))
-            }
-        }
+        self.read_start(alloc, name, u64::MAX)
     }
 
     fn read_start(&mut self, alloc: Global, name: &str, up_to: u64) -> Result<Vec<u8>, LoadFault> {
@@ -151,7 +146,23 @@ impl<'a, R: Files> Opener for Disk<'a, R> {
 
     fn open(&self, alloc: Global, name: &str) -> io::Result<R::File> {
         let path = path_below(alloc, self.path.as_str(), name)?;
-        fs::open(self.rt, path.as_str())
+        open_plain(self.rt, path.as_str())
+    }
+}
+
+/// Opens the plain file of that path for reading. Fails if there is a link or no plain file, also if
+/// it took the place of one only just now.
+fn open_plain<R: Files>(rt: &R, path: &str) -> io::Result<R::File> {
+    let there = fs::symlink_metadata(rt, path)?;
+    if !there.is_file() {
+        return Err(io::Error::from(ErrorKind::InvalidInput));
+    }
+    let file = fs::open(rt, path)?;
+    let open = file.metadata()?;
+    if open.dev() == there.dev() && open.ino() == there.ino() {
+        Ok(file)
+    } else {
+        Err(io::Error::from(ErrorKind::InvalidInput))
     }
 }
 
@@ -159,7 +170,7 @@ impl<'a, R: Files> Opener for Disk<'a, R> {
 fn start_of_file<R: Files>(rt: &R, alloc: Global, path: &str, up_to: u64) -> io::Result<Vec<u8>>
     ensures { IfOk result (λ start. length start.items ≤ up_to) }
 {
-    let mut file = fs::open(rt, path)?;
+    let mut file = open_plain(rt, path)?;
     start_of_reader(alloc, &mut file, up_to)
 }
 
@@ -167,7 +178,7 @@ fn start_of_file<R: Files>(rt: &R, alloc: Global, path: &str, up_to: u64) -> io:
 fn measure_file<R: Files>(rt: &R, alloc: Global, path: &str, need: Need) -> io::Result<Measure>
     ensures { IfOk result (IsMeasure need) }
 {
-    let mut file = fs::open(rt, path)?;
+    let mut file = open_plain(rt, path)?;
     Measure::of_reader(alloc, need, &mut file)
 }
 
@@ -182,7 +193,7 @@ fn pass_file<R: Files, K: Sink>(
     ensures passed { IfOk result
         (IsPassedOn need (λ _. true) (K.took sink.old) (K.took sink.new)) }
 {
-    let mut file = fs::open(rt, path)?;
+    let mut file = open_plain(rt, path)?;
     measure_and_pass(alloc, need, &mut file, sink)
 }
 

@@ -1,8 +1,8 @@
 //! Folders of files, and what is read from them.
 
-ghost use Rattle.std.specs.Prelude.{◌≡◌, ◌≤◌, ◌<◌, ◌⊎◌, ◌^◌, ◌-◌, List, ℕ, Bool, IsTrue, true};
+ghost use Rattle.std.specs.Prelude.{◌≡◌, List, ℕ, Bool, IsTrue, true};
 ghost use Rattle.std.specs.Prelude.{All, IfOk, IfErr, IfSome, OnOk, map, string_bytes};
-ghost use Rattle.folder.specs.Folders.{AddsFile, HasFailed, IsLoaded};
+ghost use Rattle.folder.specs.Folders.{AddsFile, Giving, HasFailed, IsLoaded, IsSameFolder};
 ghost use Rattle.folder.specs.Measures.{IsMeasureOf, IsMeasuredIn};
 ghost use Rattle.folder.specs.Passing.{IsPassedOn};
 ghost use Rattle.folder.specs.Seen.{IsStartOf};
@@ -46,46 +46,34 @@ impl<T: Drop> From<AllocFailed<T>> for LoadFault {
 
 /// Files by name. What may be listed and read is the folder's meaning, which no call changes.
 pub trait Folder {
-    /// Whether `names` may return the list.
-    ghost lists: { Self → List (List ℕ) → Bool };
-
-    /// Whether `read` may return the bytes for the name.
-    ghost holds: { Self → List ℕ → List ℕ → Bool };
-
-    /// Number of failed calls, up to 2^64 - 1.
-    ghost failures: { Self → ℕ };
+    /// What may be listed and read, and how many calls failed.
+    ghost gives: { Self → Giving };
 
     /// Returns the names of all files. Fails with `Folder`, which counts as a failed call, or with
     /// `NoMemory`.
     fn names(&mut self, alloc: Global) -> Result<Vec<String>, LoadFault>
         ensures given { IfOk result
-            (λ names. lists self.old (map string_bytes names.items) ≡ true) }
+            (λ names. (gives self.old).lists (map string_bytes names.items) ≡ true) }
         ensures failed { IfErr result
-            (λ e. e ≡ fault.Folder → HasFailed (failures self.old) (failures self.new)) }
-        ensures counts { failures self.old ≤ failures self.new }
-        ensures same_lists { lists self.new ≡ lists self.old }
-        ensures same_bytes { holds self.new ≡ holds self.old };
+            (λ e. e ≡ fault.Folder → HasFailed (gives self.old) (gives self.new)) }
+        ensures same { IsSameFolder (gives self.old) (gives self.new) };
 
     /// Reads the file of that name. Fails with `Folder`, which counts as a failed call, or with
     /// `NoMemory`.
     fn read(&mut self, alloc: Global, name: &str) -> Result<Vec<u8>, LoadFault>
-        ensures given { IfOk result (λ bytes. holds self.old name.now bytes.items ≡ true) }
+        ensures given { IfOk result (λ bytes. (gives self.old).holds name.now bytes.items ≡ true) }
         ensures failed { IfErr result
-            (λ e. e ≡ fault.Folder → HasFailed (failures self.old) (failures self.new)) }
-        ensures counts { failures self.old ≤ failures self.new }
-        ensures same_lists { lists self.new ≡ lists self.old }
-        ensures same_bytes { holds self.new ≡ holds self.old };
+            (λ e. e ≡ fault.Folder → HasFailed (gives self.old) (gives self.new)) }
+        ensures same { IsSameFolder (gives self.old) (gives self.new) };
 
     /// Reads the first `up_to` bytes of the file of that name, or all if it has no more. Fails with
     /// `Folder`, which counts as a failed call, or with `NoMemory`.
     fn read_start(&mut self, alloc: Global, name: &str, up_to: u64) -> Result<Vec<u8>, LoadFault>
         ensures given { IfOk result
-            (λ bytes. IsStartOf (holds self.old name.now) up_to bytes.items) }
+            (λ bytes. IsStartOf ((gives self.old).holds name.now) up_to bytes.items) }
         ensures failed { IfErr result
-            (λ e. e ≡ fault.Folder → HasFailed (failures self.old) (failures self.new)) }
-        ensures counts { failures self.old ≤ failures self.new }
-        ensures same_lists { lists self.new ≡ lists self.old }
-        ensures same_bytes { holds self.new ≡ holds self.old }
+            (λ e. e ≡ fault.Folder → HasFailed (gives self.old) (gives self.new)) }
+        ensures same { IsSameFolder (gives self.old) (gives self.new) }
     {
         let mut bytes = self.read(alloc, name)?;
         cut(&mut bytes, up_to);
@@ -95,12 +83,10 @@ pub trait Folder {
     /// Measures the file of that name, which is read once. Fails with `Folder`, which counts as a
     /// failed call, or with `NoMemory`.
     fn measure(&mut self, alloc: Global, name: &str, need: Need) -> Result<Measure, LoadFault>
-        ensures given { IfOk result (IsMeasureOf need (holds self.old name.now)) }
+        ensures given { IfOk result (IsMeasureOf need ((gives self.old).holds name.now)) }
         ensures failed { IfErr result
-            (λ e. e ≡ fault.Folder → HasFailed (failures self.old) (failures self.new)) }
-        ensures counts { failures self.old ≤ failures self.new }
-        ensures same_lists { lists self.new ≡ lists self.old }
-        ensures same_bytes { holds self.new ≡ holds self.old }
+            (λ e. e ≡ fault.Folder → HasFailed (gives self.old) (gives self.new)) }
+        ensures same { IsSameFolder (gives self.old) (gives self.new) }
     {
         let bytes = self.read(alloc, name)?;
         Ok(Measure::of(need, bytes.as_slice()))
@@ -115,13 +101,11 @@ pub trait Folder {
         need: Need,
         sink: &mut K,
     ) -> Result<Measure, LoadFault>
-        ensures given { IfOk result (IsPassedOn need (holds self.old name.now)
+        ensures given { IfOk result (IsPassedOn need ((gives self.old).holds name.now)
             (K.took sink.old) (K.took sink.new)) }
         ensures failed { IfErr result
-            (λ e. e ≡ fault.Folder → HasFailed (failures self.old) (failures self.new)) }
-        ensures counts { failures self.old ≤ failures self.new }
-        ensures same_lists { lists self.new ≡ lists self.old }
-        ensures same_bytes { holds self.new ≡ holds self.old }
+            (λ e. e ≡ fault.Folder → HasFailed (gives self.old) (gives self.new)) }
+        ensures same { IsSameFolder (gives self.old) (gives self.new) }
     {
         let bytes = self.read_start(alloc, name, need.up_to)?;
         sink.take(bytes.as_slice());
@@ -131,7 +115,7 @@ pub trait Folder {
     /// Measures the file in the same way for a thread that shares the folder with others. Returns
     /// None if a shared folder can't be read or the call fails, and doesn't count a failure.
     fn measure_shared(&self, alloc: Global, name: &str, need: Need) -> Option<Measure>
-        ensures given { IfSome result (IsMeasureOf need (holds self.now name.now)) }
+        ensures given { IfSome result (IsMeasureOf need ((gives self.now).holds name.now)) }
     {
         None
     }
@@ -139,7 +123,7 @@ pub trait Folder {
     /// Measures the files of these jobs in the same way, as `measure_shared` would each, the last
     /// job first. Returns those that were measured.
     fn measure_many(&self, alloc: Global, jobs: Vec<Job>) -> Vec<Done>
-        ensures given { All (IsMeasuredIn (holds self.now)) result.items }
+        ensures given { All (IsMeasuredIn (gives self.now).holds) result.items }
     {
         let mut jobs = jobs;
         let mut done = Vec::new(alloc);
@@ -161,7 +145,7 @@ pub trait Folder {
 
     /// Returns the number of failed calls, up to 2^64 - 1.
     fn failed(&self) -> u64
-        ensures count { result ≡ failures self.now };
+        ensures count { result ≡ (gives self.now).failures };
 }
 
 /// Adds a file that was measured, unless out of memory.
@@ -174,11 +158,7 @@ fn add(all: &mut Vec<Done>, done: Done)
 
 /// A folder behind a reference.
 impl<F: Folder> Folder for &mut F {
-    ghost lists = { λ s. F.lists s.now };
-
-    ghost holds = { λ s. F.holds s.now };
-
-    ghost failures = { λ s. F.failures s.now };
+    ghost gives = { λ s. F.gives s.now };
 
     fn names(&mut self, alloc: Global) -> Result<Vec<String>, LoadFault> {
         (**self).names(alloc)
@@ -222,17 +202,15 @@ impl<F: Folder> Folder for &mut F {
 /// Reads all files of a folder, by name: each name of one list that `names` may return, with bytes
 /// that `read` may return for it. The names come from the folder alone. Fails with `Folder` only if
 /// a call of the folder failed, or with `NoMemory`.
-#[tactic(auto, using(crate::proofs::Loading::one_more))]
+#[tactic(auto, using(crate::proofs::Loading::one_more, crate::proofs::Sameness::sameness))]
 pub fn load<F: Folder>(
     alloc: Global,
     folder: &mut F,
 ) -> Result<BTreeMap<String, Vec<u8>>, LoadFault>
-    ensures files { IfOk result (IsLoaded (F.lists folder.old) (F.holds folder.old)) }
+    ensures files { IfOk result (IsLoaded (F.gives folder.old).lists (F.gives folder.old).holds) }
     ensures failed { IfErr result (λ e. e ≡ fault.Folder
-        → HasFailed (F.failures folder.old) (F.failures folder.new)) }
-    ensures counts { F.failures folder.old ≤ F.failures folder.new }
-    ensures same_lists { F.lists folder.new ≡ F.lists folder.old }
-    ensures same_bytes { F.holds folder.new ≡ F.holds folder.old }
+        → HasFailed (F.gives folder.old) (F.gives folder.new)) }
+    ensures same { IsSameFolder (F.gives folder.old) (F.gives folder.new) }
 {
     let names = folder.names(alloc)?;
     let mut files = BTreeMap::new(alloc);
@@ -251,12 +229,10 @@ fn add_file<F: Folder>(
     files: &mut BTreeMap<String, Vec<u8>>,
 ) -> Result<(), LoadFault>
     ensures added { OnOk result
-        (AddsFile (F.holds folder.old) (string_bytes name) files.old files.new) }
+        (AddsFile (F.gives folder.old).holds (string_bytes name) files.old files.new) }
     ensures failed { IfErr result (λ e. e ≡ fault.Folder
-        → HasFailed (F.failures folder.old) (F.failures folder.new)) }
-    ensures counts { F.failures folder.old ≤ F.failures folder.new }
-    ensures same_lists { F.lists folder.new ≡ F.lists folder.old }
-    ensures same_bytes { F.holds folder.new ≡ F.holds folder.old }
+        → HasFailed (F.gives folder.old) (F.gives folder.new)) }
+    ensures same { IsSameFolder (F.gives folder.old) (F.gives folder.new) }
 {
     let bytes = folder.read(alloc, name.as_str())?;
     files.insert(name, bytes)?;
@@ -265,7 +241,7 @@ fn add_file<F: Folder>(
 
 /// Reads the first `up_to` bytes of each file whose name has this ending. Other files aren't
 /// opened. Fails with `Folder` only if a call of the folder failed, or with `NoMemory`.
-#[tactic(auto, using(crate::proofs::Starting::one_more_name))]
+#[tactic(auto, using(crate::proofs::Starting::one_more_name, crate::proofs::Sameness::sameness))]
 pub fn load_starts<F: Folder>(
     alloc: Global,
     folder: &mut F,
@@ -273,12 +249,10 @@ pub fn load_starts<F: Folder>(
     up_to: u64,
 ) -> Result<BTreeMap<String, Vec<u8>>, LoadFault>
     ensures files { IfOk result
-        (AreStarts ending.now up_to (F.lists folder.old) (F.holds folder.old)) }
+        (AreStarts ending.now up_to (F.gives folder.old).lists (F.gives folder.old).holds) }
     ensures failed { IfErr result (λ e. e ≡ fault.Folder
-        → HasFailed (F.failures folder.old) (F.failures folder.new)) }
-    ensures counts { F.failures folder.old ≤ F.failures folder.new }
-    ensures same_lists { F.lists folder.new ≡ F.lists folder.old }
-    ensures same_bytes { F.holds folder.new ≡ F.holds folder.old }
+        → HasFailed (F.gives folder.old) (F.gives folder.new)) }
+    ensures same { IsSameFolder (F.gives folder.old) (F.gives folder.new) }
 {
     let listed = folder.names(alloc)?;
     let mut files = BTreeMap::new(alloc);
@@ -300,12 +274,10 @@ fn add_start<F: Folder>(
     files: &mut BTreeMap<String, Vec<u8>>,
 ) -> Result<(), LoadFault>
     ensures added { OnOk result
-        (AddsStart up_to (F.holds folder.old) (string_bytes name) files.old files.new) }
+        (AddsStart up_to (F.gives folder.old).holds (string_bytes name) files.old files.new) }
     ensures failed { IfErr result (λ e. e ≡ fault.Folder
-        → HasFailed (F.failures folder.old) (F.failures folder.new)) }
-    ensures counts { F.failures folder.old ≤ F.failures folder.new }
-    ensures same_lists { F.lists folder.new ≡ F.lists folder.old }
-    ensures same_bytes { F.holds folder.new ≡ F.holds folder.old }
+        → HasFailed (F.gives folder.old) (F.gives folder.new)) }
+    ensures same { IsSameFolder (F.gives folder.old) (F.gives folder.new) }
 {
     let bytes = folder.read_start(alloc, name.as_str(), up_to)?;
     files.insert(name, bytes)?;

@@ -21,3 +21,4 @@ pub use files::{Folder, LoadFault, load, load_starts};
 pub use job::{Done, Job};
 pub use measure::{Measure, Measuring, Need};
 pub use sink::Sink;
+pub use start::start_of_reader;

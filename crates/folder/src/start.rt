@@ -13,11 +13,7 @@ pub(crate) fn cut(bytes: &mut Vec<u8>, up_to: u64)
 }
 
 /// Reads the first `up_to` bytes of what the reader has left, or all if there are no more.
-pub(crate) fn start_of_reader<R: Read>(
-    alloc: Global,
-    reader: &mut R,
-    up_to: u64,
-) -> io::Result<Vec<u8>>
+pub fn start_of_reader<R: Read>(alloc: Global, reader: &mut R, up_to: u64) -> io::Result<Vec<u8>>
     ensures within { IfOk result (λ start. length start.items ≤ up_to) }
     ensures known { IfOk result (λ start. IfSome (R.remaining reader.old)
         (λ bytes. start.items ≡ take up_to bytes)) }

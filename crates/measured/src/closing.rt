@@ -1,7 +1,7 @@
 //! The end of a course, by the target files of a folder.
 
 ghost use Rattle.std.specs.Prelude.{◌≡◌, ◌≤◌, ◌⊎◌, true, All, IfErr, IfOk, map, string_bytes};
-ghost use Rattle.folder.specs.Folders.{HasFailed};
+ghost use Rattle.folder.specs.Folders.{HasFailed, IsSameFolder};
 ghost use Rattle.measured.specs.Closed.{IsClosed, is_found};
 ghost use Rattle.measured.specs.Known.{IsCovered, IsKnown};
 
@@ -30,6 +30,7 @@ pub struct Readers<'a, R> {
 ///
 /// Returns the outcome for all target files with these names that begin with the bytes that were
 /// read, whatever follows them. Fails if the folder fails, or if out of memory.
+#[tactic(auto, using(folder::proofs::Sameness::sameness))]
 pub fn close<R: Threads + Sync, F: Folder + Sync>(
     readers: &Readers<'_, R>,
     alloc: Global,
@@ -37,15 +38,14 @@ pub fn close<R: Threads + Sync, F: Folder + Sync>(
     folder: &mut F,
     names: Vec<String>,
 ) -> Result<Outcome, Failure>
-    requires listed { F.lists folder.old (map string_bytes names.items) ≡ true }
-    ensures outcome { IfOk result (IsClosed (F.lists folder.old) (F.holds folder.old) course) }
+    requires listed { (F.gives folder.old).lists (map string_bytes names.items) ≡ true }
+    ensures outcome { IfOk result
+        (IsClosed (F.gives folder.old).lists (F.gives folder.old).holds course) }
     ensures state { IfOk result (λ o. o.trusted ≡ course.trusted) }
     ensures failed { IfErr result (λ f. f ≡ Failure.Folder
-        → HasFailed (F.failures folder.old) (F.failures folder.new)) }
+        → HasFailed (F.gives folder.old) (F.gives folder.new)) }
     ensures refused { IfErr result (λ f. (f ≡ Failure.Memory) ⊎ (f ≡ Failure.Folder)) }
-    ensures counts { F.failures folder.old ≤ F.failures folder.new }
-    ensures same_lists { F.lists folder.new ≡ F.lists folder.old }
-    ensures same_bytes { F.holds folder.new ≡ F.holds folder.old }
+    ensures same { IsSameFolder (F.gives folder.old) (F.gives folder.new) }
 {
     let known = measured(readers, alloc, &course, folder, names)?;
     let store = Measured {
@@ -56,6 +56,7 @@ pub fn close<R: Threads + Sync, F: Folder + Sync>(
 }
 
 /// Measures the files that the searches of the course found.
+#[tactic(auto, using(folder::proofs::Sameness::sameness))]
 fn measured<R: Threads + Sync, F: Folder + Sync>(
     readers: &Readers<'_, R>,
     alloc: Global,
@@ -63,16 +64,14 @@ fn measured<R: Threads + Sync, F: Folder + Sync>(
     folder: &mut F,
     names: Vec<String>,
 ) -> Result<Known, Failure>
-    ensures known { IfOk result (IsKnown (map string_bytes names.items) (F.holds folder.old)
+    ensures known { IfOk result (IsKnown (map string_bytes names.items) (F.gives folder.old).holds
         (is_found course.now.trusted.root.reading.consistent course.now.searches)) }
     ensures covered { IfOk result (λ k. All
         (IsCovered k course.now.trusted.root.reading.consistent) course.now.searches) }
     ensures failed { IfErr result (λ f. f ≡ Failure.Folder
-        → HasFailed (F.failures folder.old) (F.failures folder.new)) }
+        → HasFailed (F.gives folder.old) (F.gives folder.new)) }
     ensures refused { IfErr result (λ f. (f ≡ Failure.Memory) ⊎ (f ≡ Failure.Folder)) }
-    ensures counts { F.failures folder.old ≤ F.failures folder.new }
-    ensures same_lists { F.lists folder.new ≡ F.lists folder.old }
-    ensures same_bytes { F.holds folder.new ≡ F.holds folder.old }
+    ensures same { IsSameFolder (F.gives folder.old) (F.gives folder.new) }
 {
     let consistent = course.has_consistent_names();
     let searches = course.searches();

@@ -3,7 +3,7 @@
 ghost use Rattle.std.specs.Prelude.{◌≡◌, ◌≤◌, ◌⊎◌, true, List, ℕ, Bool, All, IfErr, IfOk, IfSome};
 ghost use Rattle.std.specs.Prelude.{OnOk, is_some, map, string_bytes};
 ghost use Rattle.std.specs.BTreeMap.{get_by_text};
-ghost use Rattle.folder.specs.Folders.{HasFailed};
+ghost use Rattle.folder.specs.Folders.{HasFailed, IsSameFolder};
 ghost use Rattle.measured.specs.Closed.{HasNamesOf, IsClosed, is_found};
 ghost use Rattle.measured.specs.Copied.{AreCopiesFor, HasContentOf, IsCopyFor, IsMeasuredInto};
 ghost use Rattle.measured.specs.Known.{IsCovered, IsKnown, StaysKnown};
@@ -32,6 +32,7 @@ pub struct Copied<K> {
 /// the digests of the target that the search found.
 ///
 /// Fails if the folder fails, with `Output` if a copy can't be written, or if out of memory.
+#[tactic(auto, using(folder::proofs::Sameness::sameness))]
 pub fn close_into<F: Folder, D: Destination>(
     alloc: Global,
     course: Course,
@@ -39,20 +40,18 @@ pub fn close_into<F: Folder, D: Destination>(
     names: Vec<String>,
     to: &mut D,
 ) -> Result<Copied<D::Temporary>, Failure>
-    requires listed { F.lists folder.old (map string_bytes names.items) ≡ true }
+    requires listed { (F.gives folder.old).lists (map string_bytes names.items) ≡ true }
     ensures outcome { IfOk result
-        (λ c. IsClosed (F.lists folder.old) (F.holds folder.old) course c.outcome) }
+        (λ c. IsClosed (F.gives folder.old).lists (F.gives folder.old).holds course c.outcome) }
     ensures state { IfOk result (λ c. c.outcome.trusted ≡ course.trusted) }
     ensures copies { IfOk result
-        (λ c. AreCopiesFor D.Temporary.took c.copies.items course.searches) }
+        (λ c. AreCopiesFor D.Temporary.wrote c.copies.items course.searches) }
     ensures failed { IfErr result (λ f. f ≡ Failure.Folder
-        → HasFailed (F.failures folder.old) (F.failures folder.new)) }
+        → HasFailed (F.gives folder.old) (F.gives folder.new)) }
     ensures refused { IfErr result
         (λ f. (f ≡ Failure.Memory) ⊎ (f ≡ Failure.Folder) ⊎ (f ≡ Failure.Output)) }
-    ensures counts { F.failures folder.old ≤ F.failures folder.new }
-    ensures same_lists { F.lists folder.new ≡ F.lists folder.old }
-    ensures same_bytes { F.holds folder.new ≡ F.holds folder.old }
-    ensures kept { D.keeps to.new ≡ D.keeps to.old }
+    ensures same { IsSameFolder (F.gives folder.old) (F.gives folder.new) }
+    ensures same_place { D.place to.new ≡ D.place to.old }
 {
     let (known, copies) = measured_into(alloc, &course, folder, names, to)?;
     let store = Measured {
@@ -64,6 +63,7 @@ pub fn close_into<F: Folder, D: Destination>(
 }
 
 /// Measures and copies the files that the searches of the course found.
+#[tactic(auto, using(folder::proofs::Sameness::sameness))]
 fn measured_into<F: Folder, D: Destination>(
     alloc: Global,
     course: &Course,
@@ -72,20 +72,18 @@ fn measured_into<F: Folder, D: Destination>(
     to: &mut D,
 ) -> Result<(Known, Vec<Option<D::Temporary>>), Failure>
     ensures known { IfOk result (λ x. IsKnown (map string_bytes names.items)
-        (F.holds folder.old)
+        (F.gives folder.old).holds
         (is_found course.now.trusted.root.reading.consistent course.now.searches) x.0) }
     ensures covered { IfOk result (λ x. All
         (IsCovered x.0 course.now.trusted.root.reading.consistent) course.now.searches) }
     ensures copies { IfOk result
-        (λ x. AreCopiesFor D.Temporary.took x.1.items course.now.searches) }
+        (λ x. AreCopiesFor D.Temporary.wrote x.1.items course.now.searches) }
     ensures failed { IfErr result (λ f. f ≡ Failure.Folder
-        → HasFailed (F.failures folder.old) (F.failures folder.new)) }
+        → HasFailed (F.gives folder.old) (F.gives folder.new)) }
     ensures refused { IfErr result
         (λ f. (f ≡ Failure.Memory) ⊎ (f ≡ Failure.Folder) ⊎ (f ≡ Failure.Output)) }
-    ensures counts { F.failures folder.old ≤ F.failures folder.new }
-    ensures same_lists { F.lists folder.new ≡ F.lists folder.old }
-    ensures same_bytes { F.holds folder.new ≡ F.holds folder.old }
-    ensures kept { D.keeps to.new ≡ D.keeps to.old }
+    ensures same { IsSameFolder (F.gives folder.old) (F.gives folder.new) }
+    ensures same_place { D.place to.new ≡ D.place to.old }
 {
     let consistent = course.has_consistent_names();
     let searches = course.searches();
@@ -99,6 +97,7 @@ fn measured_into<F: Folder, D: Destination>(
 
 /// Reads each file that a search found, once, and copies it. Returns a copy for each search, by
 /// position, if its file is the target that it found and wasn't read before.
+#[tactic(auto, using(folder::proofs::Sameness::sameness))]
 fn copy_all<F: Folder, D: Destination>(
     alloc: Global,
     course: &Course,
@@ -107,18 +106,16 @@ fn copy_all<F: Folder, D: Destination>(
     to: &mut D,
 ) -> Result<Vec<Option<D::Temporary>>, Failure>
     ensures known { OnOk result ((names : List (List ℕ))
-        → StaysKnown names (F.holds folder.old) (is_found
+        → StaysKnown names (F.gives folder.old).holds (is_found
         course.now.trusted.root.reading.consistent course.now.searches) known.old known.new) }
     ensures copies { IfOk result
-        (λ copies. AreCopiesFor D.Temporary.took copies.items course.now.searches) }
+        (λ copies. AreCopiesFor D.Temporary.wrote copies.items course.now.searches) }
     ensures failed { IfErr result (λ f. f ≡ Failure.Folder
-        → HasFailed (F.failures folder.old) (F.failures folder.new)) }
+        → HasFailed (F.gives folder.old) (F.gives folder.new)) }
     ensures refused { IfErr result
         (λ f. (f ≡ Failure.Memory) ⊎ (f ≡ Failure.Folder) ⊎ (f ≡ Failure.Output)) }
-    ensures counts { F.failures folder.old ≤ F.failures folder.new }
-    ensures same_lists { F.lists folder.new ≡ F.lists folder.old }
-    ensures same_bytes { F.holds folder.new ≡ F.holds folder.old }
-    ensures kept { D.keeps to.new ≡ D.keeps to.old }
+    ensures same { IsSameFolder (F.gives folder.old) (F.gives folder.new) }
+    ensures same_place { D.place to.new ≡ D.place to.old }
 {
     let consistent = course.has_consistent_names();
     let mut copies = Vec::new(alloc);
@@ -138,6 +135,7 @@ struct Sought<'a> {
 }
 
 /// Reads and copies the file that the search found, if it found one that is there and wasn't read.
+#[tactic(auto, using(folder::proofs::Sameness::sameness))]
 fn copy_one<F: Folder, D: Destination>(
     alloc: Global,
     folder: &mut F,
@@ -147,16 +145,14 @@ fn copy_one<F: Folder, D: Destination>(
 ) -> Result<Option<D::Temporary>, Failure>
     ensures known { (names : List (List ℕ)) (found : List ℕ → Bool)
         → HasNamesOf sought.now.consistent sought.now.search.now found
-        → StaysKnown names (F.holds folder.old) found known.old known.new }
-    ensures copy { IfOk result (λ copy. IsCopyFor D.Temporary.took copy sought.now.search.now) }
+        → StaysKnown names (F.gives folder.old).holds found known.old known.new }
+    ensures copy { IfOk result (λ copy. IsCopyFor D.Temporary.wrote copy sought.now.search.now) }
     ensures failed { IfErr result (λ f. f ≡ Failure.Folder
-        → HasFailed (F.failures folder.old) (F.failures folder.new)) }
+        → HasFailed (F.gives folder.old) (F.gives folder.new)) }
     ensures refused { IfErr result
         (λ f. (f ≡ Failure.Memory) ⊎ (f ≡ Failure.Folder) ⊎ (f ≡ Failure.Output)) }
-    ensures counts { F.failures folder.old ≤ F.failures folder.new }
-    ensures same_lists { F.lists folder.new ≡ F.lists folder.old }
-    ensures same_bytes { F.holds folder.new ≡ F.holds folder.old }
-    ensures kept { D.keeps to.new ≡ D.keeps to.old }
+    ensures same { IsSameFolder (F.gives folder.old) (F.gives folder.new) }
+    ensures same_place { D.place to.new ≡ D.place to.old }
 {
     let Some(target) = target_of(sought.search) else {
         return Ok(None);
@@ -175,6 +171,7 @@ struct Placed<'a> {
 }
 
 /// Reads and copies the file, unless it was read as far as the target needs it.
+#[tactic(auto, using(folder::proofs::Sameness::sameness))]
 fn copy_file<F: Folder, D: Destination>(
     alloc: Global,
     folder: &mut F,
@@ -185,17 +182,15 @@ fn copy_file<F: Folder, D: Destination>(
     requires there { is_some (get_by_text known.old.files (string_bytes placed.name)) ≡ true }
     ensures known { (names : List (List ℕ)) (found : List ℕ → Bool)
         → found (string_bytes placed.entry.name) ≡ true
-        → StaysKnown names (F.holds folder.old) found known.old known.new }
+        → StaysKnown names (F.gives folder.old).holds found known.old known.new }
     ensures copy { IfOk result (λ copy. IfSome copy
-        (λ file. HasContentOf (D.Temporary.took file) placed.entry.target.now)) }
+        (λ file. HasContentOf (D.Temporary.wrote file) placed.entry.target.now)) }
     ensures failed { IfErr result (λ f. f ≡ Failure.Folder
-        → HasFailed (F.failures folder.old) (F.failures folder.new)) }
+        → HasFailed (F.gives folder.old) (F.gives folder.new)) }
     ensures refused { IfErr result
         (λ f. (f ≡ Failure.Memory) ⊎ (f ≡ Failure.Folder) ⊎ (f ≡ Failure.Output)) }
-    ensures counts { F.failures folder.old ≤ F.failures folder.new }
-    ensures same_lists { F.lists folder.new ≡ F.lists folder.old }
-    ensures same_bytes { F.holds folder.new ≡ F.holds folder.old }
-    ensures kept { D.keeps to.new ≡ D.keeps to.old }
+    ensures same { IsSameFolder (F.gives folder.old) (F.gives folder.new) }
+    ensures same_place { D.place to.new ≡ D.place to.old }
 {
     let Placed { name, target } = placed;
     let entry = entry_of(known, name.as_str());
@@ -213,6 +208,7 @@ fn copy_file<F: Folder, D: Destination>(
 }
 
 /// Measures the file of that name, and copies the bytes that are measured to a temporary file.
+#[tactic(auto, using(folder::proofs::Sameness::sameness))]
 fn measure_file<F: Folder, D: Destination>(
     alloc: Global,
     folder: &mut F,
@@ -221,15 +217,13 @@ fn measure_file<F: Folder, D: Destination>(
     to: &mut D,
 ) -> Result<(Measure, D::Temporary), Failure>
     ensures given { IfOk result (λ x.
-        IsMeasuredInto need (F.holds folder.old name.now) (D.Temporary.took x.1) x.0) }
+        IsMeasuredInto need ((F.gives folder.old).holds name.now) (D.Temporary.took x.1) x.0) }
     ensures failed { IfErr result (λ f. f ≡ Failure.Folder
-        → HasFailed (F.failures folder.old) (F.failures folder.new)) }
+        → HasFailed (F.gives folder.old) (F.gives folder.new)) }
     ensures refused { IfErr result
         (λ f. (f ≡ Failure.Memory) ⊎ (f ≡ Failure.Folder) ⊎ (f ≡ Failure.Output)) }
-    ensures counts { F.failures folder.old ≤ F.failures folder.new }
-    ensures same_lists { F.lists folder.new ≡ F.lists folder.old }
-    ensures same_bytes { F.holds folder.new ≡ F.holds folder.old }
-    ensures kept { D.keeps to.new ≡ D.keeps to.old }
+    ensures same { IsSameFolder (F.gives folder.old) (F.gives folder.new) }
+    ensures same_place { D.place to.new ≡ D.place to.old }
 {
     let mut file = match to.begin(alloc) {
         Ok(file) => file,
@@ -246,9 +240,10 @@ fn kept_if<D: Destination>(
     mut file: D::Temporary,
 ) -> Result<Option<D::Temporary>, Failure>
     ensures file { IfOk result (λ copy. IfSome copy (λ left. (is_kept ≡ true)
-        × (D.Temporary.took left ≡ D.Temporary.took file))) }
+        × ((bytes : List ℕ) → D.Temporary.took file bytes ≡ true
+        → D.Temporary.wrote left bytes ≡ true))) }
     ensures refused { IfErr result (λ f. (f ≡ Failure.Memory) ⊎ (f ≡ Failure.Output)) }
-    ensures kept { D.keeps to.new ≡ D.keeps to.old }
+    ensures same_place { D.place to.new ≡ D.place to.old }
 {
     if !is_kept {
         to.discard(file);

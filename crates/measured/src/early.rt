@@ -28,7 +28,7 @@ pub(crate) fn read_early<R: Threads + Sync, F: Folder + Sync>(
     known: &mut Known,
 ) -> Result<(), AllocError>
     ensures known { (names : List (List ℕ)) (found : List ℕ → Bool)
-        → StaysKnown names (F.holds folder.now) found known.old known.new }
+        → StaysKnown names (F.gives folder.now).holds found known.old known.new }
 {
     let jobs = jobs_of(alloc, known)?;
     if threads == 0 && jobs.len() < 2 {
@@ -90,7 +90,7 @@ fn measure_all<R: Threads + Sync, F: Folder + Sync>(
     shares: &mut [Share],
     threads: usize,
 )
-    ensures { All (λ s. AreDone (F.holds folder.now) s.done.items) shares.new }
+    ensures { All (λ s. AreDone (F.gives folder.now).holds s.done.items) shares.new }
 {
     if threads == 0 {
         measure_each(alloc, folder, shares);
@@ -106,7 +106,7 @@ fn measure_all<R: Threads + Sync, F: Folder + Sync>(
 
 /// Measures the files of each share, one share after the other.
 fn measure_each<F: Folder>(alloc: Global, folder: &F, shares: &mut [Share])
-    ensures { All (λ s. AreDone (F.holds folder.now) s.done.items) shares.new }
+    ensures { All (λ s. AreDone (F.gives folder.now).holds s.done.items) shares.new }
 {
     'shares: for i in 0..shares.len() {
         measure_share(alloc, folder, &mut shares[i]);
@@ -114,7 +114,7 @@ fn measure_each<F: Folder>(alloc: Global, folder: &F, shares: &mut [Share])
 }
 
 fn measure_share<F: Folder>(alloc: Global, folder: &F, share: &mut Share)
-    ensures { AreDone (F.holds folder.now) share.new.done.items }
+    ensures { AreDone (F.gives folder.now).holds share.new.done.items }
 {
     let jobs = mem::replace(&mut share.jobs, Vec::new(alloc));
     share.done = folder.measure_many(alloc, jobs);

@@ -4,7 +4,7 @@ ghost use Rattle.std.specs.Prelude.{◌≡◌, ◌≤◌, ◌⊎◌, true, false
 ghost use Rattle.std.specs.Prelude.{is_some, option_map, string_bytes};
 ghost use Rattle.std.specs.BTreeMap.{get_by_text};
 ghost use Rattle.std.specs.Option.{option_map_or};
-ghost use Rattle.folder.specs.Folders.{HasFailed};
+ghost use Rattle.folder.specs.Folders.{HasFailed, IsSameFolder};
 ghost use Rattle.cycle.specs.Workflow.{Target, target_of};
 ghost use Rattle.measured.specs.Closed.{HasNamesOf, is_found};
 ghost use Rattle.measured.specs.Known as spec;
@@ -85,6 +85,7 @@ pub(crate) fn need_of(entry: Option<Option<Wanted>>) -> Need
 
 /// Reads each file that a search found, unless it was read as far as it is needed. Fails if the
 /// folder fails, or if out of memory.
+#[tactic(auto, using(folder::proofs::Sameness::sameness))]
 pub(crate) fn read_all<F: Folder>(
     alloc: Global,
     folder: &mut F,
@@ -93,15 +94,13 @@ pub(crate) fn read_all<F: Folder>(
     known: &mut Known,
 ) -> Result<(), Failure>
     ensures known { (names : List (List ℕ))
-        → StaysKnown names (F.holds folder.old) (is_found consistent searches.now)
+        → StaysKnown names (F.gives folder.old).holds (is_found consistent searches.now)
         known.old known.new }
     ensures covered { OnOk result (All (IsCovered known.new consistent) searches.now) }
     ensures failed { IfErr result (λ f. f ≡ Failure.Folder
-        → HasFailed (F.failures folder.old) (F.failures folder.new)) }
+        → HasFailed (F.gives folder.old) (F.gives folder.new)) }
     ensures refused { IfErr result (λ f. (f ≡ Failure.Memory) ⊎ (f ≡ Failure.Folder)) }
-    ensures counts { F.failures folder.old ≤ F.failures folder.new }
-    ensures same_lists { F.lists folder.new ≡ F.lists folder.old }
-    ensures same_bytes { F.holds folder.new ≡ F.holds folder.old }
+    ensures same { IsSameFolder (F.gives folder.old) (F.gives folder.new) }
 {
     for search in searches {
         read(alloc, folder, search, consistent, known)?;
@@ -110,6 +109,7 @@ pub(crate) fn read_all<F: Folder>(
 }
 
 /// Reads the file that the search found, if it found one that is there.
+#[tactic(auto, using(folder::proofs::Sameness::sameness))]
 fn read<F: Folder>(
     alloc: Global,
     folder: &mut F,
@@ -119,15 +119,13 @@ fn read<F: Folder>(
 ) -> Result<(), Failure>
     ensures known { (names : List (List ℕ)) (found : List ℕ → Bool)
         → HasNamesOf consistent search.now found
-        → StaysKnown names (F.holds folder.old) found known.old known.new }
+        → StaysKnown names (F.gives folder.old).holds found known.old known.new }
     ensures covered { OnOk result (IsCovered known.new consistent search.now) }
     ensures grows { Grows known.old known.new }
     ensures failed { IfErr result (λ f. f ≡ Failure.Folder
-        → HasFailed (F.failures folder.old) (F.failures folder.new)) }
+        → HasFailed (F.gives folder.old) (F.gives folder.new)) }
     ensures refused { IfErr result (λ f. (f ≡ Failure.Memory) ⊎ (f ≡ Failure.Folder)) }
-    ensures counts { F.failures folder.old ≤ F.failures folder.new }
-    ensures same_lists { F.lists folder.new ≡ F.lists folder.old }
-    ensures same_bytes { F.holds folder.new ≡ F.holds folder.old }
+    ensures same { IsSameFolder (F.gives folder.old) (F.gives folder.new) }
 {
     let Some(target) = target_of(search) else {
         return Ok(());
@@ -139,6 +137,7 @@ fn read<F: Folder>(
 }
 
 /// Reads the file of that name, which is there, unless it was read as far as the target needs it.
+#[tactic(auto, using(folder::proofs::Sameness::sameness))]
 fn read_file<F: Folder>(
     alloc: Global,
     folder: &mut F,
@@ -149,16 +148,14 @@ fn read_file<F: Folder>(
     requires there { is_some (get_by_text known.old.files (string_bytes name)) ≡ true }
     ensures known { (names : List (List ℕ)) (found : List ℕ → Bool)
         → found (string_bytes name) ≡ true
-        → StaysKnown names (F.holds folder.old) found known.old known.new }
+        → StaysKnown names (F.gives folder.old).holds found known.old known.new }
     ensures measured { OnOk result (option_map_or (λ o. spec.is_measured o target.now)
         (get_by_text known.new.files (string_bytes name)) false ≡ true) }
     ensures grows { Grows known.old known.new }
     ensures failed { IfErr result (λ f. f ≡ Failure.Folder
-        → HasFailed (F.failures folder.old) (F.failures folder.new)) }
+        → HasFailed (F.gives folder.old) (F.gives folder.new)) }
     ensures refused { IfErr result (λ f. (f ≡ Failure.Memory) ⊎ (f ≡ Failure.Folder)) }
-    ensures counts { F.failures folder.old ≤ F.failures folder.new }
-    ensures same_lists { F.lists folder.new ≡ F.lists folder.old }
-    ensures same_bytes { F.holds folder.new ≡ F.holds folder.old }
+    ensures same { IsSameFolder (F.gives folder.old) (F.gives folder.new) }
 {
     let entry = entry_of(known, name.as_str());
     if is_measured(entry, target) {

@@ -1,5 +1,7 @@
 //! A folder whose work is counted before it is done.
 
+ghost use Rattle.std.specs.Prelude.{◌≡◌};
+
 use crate::counts::Progress;
 use crate::ground::Ground;
 use folder::{Done, Folder, Job, LoadFault, Measure, Need, Sink};
@@ -14,17 +16,15 @@ pub struct Watched<'a, F, G> {
 
 impl<'a, F, G> Watched<'a, F, G> {
     /// Returns the folder with these counts.
-    pub fn new(folder: F, progress: &'a Progress<'a, G>) -> Watched<'a, F, G> {
+    pub fn new(folder: F, progress: &'a Progress<'a, G>) -> Watched<'a, F, G>
+        ensures folder { result.folder ≡ folder }
+    {
         Watched { folder, progress }
     }
 }
 
 impl<'a, F: Folder, G: Ground> Folder for Watched<'a, F, G> {
-    ghost lists = { λ s. F.lists s.folder };
-
-    ghost holds = { λ s. F.holds s.folder };
-
-    ghost failures = { λ s. F.failures s.folder };
+    ghost gives = { λ s. F.gives s.folder };
 
     fn names(&mut self, alloc: Global) -> Result<Vec<String>, LoadFault> {
         self.folder.names(alloc)

@@ -1,4 +1,3 @@
 pub mod Spelling
 mod Numbered
 mod WorkedValues
-mod Statuses

@@ -1,12 +1,12 @@
 -- Worked values of the definitions.
-use Rattle.std.proofs.Common.{◌≡◌, [], ◌∷◌, ◌++◌, refl, codes}
+use Rattle.std.proofs.Common.{◌≡◌, [], ◌∷◌, ◌++◌, false, refl, codes}
 use Rattle.std.specs.Fmt.{digits}
 use Rattle.hex.proofs.OnLiterals.{hex_on_literals}
 use Rattle.meta.specs.declared.fault.Fault.TheVariants as fault
 use Rattle.rolechain.specs.declared.end.Step.TheVariants as step
 use Rattle.rolechain.specs.declared.end.End.TheVariants.{Ready, Stopped}
 use Rattle.cycle.specs.declared.verdict.Verdict.TheVariants.{Good, NotFound, RoleRefused, NotSearched}
-use Rattle.report.specs.Lines.{root_text, end_text, role_text, verdict_text, verdict_texts, quoted_text}
+use Rattle.report.specs.Lines.{root_text, end_text, role_text, stored_text, verdict_text, verdict_texts, quoted_text}
 
 -- `a`, a quote, `b`, a backslash, `é` in UTF-8 and a line feed
 quoted-escapes : quoted_text (97 ∷ 34 ∷ 98 ∷ 92 ∷ 195 ∷ 169 ∷ 10 ∷ []) ≡ codes "\"a\\x22b\\x5c\\xc3\\xa9\\x0a\""
@@ -43,6 +43,11 @@ good-line = refl
 refused-line : verdict_text (codes "a") (RoleRefused (codes "b\"") fault.Unsigned) ≡ codes "no \"a\" Unsigned \"b\\x22\"" ++ 10 ∷ []
 unfolding hex_on_literals
 refused-line = refl
+
+-- an accepted path without a copy
+placeless-line : stored_text (codes "a\"") (Good (codes "targets") 3) false ≡ codes "no \"a\\x22\" NoPlace" ++ 10 ∷ []
+unfolding hex_on_literals
+placeless-line = refl
 
 -- each path has its own verdict
 two-lines : verdict_texts (codes "a" ∷ codes "b" ∷ []) (NotFound ∷ NotSearched ∷ [])

@@ -74,18 +74,36 @@ verdict_text path (RoleRefused role fault) =
 verdict_text path (FileRefused fault) = line (codes "no" ∷ quoted_text path ∷ fault_word fault ∷ [])
 verdict_text path NotSearched = line (codes "no" ∷ quoted_text path ∷ codes "NotSearched" ∷ [])
 
+-- the same, with whether a copy was stored: `no PATH NoPlace` of an accepted path without one
+abbrev pub stored_text : List ℕ → Verdict → Bool → List ℕ
+stored_text path (Good role length) false =
+    line (codes "no" ∷ quoted_text path ∷ codes "NoPlace" ∷ [])
+stored_text path v is_stored = verdict_text path v
+
 -- ---- the whole
 
 -- each path with its verdict
 abbrev pub verdict_texts : List (List ℕ) → List Verdict → List ℕ
 verdict_texts wanted verdicts = flat_map (λ p. verdict_text p.0 p.1) (zip wanted verdicts)
 
--- the trusted root, how the cycle ended, the roles that were accepted, and the wanted paths, all in
--- order
+-- each path with its verdict, and with whether its copy was stored
+abbrev pub stored_texts : List (List ℕ) → List Verdict → List Bool → List ℕ
+stored_texts wanted verdicts stored =
+    flat_map (λ p. stored_text p.0.0 p.0.1 p.1) (zip (zip wanted verdicts) stored)
+
+-- the trusted root, how the cycle ended, the roles that were accepted, all in order, and then the
+-- lines of the wanted paths
+abbrev pub outcome_with : Outcome → List ℕ → List ℕ
+outcome_with o lines = root_text o.trusted.root.reading.header.version
+    ++ (end_text o.end ++ (flat_map role_text o.accepted ++ lines))
+
+-- an outcome without copies
 abbrev pub outcome_text : Outcome → List (List ℕ) → List ℕ
-outcome_text o wanted =
-    root_text o.trusted.root.reading.header.version
-    ++ (end_text o.end ++ (flat_map role_text o.accepted ++ verdict_texts wanted o.verdicts))
+outcome_text o wanted = outcome_with o (verdict_texts wanted o.verdicts)
+
+-- an outcome with copies, of which these were stored
+abbrev pub stored_outcome_text : Outcome → List (List ℕ) → List Bool → List ℕ
+stored_outcome_text o wanted stored = outcome_with o (stored_texts wanted o.verdicts stored)
 
 -- `cycle K`, and then the outcome's lines
 abbrev pub cycle_text : List (List ℕ) → ℕ × Outcome → List ℕ
@@ -110,6 +128,11 @@ status_of (Stopped step fault) all_good = 2
 
 abbrev pub outcome_status : Outcome → ℕ
 outcome_status o = status_of o.end (list_all is_good o.verdicts)
+
+-- the same, where a target without a stored copy isn't accepted either
+abbrev pub stored_outcome_status : Outcome → List Bool → ℕ
+stored_outcome_status o stored =
+    status_of o.end (list_all is_good o.verdicts && list_all (λ is_stored. is_stored) stored)
 
 -- the status of the last outcome, or 0 if there is none
 abbrev pub last_status : List Outcome → ℕ

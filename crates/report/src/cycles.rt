@@ -4,7 +4,7 @@ ghost use Rattle.std.specs.Prelude.{◌≡◌, ◌≤◌, ◌⊎◌, ℕ, ◌++�
 ghost use Rattle.std.specs.Io.KnownBytes.{Appends};
 ghost use Rattle.report.specs.Lines as spec;
 
-use crate::lines::{push_outcome, put, status_of};
+use crate::lines::{outcome_status, push_outcome, put};
 use cycle::Outcome;
 use failure::Failure;
 use std::alloc::{AllocError, Global};
@@ -36,7 +36,7 @@ fn last_status(outcomes: &[Outcome]) -> u8
     ensures known { result ≤ 2 }
 {
     match outcomes.last() {
-        Some(outcome) => status_of(outcome.end(), outcome.verdicts()),
+        Some(outcome) => outcome_status(outcome),
         None => 0,
     }
 }

@@ -1,7 +1,7 @@
 //! The lines that a run prints, and its exit status.
 //!
-//! - [`tell`] prints the lines of an outcome and returns the status, and [`tell_cycles`] does for
-//!   one cycle after another.
+//! - [`tell`] prints the lines of an outcome and returns the status, [`tell_stored`] does with
+//!   whether copies were stored, and [`tell_cycles`] does for one cycle after another.
 //! - [`show`] prints what a trusted state has, and when it expires; [`moment_text`] returns the
 //!   text of a moment.
 //! - [`tell_needs`] prints the names of the files to fetch.
@@ -17,6 +17,6 @@ mod shown;
 
 pub use cycles::tell_cycles;
 pub use fetching::tell_needs;
-pub use lines::{push_end, push_verdict, put, root_line, tell};
+pub use lines::{push_end, push_verdict, put, root_line, tell, tell_stored};
 pub use moments::moment_text;
 pub use shown::show;

@@ -1,7 +1,7 @@
 //! The lines that a run prints, and its exit status.
 
-ghost use Rattle.std.specs.Prelude.{◌≡◌, ◌≤◌, ◌⊎◌, ◌↔◌, [], ◌∷◌, ◌++◌, true, All, IfErr, IfOk};
-ghost use Rattle.std.specs.Prelude.{OnOk, codes, decimal, flat_map, map, string_bytes};
+ghost use Rattle.std.specs.Prelude.{◌≡◌, ◌≤◌, ◌⊎◌, ◌∷◌, ◌++◌, [], List, ℕ, IfErr, IfOk, OnOk};
+ghost use Rattle.std.specs.Prelude.{codes, decimal, flat_map, map, string_bytes};
 ghost use Rattle.std.specs.Io.KnownBytes.{Appends};
 ghost use Rattle.failure.specs.Failures as words;
 ghost use Rattle.report.specs.Lines as spec;
@@ -32,18 +32,51 @@ pub fn tell<W: Write>(
     let mut text = String::new(alloc);
     push_outcome(alloc, &mut text, outcome, wanted)?;
     put(out, text.as_str())?;
-    Ok(status_of(outcome.end(), outcome.verdicts()))
+    Ok(outcome_status(outcome))
 }
 
-/// Returns the status of an outcome with this end and these verdicts.
-#[tactic(auto, using(crate::proofs::Statuses::all_good))]
-pub(crate) fn status_of(end: End, verdicts: &[Verdict]) -> u8
-    ensures status { result ≡ spec.status_of end (list_all spec.is_good verdicts.now) }
+/// Prints all lines of an outcome with copies, as [`tell`] does, and returns the exit status. For
+/// each wanted path, `stored` has by position whether its copy was stored: an accepted path without
+/// one has the line `no PATH NoPlace`, and isn't accepted for the status. Fails with `Memory` or
+/// `Output`.
+pub fn tell_stored<W: Write>(
+    alloc: Global,
+    outcome: &Outcome,
+    wanted: &[String],
+    stored: &[bool],
+    out: &mut W,
+) -> Result<u8, Failure>
+    ensures written { OnOk result (Appends (W.contents out.old) (W.contents out.new)
+        (spec.stored_outcome_text outcome.now (map string_bytes wanted.now) stored.now)) }
+    ensures status { IfOk result
+        (λ status. status ≡ spec.stored_outcome_status outcome.now stored.now) }
+    ensures known { IfOk result (λ status. status ≤ 2) }
+    ensures refused { IfErr result (λ f. (f ≡ Failure.Memory) ⊎ (f ≡ Failure.Output)) }
+{
+    let mut text = String::new(alloc);
+    push_head(alloc, &mut text, outcome)?;
+    push_stored(alloc, &mut text, wanted, outcome.verdicts(), stored)?;
+    put(out, text.as_str())?;
+    let are_good = all_good(outcome.verdicts());
+    Ok(status_of(outcome.end(), are_good && all_stored(stored)))
+}
+
+/// Returns the status of an outcome without copies.
+pub(crate) fn outcome_status(outcome: &Outcome) -> u8
+    ensures status { result ≡ spec.outcome_status outcome.now }
+    ensures known { result ≤ 2 }
+{
+    status_of(outcome.end(), all_good(outcome.verdicts()))
+}
+
+/// Returns the status of an outcome with this end, whose targets are all accepted or not.
+fn status_of(end: End, are_accepted: bool) -> u8
+    ensures status { result ≡ spec.status_of end are_accepted }
     ensures known { result ≤ 2 }
 {
     if end != End::Ready {
         2
-    } else if all_good(verdicts) {
+    } else if are_accepted {
         0
     } else {
         1
@@ -51,9 +84,15 @@ pub(crate) fn status_of(end: End, verdicts: &[Verdict]) -> u8
 }
 
 fn all_good(verdicts: &[Verdict]) -> bool
-    ensures test { (result ≡ true) ↔ All (λ v. spec.is_good v ≡ true) verdicts.now }
+    ensures test { result ≡ list_all spec.is_good verdicts.now }
 {
     verdicts.iter().all(accepts)
+}
+
+fn all_stored(stored: &[bool]) -> bool
+    ensures test { result ≡ list_all (λ is_stored. is_stored) stored.now }
+{
+    stored.iter().all(|is_stored| *is_stored)
 }
 
 fn accepts(verdict: &Verdict) -> bool
@@ -62,8 +101,8 @@ fn accepts(verdict: &Verdict) -> bool
     matches!(verdict, Verdict::Good { .. })
 }
 
-/// Adds all lines of an outcome: the root, the end, the accepted roles, and each wanted path in
-/// order.
+/// Adds all lines of an outcome without copies: the root, the end, the accepted roles, and each
+/// wanted path in order.
 pub(crate) fn push_outcome(
     alloc: Global,
     text: &mut String,
@@ -73,10 +112,18 @@ pub(crate) fn push_outcome(
     ensures lines { OnOk result (string_bytes text.new ≡ string_bytes text.old
         ++ spec.outcome_text outcome.now (map string_bytes wanted.now)) }
 {
+    push_head(alloc, text, outcome)?;
+    push_verdicts(alloc, text, wanted, outcome.verdicts())
+}
+
+/// Adds the lines of an outcome before those of the wanted paths.
+fn push_head(alloc: Global, text: &mut String, outcome: &Outcome) -> Result<(), AllocError>
+    ensures lines { OnOk result ((lines : List ℕ) → string_bytes text.new ++ lines
+        ≡ string_bytes text.old ++ spec.outcome_with outcome.now lines) }
+{
     text.push_str(root_line(alloc, outcome.trusted().root_version())?.as_str())?;
     push_end(text, outcome.end())?;
-    push_roles(alloc, text, outcome.accepted())?;
-    push_verdicts(alloc, text, wanted, outcome.verdicts())
+    push_roles(alloc, text, outcome.accepted())
 }
 
 /// Returns the line `root N`. Fails only if out of memory.
@@ -137,6 +184,39 @@ fn push_verdicts(
         push_verdict(alloc, text, path.as_str(), verdict)?;
     }
     Ok(())
+}
+
+fn push_stored(
+    alloc: Global,
+    text: &mut String,
+    wanted: &[String],
+    verdicts: &[Verdict],
+    stored: &[bool],
+) -> Result<(), AllocError>
+    ensures lines { OnOk result (string_bytes text.new ≡ string_bytes text.old
+        ++ spec.stored_texts (map string_bytes wanted.now) verdicts.now stored.now) }
+{
+    for ((path, verdict), is_stored) in wanted.iter().zip(verdicts.iter()).zip(stored.iter()) {
+        push_placed(alloc, text, path.as_str(), verdict, *is_stored)?;
+    }
+    Ok(())
+}
+
+/// Adds the line of a verdict, or `no PATH NoPlace` of an accepted path without a stored copy.
+fn push_placed(
+    alloc: Global,
+    text: &mut String,
+    path: &str,
+    verdict: &Verdict,
+    is_stored: bool,
+) -> Result<(), AllocError>
+    ensures line { OnOk result (string_bytes text.new
+        ≡ string_bytes text.old ++ spec.stored_text path.now verdict.now is_stored) }
+{
+    match verdict {
+        Verdict::Good { .. } if !is_stored => push_no(alloc, text, path, "NoPlace"),
+        _ => push_verdict(alloc, text, path, verdict),
+    }
 }
 
 /// Adds the line `ok NAME LENGTH ROLE` or `no NAME WHY`. Fails only if out of memory.

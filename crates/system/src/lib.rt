@@ -2,19 +2,29 @@
 //!
 //! - [`System`] is the interface that a run has to them, and [`Machine`] the system that a process
 //!   runs on.
-//! - [`System::read_locked`] holds a file against other runs until the system is dropped.
-//!   [`Lockable`] is what an open file needs for it.
+//! - [`System::read_locked`] holds a file against other runs until the system is dropped. An
+//!   [`OwnFile`] is an open file as contracts follow it.
+//! - [`is_of_path`] is whether an error says that no file can be put at a path.
 //! - [`store`] replaces a file as a whole, through a [`Place`] with a temporary file.
+//! - [`take_hold`] tells a file of a run that has ended from one that a run still has.
 #![tactic(auto)]
 
+mod blocked;
 mod calls;
 mod files;
+mod held;
+mod leftovers;
 mod locks;
 mod machine;
+mod own;
 mod place;
+mod plain;
 
-pub use calls::System;
+pub use blocked::is_of_path;
+pub use calls::{System, Temporary};
 pub use files::store;
-pub use locks::Lockable;
+pub use locks::{is_at, take_hold};
 pub use machine::{Machine, whole_seconds};
+pub use own::OwnFile;
 pub use place::{Place, replace};
+pub use plain::flush_folder;

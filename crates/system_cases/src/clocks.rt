@@ -1,31 +1,31 @@
 //! Clocks that show one time, and folders that fail.
 
-ghost use Rattle.std.specs.Prelude.{◌≡◌, ◌≤◌, ◌<◌, ◌⊎◌, ◌^◌, ◌-◌, true, IsErr, OnErr};
-ghost use Rattle.folder.specs.Folders.{HasFailed};
+ghost use Rattle.std.specs.Prelude.{◌≡◌, ◌≤◌, ◌<◌, ◌⊎◌, ◌^◌, ◌-◌, true, IsErr, None, OnErr};
+ghost use Rattle.folder.specs.Folders.{HasGrown};
 
 use crate::shell::{NOW, Shell, push_words};
 use anyhow::{Context, Result};
-use cycle::{Moment, Open, Threading, Trusted};
+use cycle::{Limits, Moment, Open, Threading, Trusted};
 use failure::{Failure, tell_failure};
 use folder::{Depth, Disk, Folder, LoadFault};
 use sessions::{Output, Step};
 use std::alloc::Global;
-use std::rt::{Clock, Files};
+use std::rt::Clock;
 use std::sync::Wait;
 use std::thread::Threads;
 use std::time::Duration;
 use std::{fs, io};
-use system::{System, store, whole_seconds};
-use update::{Folders, Host, Start, Wanted, moment};
+use system::{Machine, System, Temporary, whole_seconds};
+use update::{Folders, Host, Start, Wanted, Workers, moment};
 
 /// The files of a session beside a clock that shows one time since 1970, or that can't be read.
 #[derive(Drop)]
-struct Stopped<'a, R> {
-    rt: &'a R,
+struct Stopped<'a> {
+    files: Machine<'a, HostRuntime>,
     time: Option<Duration>,
 }
 
-impl<'a, R> Clock for Stopped<'a, R> {
+impl<'a> Clock for Stopped<'a> {
     fn monotonic(&self) -> io::Result<Duration> {
         self.since_1970()
     }
@@ -38,7 +38,7 @@ impl<'a, R> Clock for Stopped<'a, R> {
     }
 }
 
-impl<'a, R: Files + AllocGlobal> System for Stopped<'a, R> {
+impl<'a> System for Stopped<'a> {
     ghost gives = { λ _ _ _. true };
 
     ghost gives_locked = { λ _ _ _. true };
@@ -49,18 +49,24 @@ impl<'a, R: Files + AllocGlobal> System for Stopped<'a, R> {
 
     ghost keeps = { λ _ _ _. true };
 
+    ghost blocks = { λ _ _. true };
+
     ghost shows = { λ _ _. true };
 
-    fn read(&self, path: &str) -> io::Result<Vec<u8>> {
-        fs::read(self.rt, path)
+    fn read(&self, path: &str, most: u64) -> io::Result<Vec<u8>> {
+        self.files.read(path, most)
     }
 
-    fn read_locked(&mut self, path: &str) -> io::Result<Vec<u8>> {
-        fs::read(self.rt, path)
+    fn read_locked(&mut self, path: &str, most: u64) -> io::Result<Vec<u8>> {
+        self.files.read_locked(path, most)
     }
 
     fn store(&mut self, path: &str, bytes: &[u8]) -> io::Result<()> {
-        store(self.rt, path, bytes)
+        self.files.store(path, bytes)
+    }
+
+    fn install<K: Temporary>(&mut self, file: &K, path: &str) -> io::Result<()> {
+        self.files.install(file, path)
     }
 
     fn seconds(&self) -> Option<u64> {
@@ -78,7 +84,10 @@ pub fn clock<T>(shell: &Shell<'_, T>, words: &[String]) -> Result<Output> {
         let nanos = words.get(1).context("no nanoseconds")?.as_str();
         Some(time_of(seconds.parse::<u64>()?, nanos.parse::<u64>()?))
     };
-    let system = Stopped { rt: shell.rt, time };
+    let system = Stopped {
+        files: Machine::new(shell.rt),
+        time,
+    };
     match moment(&system, words.get(2).map(|text| text.as_str())) {
         Ok(moment) => day_and_second(shell.alloc, moment),
         Err(failure) => failed(shell.alloc, failure),
@@ -123,7 +132,7 @@ impl<'a> FailingFolder<'a> {
     }
 
     fn turn(&mut self) -> Result<(), LoadFault>
-        ensures failed { OnErr result (HasFailed self.old.faults self.new.faults) }
+        ensures failed { OnErr result (HasGrown self.old.faults self.new.faults) }
         ensures counts { self.old.faults ≤ self.new.faults }
     {
         if self.calls == 0 {
@@ -135,7 +144,7 @@ impl<'a> FailingFolder<'a> {
 
     /// Counts the fault and returns it.
     fn counted(&mut self, fault: LoadFault) -> LoadFault
-        ensures failed { HasFailed self.old.faults self.new.faults }
+        ensures failed { HasGrown self.old.faults self.new.faults }
         ensures counts { self.old.faults ≤ self.new.faults }
     {
         self.faults = self.faults.saturating_add(1);
@@ -144,11 +153,12 @@ impl<'a> FailingFolder<'a> {
 }
 
 impl<'a> Folder for FailingFolder<'a> {
-    ghost lists = { λ _ _. true };
-
-    ghost holds = { λ _ _ _. true };
-
-    ghost failures = { λ s. s.faults };
+    ghost gives = { λ s. record {
+      lists = λ _. true;
+      holds = λ _ _. true;
+      failures = s.faults;
+      place = None;
+    } };
 
     fn names(&mut self, alloc: Global) -> Result<Vec<String>, LoadFault> {
         self.turn()?;
@@ -179,8 +189,8 @@ pub fn failing<T: Threads + Wait + Sync>(shell: &Shell<'_, T>, step: &Step) -> R
         alloc: shell.alloc,
         trusted: Trusted::from_root(shell.alloc, root.as_slice())?,
         moment: Moment::read(NOW).context("no moment")?,
-        limit: 32,
-        workers: 2,
+        limits: Limits::new(32, 4096).context("no limits")?,
+        workers: Workers::new(2).context("no workers")?,
         state: step.word(2)?,
     };
     let mut paths = Vec::new(shell.alloc);
@@ -231,7 +241,7 @@ fn verify<'a, 'b, T: Threads + Wait + Sync>(
     out: &mut Vec<u8>,
 ) -> Result<u8, Failure> {
     let system = Stopped {
-        rt: shell.rt,
+        files: Machine::new(shell.rt),
         time: None,
     };
     let mut host = Host {

@@ -1,11 +1,11 @@
 -- What follows from a start, from what the words name.
 use Rattle.std.proofs.Common.{ℕ, Result, Ok, Err, IfOk}
-use Rattle.update.specs.Runs.{Begins, IsStart}
+use Rattle.update.specs.Runs.{Begins, IsStart, given_by}
 use Rattle.update.specs.World.{World}
 use Rattle.update.specs.declared.start.Settings.{Settings}
 use Rattle.update.specs.declared.start.Start as program
 
-module _ (settings : Settings) (old : World) (s : program.Start) (is : IsStart settings old.gives_locked old.shows s) where
+module _ (settings : Settings) (old : World) (s : program.Start) (is : IsStart settings (given_by settings.locking old.gives_locked old.gives) old.shows s) where
   pub begins : (F : program.Start → Type 0) → F s → Begins settings old F
   begins F then = record { start = s; is_start = is; then = then }
 

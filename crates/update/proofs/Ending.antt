@@ -1,24 +1,43 @@
 -- A verification from a start: a course that is followed, and ended by the target files.
-use Rattle.std.proofs.Common.{◌≡◌, ◌∙◌, ap, Global, Result, Ok, Err, IfOk, List, ℕ, Bool, String, Option, map, refl, string_bytes, true, subst, sym}
+use Rattle.std.proofs.Common.{◌≡◌, ◌≢◌, ◌∙◌, ap, Global, Result, Ok, Err, IfOk, OnErr, OnOk, List, ℕ, Bool, String, Option, length, map, refl, string_bytes, true, subst, sym}
+use Rattle.std.proofs.lemmas.List.{length-map}
 use Rattle.std.specs.Bool.{⊤}
+use Rattle.copies.specs.Paths.{IsSameAt}
 use Rattle.cycle.specs.Workflow.{Course, Files, Outcome, course}
 use Rattle.examine.specs.Checks.{file_in}
 use Rattle.measured.specs.Closed.{IsClosed}
 use Rattle.cycle.specs.declared.verdict.Verdict.{Verdict}
 use Rattle.measured.specs.Copied.{AreCopiesFor}
 use Rattle.rolechain.specs.Advance.{advanced}
-use Rattle.update.specs.Copies.{AreBegun, AreCopied, AreFirstCopied, IsPrintedInto, Kept, good_paths, target_for}
+use Rattle.update.specs.Copies.{AreBegun, AreSomeStored, AreStored, IsPrintedInto, IsPrintedWith, Kept, OutsideKept, is_blocked, target_for}
 use Rattle.update.specs.Opened.{IsFollowedOn, IsOpened, paths_from, paths_of}
-use Rattle.update.specs.Runs.{AreWanted, IsStoredOn, IsPrinted, IsPrintedOf, Request, State, start_of, state_text}
+use Rattle.update.specs.Runs.{AreWanted, IsStored, IsStoredOn, IsPrinted, IsPrintedOf, Request, State, start_of, state_text}
 use Rattle.update.specs.Same.{IsSame}
-use Rattle.update.specs.Stored.{AreCopiesOf, AreFirstGoodCopied, AreGoodCopied, Lookup}
-use Rattle.update.specs.World.{Mirror}
+use Rattle.update.specs.Stored.{AreCopiesOf, AreInstalled, AreSomeInstalled, Lookup}
+use Rattle.update.specs.World.{Mirror, OthersKept}
 use Rattle.update.specs.declared.following.Followed.{Followed}
 use Rattle.update.specs.declared.start.Opened.{Opened}
 use Rattle.update.specs.declared.start.Start as program
 use Rattle.update.specs.declared.start.Wanted.{Wanted}
-use Rattle.update.proofs.Copied.{all_first, copies_of}
+use Rattle.update.proofs.Copied.{copies_of, stored_since}
 use Rattle.update.proofs.Storing.{closed_outcome, outcome_on}
+
+-- ---- what is neither the state nor below the folder for copies
+
+pub outside_same : (into state : List ℕ) (old new : Kept) → new ≡ old → OutsideKept into state old new
+outside_same into state old new same place isnt none bytes = ap (λ (k : Kept). k place bytes) same
+
+pub outside_stored : (into state : List ℕ) (old new : Kept) → OthersKept state old new → OutsideKept into state old new
+outside_stored into state old new others place isnt none bytes = others place bytes isnt
+
+pub outside_then : (into state : List ℕ) (old mid new : Kept) → OthersKept state old mid → OutsideKept into state mid new → OutsideKept into state old new
+outside_then into state old mid new others outside place isnt none bytes = outside place isnt none bytes ∙ others place bytes isnt
+
+pub ruleset outside = (outside_same, outside_stored, outside_then)
+
+-- what was stored as the state still is
+pub still_stored : (mid after : Kept) (place text : List ℕ) → IsSameAt place mid after → mid place text ≡ true → after place text ≡ true
+still_stored mid after place text same kept = same text ∙ kept
 
 -- ---- the course
 
@@ -58,7 +77,7 @@ module _ (m n : Mirror) (s : program.Start) (wanted : Wanted) (f : Followed) (o 
         outcome = o;
         are_wanted = subst (λ (t : State). AreWanted wanted t.root.reading.consistent names paths) (sym ended) d.are_wanted;
         of_workflow = outcome_on n.targets.lists m.targets.lists n.targets.holds m.targets.holds r (file_in d.metadata) o same.targets.lists same.targets.holds
-            (closed_outcome {E = ⊤} n.targets.lists n.targets.holds r (file_in d.metadata) s.limit f.course (Ok o) d.of_request refl closed);
+            (closed_outcome {E = ⊤} n.targets.lists n.targets.holds r (file_in d.metadata) f.course (Ok o) d.of_request closed);
         kept = subst (λ (t : State). keeps (state_text t) ≡ true) state kept;
         then = then;
       }
@@ -71,35 +90,75 @@ module _ (m n : Mirror) (s : program.Start) (wanted : Wanted) (f : Followed) (o 
 
   -- ---- and copies were stored, of the paths by another name
 
-  module _ {K : Type 0} (took : K → List ℕ → Bool) (p : List (String Global)) (copies given : List (Option K)) (verdicts : List Verdict) (mid before after : Kept)
-      (paths : p ≡ paths_from wanted f.listed.items) (copies_are : given ≡ copies) (verdicts_are : verdicts ≡ o.verdicts) (unchanged : mid ≡ before)
+  module _ {K : Type 0} (place into : List ℕ) (same_place : place ≡ into) (by_folder later_folder by_system later_system : List ℕ → Bool) (same_folder : later_folder ≡ by_folder)
+      (same_blocks : later_system ≡ by_system)
+      (took : K → List ℕ → Bool) (p : List (String Global)) (copies given : List (Option K)) (verdicts : List Verdict) (mid before after : Kept)
+      (paths : p ≡ paths_from wanted f.listed.items) (copies_are : given ≡ copies) (verdicts_are : verdicts ≡ o.verdicts)
+      (only : (place : List ℕ) → place ≢ s.state.now → IsSameAt place before mid)
       (for_course : AreCopiesFor took copies f.course.searches) where
-    as_copied : (P : Lookup → List (List ℕ) → Kept → Kept → Type 0)
-        → ((found : Lookup) → AreCopiesOf took found (map string_bytes p) given → P found (good_paths (map string_bytes p) verdicts) mid after)
-        → P (target_for (start_of s (paths_of wanted f)) (file_in d.metadata)) (good_paths (paths_of wanted f) o.verdicts) before after
-    as_copied P copied =
+    abbrev request : Request
+    request = start_of s (paths_of wanted f)
+
+    -- what holds whatever the targets are holds of those of the searches
+    as_found : (P : List ℕ → (List ℕ → Bool) → (List ℕ → Bool) → Lookup → List (List ℕ) → List Verdict → Type 0)
+        → ((found : Lookup) → AreCopiesOf took found (map string_bytes p) given → P place by_folder by_system found (map string_bytes p) verdicts)
+        → P into later_folder later_system (target_for request (file_in d.metadata)) (paths_of wanted f) o.verdicts
+    as_found P copied =
         let all = paths_of wanted f in
         let same_paths : map string_bytes p ≡ all = ap (map string_bytes) paths in
-        let found = target_for (start_of s all) (file_in d.metadata) in
-        let are = copies_of took copies (start_of s all) (file_in d.metadata) f.course d.of_request for_course in
-        let stored_are = copied found (subst (λ l. AreCopiesOf took found l given) (sym same_paths) (subst (AreCopiesOf took found all) (sym copies_are) are)) in
-        subst (λ k. P found (good_paths all o.verdicts) k after) unchanged
-        (subst (λ v. P found (good_paths all v) mid after) verdicts_are (subst (λ l. P found (good_paths l verdicts) mid after) same_paths stored_are))
+        let found = target_for request (file_in d.metadata) in
+        let are = copies_of took copies request (file_in d.metadata) f.course d.of_request for_course in
+        subst (λ b. P into b later_system found all o.verdicts) (sym same_folder)
+        (subst (λ k. P into by_folder k found all o.verdicts) (sym same_blocks)
+        (subst (λ z. P z by_folder by_system found all o.verdicts) same_place
+        (subst (λ v. P place by_folder by_system found all v) verdicts_are
+        (subst (λ l. P place by_folder by_system found l verdicts) same_paths
+        (copied found (subst (λ l. AreCopiesOf took found l given) (sym same_paths) (subst (AreCopiesOf took found all) (sym copies_are) are)))))))
 
-    pub stored_into : {E : Type 0} (old new : Option (List ℕ)) (r : Result ℕ E)
-        → ((found : Lookup) → AreCopiesOf took found (map string_bytes p) given → AreGoodCopied found (map string_bytes p) verdicts mid after)
-        → IfOk r (λ status. IsPrinted o (map string_bytes p) status old new) → IfOk r (λ status. IsStoredOn m s wanted keeps (IsPrintedInto old new before after status))
-    stored_into old new (Ok status) copied lines = stored (IsPrintedInto old new before after status) (record {
-      is_printed = subst (λ l. IsPrinted o l status old new) (ap (map string_bytes) paths) lines;
-      copied = as_copied AreCopied copied;
+    all_stored : (stored : List Bool) → AreInstalled took given place s.state.now (is_blocked by_folder by_system place) (map string_bytes p) verdicts mid after stored
+        → AreStored into s.state.now (is_blocked later_folder later_system into) (target_for request (file_in d.metadata)) (paths_of wanted f) o.verdicts stored before after
+    all_stored stored copied = stored_since into s.state.now _ _ (paths_of wanted f) o.verdicts stored before mid after only
+        (as_found (λ z b k found l v. AreStored z s.state.now (is_blocked b k z) found l v stored mid after) copied)
+
+    pub stored_into : {E : Type 0} (old new : Option (List ℕ)) (r : Result ℕ E) (stored told : List Bool) → told ≡ stored → length stored ≡ length p
+        → AreInstalled took given place s.state.now (is_blocked by_folder by_system place) (map string_bytes p) verdicts mid after stored
+        → IfOk r (λ status. IsPrintedWith o (map string_bytes p) told status old new)
+        → IfOk r (λ status. IsStoredOn m s wanted keeps (IsPrintedInto old new into s.state.now (is_blocked later_folder later_system into) before after status))
+    stored_into old new (Ok status) list told same count copied lines = stored (IsPrintedInto old new into s.state.now (is_blocked later_folder later_system into) before after status) (record {
+      stored = list;
+      by_position = count ∙ sym (length-map p string_bytes) ∙ ap (λ (l : List (String Global)). length (map string_bytes l)) paths;
+      are_stored = all_stored list copied;
+      is_printed = subst (λ l. IsPrintedWith o l list status old new) (ap (map string_bytes) paths) (subst (λ t. IsPrintedWith o (map string_bytes p) t status old new) same lines);
     })
-    stored_into old new (Err e) copied lines = tt
+    stored_into old new (Err e) list told same count copied lines = tt
 
-    pub begun_into : ((found : Lookup) → AreCopiesOf took found (map string_bytes p) given → AreFirstGoodCopied found (map string_bytes p) verdicts mid after)
-        → IsStoredOn m s wanted keeps (AreBegun before after)
-    begun_into copied = stored (AreBegun before after) (as_copied AreFirstCopied copied)
+    pub begun_into : AreSomeInstalled took given place s.state.now (is_blocked by_folder by_system place) (map string_bytes p) verdicts mid after
+        → IsStoredOn m s wanted keeps (AreBegun into s.state.now (is_blocked later_folder later_system into) before after)
+    begun_into copied =
+        let some = as_found (λ z b k found l v. AreSomeStored z s.state.now (is_blocked b k z) found l v mid after) copied in
+        stored (AreBegun into s.state.now (is_blocked later_folder later_system into) before after)
+        (some.0, stored_since into s.state.now _ _ (paths_of wanted f) o.verdicts some.0 before mid after only some.1)
 
     -- all of them, though the lines were not printed
-    pub all_begun : ((found : Lookup) → AreCopiesOf took found (map string_bytes p) given → AreGoodCopied found (map string_bytes p) verdicts mid after)
-        → IsStoredOn m s wanted keeps (AreBegun before after)
-    all_begun copied = stored (AreBegun before after) (all_first _ _ before after (as_copied AreCopied copied))
+    pub all_begun : (list : List Bool) → AreInstalled took given place s.state.now (is_blocked by_folder by_system place) (map string_bytes p) verdicts mid after list
+        → IsStoredOn m s wanted keeps (AreBegun into s.state.now (is_blocked later_folder later_system into) before after)
+    all_begun list copied = stored (AreBegun into s.state.now (is_blocked later_folder later_system into) before after) (list, all_stored list copied)
+
+-- ---- what the words name
+
+pub ok_if : {A E P : Type 0} (r : Result A E) → P → OnOk r P
+ok_if (Ok x) p = p
+ok_if (Err e) p = tt
+
+pub then_err : {A E P Q : Type 0} (r : Result A E) → (P → Q) → OnErr r P → OnErr r Q
+then_err (Ok x) f h = tt
+then_err (Err e) f h = f h
+
+-- the same, for the place of the state, the folder and what was stored by other names
+pub begun_as : (ms : List Mirror) (s : program.Start) (wanted : Wanted) (keeps : List ℕ → Bool) (into state named : List ℕ) (by_folder later by_system : List ℕ → Bool) (before first new : Kept)
+    → state ≡ named → later ≡ by_folder → before ≡ first → IsStored ms s wanted keeps (AreBegun into state (is_blocked by_folder by_system into) before new)
+    → IsStored ms s wanted keeps (AreBegun into named (is_blocked later by_system into) first new)
+begun_as ms s wanted keeps into state named by_folder later by_system before first new place blocks kept h =
+    subst (λ z. IsStored ms s wanted keeps (AreBegun into z (is_blocked later by_system into) first new)) place
+    (subst (λ k. IsStored ms s wanted keeps (AreBegun into state (is_blocked k by_system into) first new)) (sym blocks)
+    (subst (λ o. IsStored ms s wanted keeps (AreBegun into state (is_blocked by_folder by_system into) o new)) kept h))

@@ -11,10 +11,10 @@ after_failure (Ok x) p = tt
 after_failure (Err e) p = p
 
 -- the outcome of a closed course, where its parts have other names
-pub closed_outcome : {E : Type 0} (lists : List (List ℕ) → Bool) (holds : List ℕ → List ℕ → Bool) (s : Request) (metadata : Files) (most : ℕ) (c : Course) (r : Result Outcome E)
-    → c ≡ course (record s { limit = most }) metadata → most ≡ s.limit
+pub closed_outcome : {E : Type 0} (lists : List (List ℕ) → Bool) (holds : List ℕ → List ℕ → Bool) (s : Request) (metadata : Files) (c : Course) (r : Result Outcome E)
+    → c ≡ course s metadata
     → IfOk r (IsClosed lists holds c) → IfOk r (IsOutcomeOn lists holds s metadata)
-closed_outcome lists holds s metadata most c (Ok o) is limit h = record {
+closed_outcome lists holds s metadata c (Ok o) same h = record {
   targets = h.seen;
   may_be_seen = h.may_be_seen;
   of_files = record {
@@ -25,10 +25,7 @@ closed_outcome lists holds s metadata most c (Ok o) is limit h = record {
     are_seen = h.are_seen;
   };
 }
-  where
-    same : c ≡ course s metadata
-    same = is ∙ ap (λ n. course (record s { limit = n }) metadata) limit
-closed_outcome lists holds s metadata most c (Err e) is limit h = tt
+closed_outcome lists holds s metadata c (Err e) same h = tt
 
 -- the folder's meaning by another name
 pub outcome_on : (lists lists' : List (List ℕ) → Bool) (holds holds' : List ℕ → List ℕ → Bool) (s : Request) (metadata : Files) (o : Outcome)

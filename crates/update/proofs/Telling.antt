@@ -1,8 +1,8 @@
 -- What a writer was given.
-use Rattle.std.proofs.Common.{◌≡◌, Result, Ok, Err, IfOk, OnOk, List, ℕ, Option}
+use Rattle.std.proofs.Common.{◌≡◌, Result, Ok, Err, IfOk, OnOk, Bool, List, ℕ, Option}
 use Rattle.std.specs.Io.KnownBytes.{Appends}
-use Rattle.report.specs.Lines.{cycles_text, outcome_text, last_status, outcome_status}
-use Rattle.update.specs.Cycles.{ArePrinted}
+use Rattle.report.specs.Lines.{outcome_text, outcome_status, stored_outcome_status, stored_outcome_text}
+use Rattle.update.specs.Copies.{IsPrintedWith}
 use Rattle.update.specs.Runs.{IsPrinted, Outcome}
 
 -- the lines and the status of an answer
@@ -12,9 +12,9 @@ pub printed : {E : Type 0} (o : Outcome) (wanted : List (List ℕ)) (old new : O
 printed o wanted old new (Ok status) lines answered = record { lines = lines; answered = answered }
 printed o wanted old new (Err e) lines answered = tt
 
--- the lines and the last status of an answer
-pub printed_all : {E : Type 0} (os : List Outcome) (wanted : List (List ℕ)) (old new : Option (List ℕ)) (r : Result ℕ E)
-    → OnOk r (Appends old new (cycles_text wanted os)) → IfOk r (λ status. status ≡ last_status os)
-    → IfOk r (λ status. ArePrinted os wanted status old new)
-printed_all os wanted old new (Ok status) lines answered = record { lines = lines; answered = answered }
-printed_all os wanted old new (Err e) lines answered = tt
+-- the same with copies
+pub printed_with : {E : Type 0} (o : Outcome) (wanted : List (List ℕ)) (stored : List Bool) (old new : Option (List ℕ)) (r : Result ℕ E)
+    → OnOk r (Appends old new (stored_outcome_text o wanted stored)) → IfOk r (λ status. status ≡ stored_outcome_status o stored)
+    → IfOk r (λ status. IsPrintedWith o wanted stored status old new)
+printed_with o wanted stored old new (Ok status) lines answered = record { lines = lines; answered = answered }
+printed_with o wanted stored old new (Err e) lines answered = tt

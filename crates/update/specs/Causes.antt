@@ -1,33 +1,21 @@
 -- Why a run fails.
 use Rattle.std.specs.Bool.{⊤}
-use Rattle.std.specs.Prelude.{◌≡◌, ◌<◌, ◌⊎◌, ℕ, List, Bool, true, Option, Err, ◌∷◌}
+use Rattle.std.specs.Prelude.{◌≡◌, ◌⊎◌, ℕ, List, Bool, true, Option, Err, ◌∷◌}
 use Rattle.failure.specs.declared.failure.Failure.{Failure}
-use Rattle.failure.specs.declared.failure.Failure.TheVariants.{Words, Now, State, Input, Folder, Clock, Output, Memory}
+use Rattle.failure.specs.declared.failure.Failure.TheVariants.{Now, State, Input, Folder, Clock, Output, Memory}
 use Rattle.folder.specs.Folders.{HasFailed}
 use Rattle.rolechain.specs.Text.{state_of}
 use Rattle.rolechain.specs.declared.fault.StateFault.{StateFault}
 use Rattle.update.specs.Moments.{IsMomentOf, IsNoMoment, Moment}
-use Rattle.update.specs.Runs.{Begins, moment_text}
+use Rattle.update.specs.Runs.{Begins, given_by, moment_text}
 pub use Rattle.update.specs.World.{Mirror, World}
-use Rattle.update.specs.declared.replaying.Cycles.{Cycles}
 use Rattle.update.specs.declared.start.Settings.{Settings}
-use Rattle.update.specs.declared.start.Start as program
-use Rattle.update.specs.declared.start.Terms.{Terms}
 
 -- # What can be at fault.
 
--- a number is out of its range: 1 to 256 roles, at most 64 workers
-abbrev pub AreWrong : ℕ → ℕ → Type 0
-AreWrong limit workers = (limit < 1) ⊎ (256 < limit) ⊎ (64 < workers)
-
--- the same, or the number of cached files: 1 to 4,096
-abbrev pub AreWrongToKeep : ℕ → ℕ → ℕ → Type 0
-AreWrongToKeep limit workers keep = AreWrong limit workers ⊎ (keep < 1) ⊎ (4096 < keep)
-
 -- a call of one of the two folders failed
 abbrev pub HaveFailed : Mirror → Mirror → Type 0
-HaveFailed old new = HasFailed old.metadata.failures new.metadata.failures
-    ⊎ HasFailed old.targets.failures new.targets.failures
+HaveFailed old new = HasFailed old.metadata new.metadata ⊎ HasFailed old.targets new.targets
 
 -- a call of a folder of one of the repositories failed
 abbrev pub SomeFailed : List Mirror → List Mirror → Type 0
@@ -40,7 +28,7 @@ IsNoState gives is_refused = (is_refused ≡ true)
     ⊎ ((text : List ℕ) × (fault : StateFault) × ((gives text ≡ true) × (state_of text ≡ Err fault)))
 
 -- the moment was read, and the state can't be
-pub record HasNoState (text : Option (List ℕ)) (shows : ℕ → Bool) (gives : List ℕ → Bool)
+pub record HasNoState (text : Option (List ℕ)) (shows : Option ℕ → Bool) (gives : List ℕ → Bool)
     (is_refused : Bool) : Type 0 where
   pub moment : Moment
   pub of_moment : IsMomentOf shows text moment
@@ -49,9 +37,9 @@ pub record HasNoState (text : Option (List ℕ)) (shows : ℕ → Bool) (gives :
 -- # The cause of each failure. Any run may run out of memory, or not be able to write.
 
 -- of reading the moment, and then the state
-abbrev pub IsCauseToBegin : Option (List ℕ) → (ℕ → Bool) → (List ℕ → Bool) → Bool → Failure → Type 0
-IsCauseToBegin text shows gives is_refused Now = IsNoMoment text Now
-IsCauseToBegin text shows gives is_refused Clock = IsNoMoment text Clock
+abbrev pub IsCauseToBegin : Option (List ℕ) → (Option ℕ → Bool) → (List ℕ → Bool) → Bool → Failure → Type 0
+IsCauseToBegin text shows gives is_refused Now = IsNoMoment shows text Now
+IsCauseToBegin text shows gives is_refused Clock = IsNoMoment shows text Clock
 IsCauseToBegin text shows gives is_refused State = HasNoState text shows gives is_refused
 IsCauseToBegin text shows gives is_refused Memory = ⊤
 IsCauseToBegin text shows gives is_refused _ = ⊥
@@ -62,29 +50,17 @@ IsCauseToRead old new Folder = SomeFailed old new
 IsCauseToRead old new Memory = ⊤
 IsCauseToRead old new _ = ⊥
 
--- of a run from a start, where `wrong` says that a number is out of its range
-abbrev pub IsCauseFrom : Type 0 → List Mirror → List Mirror → Failure → Type 0
-IsCauseFrom wrong old new Words = wrong
-IsCauseFrom wrong old new Output = ⊤
-IsCauseFrom wrong old new f = IsCauseToRead old new f
+-- of a run from a start
+abbrev pub IsCauseFrom : List Mirror → List Mirror → Failure → Type 0
+IsCauseFrom old new Output = ⊤
+IsCauseFrom old new f = IsCauseToRead old new f
 
 -- of a run from the state and the moment that the words name, which are read first
-abbrev pub IsCause : (program.Start → Type 0) → Settings → World → World → Failure → Type 0
-IsCause wrong settings old new f =
-    IsCauseToBegin (moment_text settings) old.shows (old.gives_locked settings.state.now)
-    (old.refuses settings.state.now) f
-    ⊎ Begins settings old (λ s. IsCauseFrom (wrong s) old.mirrors new.mirrors f)
-
--- ---- verifications, and cycles one after the other
-
-abbrev pub IsCauseToVerifyFrom : program.Start → World → World → Failure → Type 0
-IsCauseToVerifyFrom s old new = IsCauseFrom (AreWrong s.limit s.workers) old.mirrors new.mirrors
-
-abbrev pub IsCauseToVerify : Terms → World → World → Failure → Type 0
-IsCauseToVerify terms = IsCause (λ s. AreWrong s.limit s.workers) terms.settings
-
-abbrev pub IsCauseToReplay : Cycles → World → World → Failure → Type 0
-IsCauseToReplay c = IsCause (λ s. AreWrongToKeep s.limit s.workers c.keep) c.settings
+abbrev pub IsCause : Settings → World → World → Failure → Type 0
+IsCause settings old new f =
+    IsCauseToBegin (moment_text settings) old.shows
+    (given_by settings.locking old.gives_locked old.gives settings.state.now) (old.refuses settings.state.now) f
+    ⊎ Begins settings old (λ _. IsCauseFrom old.mirrors new.mirrors f)
 
 -- ---- a first root
 

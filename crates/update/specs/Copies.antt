@@ -1,16 +1,19 @@
 -- A verification that stores copies of the good targets.
-use Rattle.std.specs.List.{list_all}
-use Rattle.std.specs.Prelude.{◌≡◌, ◌⊎◌, ℕ, Bool, true, false, if◌then◌else◌, List, [], ◌∷◌, take, Option, IsSomeAnd, map, string_bytes}
+use Rattle.std.specs.Io.KnownBytes.{Appends}
+use Rattle.std.specs.List.{list_all, list_any, slice_get, starts_with}
+use Rattle.std.specs.Option.{option_map_or}
+use Rattle.std.specs.Prelude.{◌≡◌, ◌≢◌, ◌⊎◌, ℕ, Bool, true, false, not, ◌&&◌, ◌||◌, if◌then◌else◌, List, [], ◌∷◌, ◌++◌, length, Option, Some, IsSomeAnd, map, string_bytes, bytes_eq, nat_eq}
 use Rattle.copies.specs.Paths.{IsSameAt, is_below}
 use Rattle.cycle.specs.Workflow.{Target, searched, target_of}
 use Rattle.cycle.specs.declared.verdict.Verdict.{Verdict}
 use Rattle.failure.specs.declared.failure.Failure.{Failure}
 use Rattle.failure.specs.declared.failure.Failure.TheVariants.{Words}
+use Rattle.folder.specs.Folders.{path_below}
 use Rattle.folder.specs.Seen.{is_named}
 use Rattle.measured.specs.Copied.{IsContentOf}
-use Rattle.report.specs.Lines.{is_good}
-use Rattle.update.specs.Causes.{IsCauseToVerify}
-use Rattle.update.specs.Runs.{Files, IsPrinted, IsUntouched, Outcome, Request, Stores, StoresFrom, World, course}
+use Rattle.report.specs.Lines.{is_good, stored_outcome_status, stored_outcome_text}
+use Rattle.update.specs.Causes.{IsCause}
+use Rattle.update.specs.Runs.{Files, IsUntouched, Outcome, Request, Stores, StoresFrom, World, course}
 use Rattle.update.specs.declared.start.Start as program
 use Rattle.update.specs.declared.start.Terms.{Terms}
 use Rattle.update.specs.declared.start.Wanted.{Wanted}
@@ -18,12 +21,55 @@ use Rattle.update.specs.declared.start.Wanted.TheVariants.{Paths, Every}
 
 -- # Which paths are copied, and what.
 
+-- the paths whose flag is set, in order
+abbrev pub chosen : List (List ℕ) → List Bool → List (List ℕ)
+chosen [] flags = []
+chosen (path ∷ paths) [] = []
+chosen (path ∷ paths) (flag ∷ flags) =
+    if flag then path ∷ chosen paths flags else chosen paths flags
+
 -- the wanted paths whose verdict is good, in order
 abbrev pub good_paths : List (List ℕ) → List Verdict → List (List ℕ)
-good_paths [] verdicts = []
-good_paths (path ∷ paths) [] = []
-good_paths (path ∷ paths) (v ∷ verdicts) =
-    if is_good v then path ∷ good_paths paths verdicts else good_paths paths verdicts
+good_paths wanted verdicts = chosen wanted (map is_good verdicts)
+
+-- there is a verdict at the index, and it is good
+abbrev pub is_good_at : List Verdict → ℕ → Bool
+is_good_at verdicts i = option_map_or is_good (slice_get verdicts i) false
+
+-- one of the paths is below this one
+abbrev pub is_folder_of_one : List (List ℕ) → List ℕ → Bool
+is_folder_of_one paths path =
+    list_any (λ other. starts_with nat_eq other (path ++ 47 ∷ [])) paths
+
+-- a copy may have the path: it is one below the folder, and none of these paths is below it
+abbrev pub may_have_copy : List (List ℕ) → List ℕ → Bool
+may_have_copy paths path = is_below path && not (is_folder_of_one paths path)
+
+-- the place of the path isn't the state's
+abbrev pub is_free : List ℕ → List ℕ → List ℕ → Bool
+is_free into state path = not (bytes_eq (path_below into path) state)
+
+-- both
+abbrev pub has_place : List ℕ → List ℕ → List (List ℕ) → List ℕ → Bool
+has_place into state paths path = may_have_copy paths path && is_free into state path
+
+-- the folder or the system puts no file at the place of the path
+abbrev pub is_blocked : (List ℕ → Bool) → (List ℕ → Bool) → List ℕ → List ℕ → Bool
+is_blocked by_folder by_system into path = by_folder path || by_system (path_below into path)
+
+-- if it was stored, the path has a place; else it has none, or it is blocked
+abbrev pub IsFlag : (List ℕ → Bool) → (List ℕ → Bool) → List ℕ → Bool → Type 0
+IsFlag has_place blocked path true = has_place path ≡ true
+IsFlag has_place blocked path false = (has_place path ≡ false) ⊎ (blocked path ≡ true)
+
+-- for each of the first wanted paths, whether a copy was stored: only if the verdict is good, and
+-- then exactly if the path has a place and isn't blocked
+pub record AreFlags (has_place blocked : List ℕ → Bool) (wanted : List (List ℕ))
+    (verdicts : List Verdict) (stored : List Bool) : Type 0 where
+  pub only_good : (i : ℕ) → slice_get stored i ≡ Some true → is_good_at verdicts i ≡ true
+  pub each : (i : ℕ) (path : List ℕ) (flag : Bool) → slice_get wanted i ≡ Some path
+      → slice_get stored i ≡ Some flag → is_good_at verdicts i ≡ true
+      → IsFlag has_place blocked path flag
 
 -- the target that the search for a path finds
 abbrev pub target_for : Request → Files → List ℕ → Option Target
@@ -34,65 +80,96 @@ target_for r metadata path = let c = course r metadata in
 abbrev pub Kept : Type 0
 Kept = List ℕ → List ℕ → Bool
 
--- the path was stored below the folder, with the bytes of the target
-pub record IsCopied (keeps : Kept) (path : List ℕ) (t : Target) : Type 0 where
+-- the path below the folder was stored with the bytes of the target
+pub record IsCopied (into : List ℕ) (keeps : Kept) (path : List ℕ) (t : Target) : Type 0 where
   pub below : is_below path ≡ true
   pub bytes : List ℕ
-  pub kept : keeps path bytes ≡ true
+  pub kept : keeps (path_below into path) bytes ≡ true
   pub content : IsContentOf t bytes
 
--- these paths were stored, each with the bytes of the target that its search found, and no others
-pub record AreCopied (found : List ℕ → Option Target) (paths : List (List ℕ)) (old new : Kept)
-    : Type 0 where
-  pub each : (path : List ℕ) → is_named paths path ≡ true
-      → IsSomeAnd (found path) (IsCopied new path)
-  pub others : (path : List ℕ) → is_named paths path ≡ false → IsSameAt path old new
+-- the place isn't that of one of the paths below the folder
+abbrev pub IsOfNone : List ℕ → List (List ℕ) → List ℕ → Type 0
+IsOfNone into paths place =
+    (path : List ℕ) → is_named paths path ≡ true → place ≢ path_below into path
 
--- so were the first ones of these paths
-abbrev pub AreFirstCopied : (List ℕ → Option Target) → List (List ℕ) → Kept → Kept → Type 0
-AreFirstCopied found paths old new = (n : ℕ) × AreCopied found (take n paths) old new
+-- These paths below the folder were stored, each with the bytes of the target that its search
+-- found. Of all other places none changed but the state's.
+pub record AreCopied (into state : List ℕ) (found : List ℕ → Option Target)
+    (paths : List (List ℕ)) (old new : Kept) : Type 0 where
+  pub each : (path : List ℕ) → is_named paths path ≡ true
+      → IsSomeAnd (found path) (IsCopied into new path)
+  pub others : (place : List ℕ) → place ≢ state → IsOfNone into paths place
+      → IsSameAt place old new
+
+-- the copies of the paths whose flags are set were stored, and each flag has its cause
+pub record AreStored (into state : List ℕ) (blocked : List ℕ → Bool)
+    (found : List ℕ → Option Target) (wanted : List (List ℕ)) (verdicts : List Verdict)
+    (stored : List Bool) (old new : Kept) : Type 0 where
+  pub flags : AreFlags (has_place into state (good_paths wanted verdicts)) blocked wanted verdicts
+      stored
+  pub copied : AreCopied into state found (chosen wanted stored) old new
+
+-- so were those of some of the first wanted paths
+abbrev pub AreSomeStored : List ℕ → List ℕ → (List ℕ → Bool) → (List ℕ → Option Target)
+    → List (List ℕ) → List Verdict → Kept → Kept → Type 0
+AreSomeStored into state blocked found wanted verdicts old new =
+    (stored : List Bool) × AreStored into state blocked found wanted verdicts stored old new
+
+-- what is stored outside of the folder, and not as the state, is as it was
+abbrev pub OutsideKept : List ℕ → List ℕ → Kept → Kept → Type 0
+OutsideKept into state old new = (place : List ℕ) → place ≢ state
+    → ((path : List ℕ) → is_below path ≡ true → place ≢ path_below into path)
+    → IsSameAt place old new
 
 -- # What a verification stores and prints.
 
--- the lines were printed, this is the status, and the good paths were copied
-pub record IsPrintedInto (old new : Option (List ℕ)) (before after : Kept) (status : ℕ)
-    (start : Request) (metadata : Files) (o : Outcome) : Type 0 where
-  pub is_printed : IsPrinted o start.wanted status old new
-  pub copied : AreCopied (target_for start metadata) (good_paths start.wanted o.verdicts)
-      before after
+-- the lines of an outcome of which these copies were stored were printed, and this is its status
+pub record IsPrintedWith (o : Outcome) (wanted : List (List ℕ)) (stored : List Bool) (status : ℕ)
+    (old new : Option (List ℕ)) : Type 0 where
+  pub lines : Appends old new (stored_outcome_text o wanted stored)
+  pub answered : status ≡ stored_outcome_status o stored
 
--- the first good paths were copied
-abbrev pub AreBegun : Kept → Kept → Request → Files → Outcome → Type 0
-AreBegun before after start metadata o =
-    AreFirstCopied (target_for start metadata) (good_paths start.wanted o.verdicts) before after
+-- for each wanted path it was decided whether its copy is stored, and that was printed
+pub record IsPrintedInto (old new : Option (List ℕ)) (into state : List ℕ)
+    (blocked : List ℕ → Bool) (before after : Kept) (status : ℕ) (start : Request)
+    (metadata : Files) (o : Outcome) : Type 0 where
+  pub stored : List Bool
+  pub by_position : length stored ≡ length start.wanted
+  pub are_stored : AreStored into state blocked (target_for start metadata) start.wanted
+      o.verdicts stored before after
+  pub is_printed : IsPrintedWith o start.wanted stored status old new
 
--- nothing was stored, copied or printed
-abbrev pub IsUntouchedInto : World → World → Kept → Kept → Type 0
-IsUntouchedInto old new before after = IsUntouched old new × (after ≡ before)
+-- copies of some of the first wanted paths were stored
+abbrev pub AreBegun : List ℕ → List ℕ → (List ℕ → Bool) → Kept → Kept → Request → Files → Outcome
+    → Type 0
+AreBegun into state blocked before after start metadata o = AreSomeStored into state blocked
+    (target_for start metadata) start.wanted o.verdicts before after
 
 -- # A verification of the only repository, with copies of its good targets.
 
 -- ---- from a state and a moment that were read
 
-abbrev pub IsVerifiedIntoFrom : program.Start → Wanted → World → World → Kept → Kept → ℕ → Type 0
-IsVerifiedIntoFrom s wanted old new before after status =
-    StoresFrom s wanted old new (IsPrintedInto old.printed new.printed before after status)
+abbrev pub IsVerifiedIntoFrom : program.Start → Wanted → List ℕ → (List ℕ → Bool) → World → World
+    → ℕ → Type 0
+IsVerifiedIntoFrom s wanted into blocked old new status = StoresFrom s wanted old new
+    (IsPrintedInto old.printed new.printed into s.state.now blocked old.keeps new.keeps status)
 
--- nothing was stored, copied or printed, or the new state was stored, and the first good paths were
--- copied
-abbrev pub IsUntouchedOrBegunFrom : program.Start → Wanted → World → World → Kept → Kept → Type 0
-IsUntouchedOrBegunFrom s wanted old new before after =
-    IsUntouchedInto old new before after ⊎ StoresFrom s wanted old new (AreBegun before after)
+-- nothing was stored, copied or printed, or the new state was stored, and the copies of some of the
+-- first wanted paths
+abbrev pub IsUntouchedOrBegunFrom : program.Start → Wanted → List ℕ → (List ℕ → Bool) → World
+    → World → Type 0
+IsUntouchedOrBegunFrom s wanted into blocked old new = IsUntouched old new
+    ⊎ StoresFrom s wanted old new (AreBegun into s.state.now blocked old.keeps new.keeps)
 
 -- ---- from those that the words name
 
-abbrev pub IsVerifiedInto : Terms → World → World → Kept → Kept → ℕ → Type 0
-IsVerifiedInto terms old new before after status =
-    Stores terms old new (IsPrintedInto old.printed new.printed before after status)
+abbrev pub IsVerifiedInto : Terms → List ℕ → (List ℕ → Bool) → World → World → ℕ → Type 0
+IsVerifiedInto terms into blocked old new status = Stores terms old new (IsPrintedInto old.printed
+    new.printed into terms.settings.out.now blocked old.keeps new.keeps status)
 
-abbrev pub IsUntouchedOrBegun : Terms → World → World → Kept → Kept → Type 0
-IsUntouchedOrBegun terms old new before after =
-    IsUntouchedInto old new before after ⊎ Stores terms old new (AreBegun before after)
+abbrev pub IsUntouchedOrBegun : Terms → List ℕ → (List ℕ → Bool) → World → World → Type 0
+IsUntouchedOrBegun terms into blocked old new = IsUntouched old new
+    ⊎ Stores terms old new (AreBegun into terms.settings.out.now blocked old.keeps new.keeps)
 
 -- # Why it fails.
 
@@ -104,4 +181,4 @@ may_be_copied Every = true
 -- a given path that no copy may have, before anything else; or as without copies
 abbrev pub IsCauseToVerifyInto : Terms → World → World → Failure → Type 0
 IsCauseToVerifyInto terms old new f =
-    ((f ≡ Words) × (may_be_copied terms.wanted ≡ false)) ⊎ IsCauseToVerify terms old new f
+    ((f ≡ Words) × (may_be_copied terms.wanted ≡ false)) ⊎ IsCause terms.settings old new f

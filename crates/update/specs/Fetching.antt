@@ -9,7 +9,7 @@ use Rattle.needs.specs.declared.need.Need.{Need}
 use Rattle.needs.specs.declared.need.Place.{Place}
 use Rattle.report.specs.Fetching.{needs_text}
 use Rattle.rolechain.specs.Advance as chain
-use Rattle.update.specs.Causes.{AreWrong, IsCauseFrom, IsCauseToBegin}
+use Rattle.update.specs.Causes.{IsCauseFrom, IsCauseToBegin}
 use Rattle.update.specs.Moments.{IsMomentOf, Moment}
 use Rattle.update.specs.Runs.{AreMetadata, Files, IsRead, Loaded, Request, course, request}
 pub use Rattle.update.specs.World.{Mirror, World}
@@ -22,7 +22,7 @@ text_of w = option_map (λ t. t.now) w.moment
 
 -- what the words request, as a verification has it, with a state and a moment that were read
 abbrev pub request_of : Wants → chain.State → Moment → Request
-request_of w trusted moment = request trusted moment w.wanted.items w.limit
+request_of w trusted moment = request trusted moment w.wanted.items w.limits.roles
 
 -- The moment and the trusted state that the words name were read, whether or not another run has
 -- locked the state, and more follows from them.
@@ -72,11 +72,7 @@ abbrev pub IsCauseToStart : Wants → World → Failure → Type 0
 IsCauseToStart w old =
     IsCauseToBegin (text_of w) old.shows (old.gives w.state.now) (old.refuses w.state.now)
 
--- the number of roles is out of its range, a folder failed, or there is no memory or no output
-abbrev pub IsCauseToList : ℕ → List Mirror → List Mirror → Failure → Type 0
-IsCauseToList limit = IsCauseFrom (AreWrong limit 0)
-
 abbrev pub IsCauseOfNext : Wants → World → World → Failure → Type 0
 IsCauseOfNext w old new f =
     IsCauseToStart w old f
-    ⊎ Starts w old (λ _ _. IsCauseToList w.limit old.mirrors new.mirrors f)
+    ⊎ Starts w old (λ _ _. IsCauseFrom old.mirrors new.mirrors f)

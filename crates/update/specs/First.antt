@@ -1,7 +1,7 @@
 -- The first root, which is trusted because it was handed in.
 use Rattle.std.specs.Bool.{⊤}
 use Rattle.std.specs.Io.KnownBytes.{Appends}
-use Rattle.std.specs.Prelude.{◌≡◌, ◌⊎◌, ℕ, List, true, Ok, Err}
+use Rattle.std.specs.Prelude.{◌≡◌, ◌⊎◌, ℕ, List, Bool, true, Result, Ok, Err}
 use Rattle.meta.specs.declared.fault.Fault.{Fault}
 use Rattle.meta.specs.declared.fault.Fault.TheVariants as fault
 use Rattle.report.specs.Lines.{end_text, root_text}
@@ -18,6 +18,12 @@ pub use Rattle.update.specs.World.{World, IsUntouched}
 abbrev pub fault_of : StateFault → Fault
 fault_of TooLong = fault.TooLong
 fault_of other = fault.Malformed
+
+-- what a root file that may be read comes to: its state, or why it is refused
+pub record IsFirst (gives : List ℕ → Bool) (r : Result State StateFault) : Type 0 where
+  pub bytes : List ℕ
+  pub read : gives bytes ≡ true
+  pub of_root : root_state bytes ≡ r
 
 -- A root file that was read and is trusted: its state is stored, and more holds of it.
 pub record Trusts (root state : List ℕ) (old new : World) (follows : State → Type 0)

@@ -17,6 +17,8 @@ use Rattle.report.specs.Lines.{outcome_status, outcome_text}
 pub use Rattle.folder.specs.Seen.{Seen, AreSeen, MayBeSeen}
 pub use Rattle.update.specs.Moments.{IsMomentOf, Moment}
 pub use Rattle.update.specs.World.{Mirror, World, IsUntouched}
+use Rattle.update.specs.declared.start.Locking.{Locking}
+use Rattle.update.specs.declared.start.Locking.TheVariants.{Needed, Without}
 use Rattle.update.specs.declared.start.Settings.{Settings}
 use Rattle.update.specs.declared.start.Start as program
 use Rattle.update.specs.declared.start.Terms.{Terms}
@@ -28,7 +30,7 @@ use Rattle.update.specs.declared.start.Wanted.TheVariants.{Paths, Every}
 -- what a value of the program requests, for these paths
 abbrev pub start_of : program.Start → List (List ℕ) → Request
 start_of s paths =
-    record { trusted = s.trusted; moment = s.moment; wanted = paths; limit = s.limit }
+    record { trusted = s.trusted; moment = s.moment; wanted = paths; limit = s.limits.roles }
 
 -- the text of the moment, if the words have one
 abbrev pub moment_text : Settings → Option (List ℕ)
@@ -41,19 +43,26 @@ pub record IsRead (gives : List ℕ → Bool) (trusted : State) : Type 0 where
   pub of_text : state_of text ≡ Ok trusted
 
 -- what the words name: the moment and the trusted state that were read, and the rest as it is
-pub record IsStart (settings : Settings) (gives : List ℕ → List ℕ → Bool) (shows : ℕ → Bool)
+pub record IsStart (settings : Settings) (gives : List ℕ → List ℕ → Bool) (shows : Option ℕ → Bool)
     (s : program.Start) : Type 0 where
   pub read : IsRead (gives settings.state.now) s.trusted
   pub of_moment : IsMomentOf shows (moment_text settings) s.moment
-  pub limit : s.limit ≡ settings.limit
+  pub limits : s.limits ≡ settings.limits
   pub workers : s.workers ≡ settings.workers
   pub place : s.state.now ≡ settings.out.now
 
--- There is such a start, whose state was read while its file was locked, and more follows from it.
+-- what a file may give, while it is locked if it has to be
+abbrev pub given_by : Locking → (List ℕ → List ℕ → Bool) → (List ℕ → List ℕ → Bool)
+    → List ℕ → List ℕ → Bool
+given_by Needed locked free = locked
+given_by Without locked free = free
+
+-- There is such a start, whose state was read while its file was locked if it has to be, and more
+-- follows from it.
 pub record Begins (settings : Settings) (old : World) (follows : program.Start → Type 0)
     : Type 0 where
   pub start : program.Start
-  pub is_start : IsStart settings old.gives_locked old.shows start
+  pub is_start : IsStart settings (given_by settings.locking old.gives_locked old.gives) old.shows start
   pub then : follows start
 
 -- the paths that are given; or for every file, those of the names that the targets folder lists

@@ -1,15 +1,17 @@
 -- Copies while they are stored, for the contracts of private functions.
 use denote.Ref.{Bor}
 use Rattle.std.specs.BTreeSet.{BTreeSet, contains_text}
-use Rattle.std.specs.List.{AllZip, slice_get}
+use Rattle.std.specs.Cmp.Lexicographic.{slice_cmp}
+use Rattle.std.specs.List.{AllZip, slice_get, starts_with}
 use Rattle.std.specs.Option.{option_map_or}
-use Rattle.std.specs.Prelude.{◌≡◌, ℕ, Bool, false, List, [], ◌∷◌, ◌++◌, Option, Some, String, IfSome, IsSomeAnd, map}
+use Rattle.std.specs.Ordering.{is_lt, nat_cmp}
+use Rattle.std.specs.Prelude.{◌≡◌, ℕ, Bool, true, false, ◌&&◌, if◌then◌else◌, List, [], ◌∷◌, ◌++◌, length, Option, Some, String, IfSome, IsSomeAnd, map, nat_eq}
 use Rattle.cycle.specs.Workflow.{Target}
 use Rattle.cycle.specs.declared.verdict.Verdict.{Verdict}
 use Rattle.folder.specs.Seen.{is_named}
 use Rattle.measured.specs.Copied.{HasContentOf}
-use Rattle.report.specs.Lines.{is_good}
-use Rattle.update.specs.Copies.{AreCopied, AreFirstCopied, Kept, good_paths}
+use Rattle.update.specs.Copies.{AreSomeStored, AreStored, IsFlag, Kept, good_paths, is_good_at, may_have_copy}
+use Rattle.update.specs.declared.installing.Decided.{Decided}
 
 -- the targets of paths
 abbrev pub Lookup : Type 0
@@ -23,13 +25,50 @@ IsCopyFor took copy t = IfSome copy (λ file. IsSomeAnd t (HasContentOf (took fi
 abbrev pub IsLentFor : {K : Type 0} → (K → List ℕ → Bool) → Option (Bor K) → Option Target → Type 0
 IsLentFor took copy t = IfSome copy (λ file. IsCopyFor took (Some file.now) t)
 
--- there is a verdict at the index, and it is good
-abbrev pub is_good_at : List Verdict → ℕ → Bool
-is_good_at verdicts i = option_map_or is_good (slice_get verdicts i) false
-
 -- the set has these paths and no others
 abbrev pub HasPaths : {Y : Type 0} → BTreeSet (String Y) → List (List ℕ) → Type 0
 HasPaths set paths = (path : List ℕ) → contains_text set path ≡ is_named paths path
+
+-- Of the paths that were decided, the copies of these were stored, and of no others. Each has the
+-- cause of its set.
+pub record AreDecided (has_place blocked : List ℕ → Bool) (d : Decided) (done : List (List ℕ))
+    : Type 0 where
+  pub stored : HasPaths d.stored done
+  pub placed : (path : List ℕ) → contains_text d.stored path ≡ true
+      → IsFlag has_place blocked path true
+  pub refused : (path : List ℕ) → contains_text d.refused path ≡ true
+      → IsFlag has_place blocked path false
+
+-- one path more, if its copy was stored
+abbrev pub with_stored : List (List ℕ) → List ℕ → Bool → List (List ℕ)
+with_stored done path flag = if flag then done ++ path ∷ [] else done
+
+-- this path was decided too, for a cause
+abbrev pub DecidesOne : (List ℕ → Bool) → (List ℕ → Bool) → Decided → Decided → List ℕ → Bool
+    → Type 0
+DecidesOne has_place blocked old new path flag = (done : List (List ℕ))
+    → AreDecided has_place blocked old done
+    → AreDecided has_place blocked new (with_stored done path flag)
+    × IsFlag has_place blocked path flag
+
+-- for each wanted path, whether its verdict is good and a copy may have it
+pub record AreCandidates (wanted : List (List ℕ)) (verdicts : List Verdict) (flags : List Bool)
+    : Type 0 where
+  pub by_position : length flags ≡ length wanted
+  pub each : (i : ℕ) (path : List ℕ) → slice_get wanted i ≡ Some path → slice_get flags i
+      ≡ Some (is_good_at verdicts i && may_have_copy (good_paths wanted verdicts) path)
+
+-- the texts, behind references
+abbrev pub lent_texts : List (Bor (List ℕ)) → List (List ℕ)
+lent_texts texts = map (λ text. text.now) texts
+
+-- the text is before this one, by bytes
+abbrev pub is_before : List ℕ → List ℕ → Bool
+is_before start text = is_lt (slice_cmp nat_cmp text start)
+
+-- there is a text at the index, and it begins with this one
+abbrev pub begins_at : List ℕ → List (List ℕ) → ℕ → Bool
+begins_at start texts i = option_map_or (λ text. starts_with nat_eq text start) (slice_get texts i) false
 
 -- # The copies of wanted paths, of whose targets something is known by `found`.
 
@@ -38,14 +77,16 @@ abbrev pub AreCopiesOf : {K : Type 0} → (K → List ℕ → Bool) → (List �
     → List (List ℕ) → List (Option K) → Type 0
 AreCopiesOf took found wanted copies = AllZip (IsCopyFor took) copies (map found wanted)
 
--- the good paths were copied
-abbrev pub AreGoodCopied : (List ℕ → Option Target) → List (List ℕ) → List Verdict → Kept → Kept
-    → Type 0
-AreGoodCopied found wanted verdicts old new =
-    AreCopied found (good_paths wanted verdicts) old new
+-- whatever the targets are, copies were stored as these flags say
+abbrev pub AreInstalled : {K : Type 0} → (K → List ℕ → Bool) → List (Option K) → List ℕ → List ℕ
+    → (List ℕ → Bool) → List (List ℕ) → List Verdict → Kept → Kept → List Bool → Type 0
+AreInstalled took copies into state blocked wanted verdicts old new stored = (found : Lookup)
+    → AreCopiesOf took found wanted copies
+    → AreStored into state blocked found wanted verdicts stored old new
 
--- so were the first ones
-abbrev pub AreFirstGoodCopied : (List ℕ → Option Target) → List (List ℕ) → List Verdict → Kept
-    → Kept → Type 0
-AreFirstGoodCopied found wanted verdicts old new =
-    AreFirstCopied found (good_paths wanted verdicts) old new
+-- so were some of the first ones
+abbrev pub AreSomeInstalled : {K : Type 0} → (K → List ℕ → Bool) → List (Option K) → List ℕ
+    → List ℕ → (List ℕ → Bool) → List (List ℕ) → List Verdict → Kept → Kept → Type 0
+AreSomeInstalled took copies into state blocked wanted verdicts old new = (found : Lookup)
+    → AreCopiesOf took found wanted copies
+    → AreSomeStored into state blocked found wanted verdicts old new

@@ -1,19 +1,14 @@
 -- What a run reads, stores and prints.
 use Rattle.std.specs.Prelude.{ℕ, List, Bool, Option, ◌≡◌, ◌≢◌}
-
--- what a folder may give, lists of names and the bytes of files, and how many of its calls failed
-pub record Folder : Type 0 where
-  pub lists : List (List ℕ) → Bool
-  pub holds : List ℕ → List ℕ → Bool
-  pub failures : ℕ
+use Rattle.folder.specs.Folders.{Giving}
 
 -- the two folders of a repository
 pub record Mirror : Type 0 where
-  pub metadata : Folder
-  pub targets : Folder
+  pub metadata : Giving
+  pub targets : Giving
 
 -- Which bytes the file of a path may give, and which while it is locked; and which file may not be
--- read. Which files are locked against other runs. Which second of Unix time the clock may show.
+-- read. Which files are locked against other runs. Which second of Unix time the clock may show, or nothing.
 -- With which bytes the file of a path was stored. The folders, in order, and what was printed,
 -- where that is known.
 pub record World : Type 0 where
@@ -21,7 +16,7 @@ pub record World : Type 0 where
   pub gives_locked : List ℕ → List ℕ → Bool
   pub refuses : List ℕ → Bool
   pub locks : List ℕ → Bool
-  pub shows : ℕ → Bool
+  pub shows : Option ℕ → Bool
   pub keeps : List ℕ → List ℕ → Bool
   pub mirrors : List Mirror
   pub printed : Option (List ℕ)

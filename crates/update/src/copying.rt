@@ -1,21 +1,22 @@
 //! The verification of a repository in two folders, with copies of its good targets.
 
-ghost use Rattle.std.specs.Prelude.{◌≡◌, ◌≢◌, ◌≤◌, Err, IfErr, IfOk, OnErr, OnOk, false, true};
-ghost use Rattle.update.specs.Causes.{IsCauseToVerifyFrom};
-ghost use Rattle.update.specs.Copies.{IsCauseToVerifyInto, may_be_copied};
-ghost use Rattle.update.specs.Copies.{IsUntouchedInto, IsUntouchedOrBegun, IsUntouchedOrBegunFrom};
+ghost use Rattle.std.specs.Prelude.{◌≡◌, ◌≢◌, ◌≤◌, ◌⊎◌, Err, IfErr, IfOk, OnErr, OnOk, false, true};
+ghost use Rattle.system.specs.Locks.{StaysLocked};
+ghost use Rattle.update.specs.Causes.{IsCauseFrom};
+ghost use Rattle.update.specs.Copies.{IsCauseToVerifyInto, is_blocked, may_be_copied};
+ghost use Rattle.update.specs.Copies.{IsUntouchedOrBegun, IsUntouchedOrBegunFrom, OutsideKept};
 ghost use Rattle.update.specs.Copies.{IsVerifiedInto, IsVerifiedIntoFrom};
-ghost use Rattle.update.specs.World.{OthersKept};
+ghost use Rattle.update.specs.World.{IsUntouched};
 
-use crate::answer::tell_outcome;
+use crate::answer::tell_copied;
 use crate::following::Followed;
 use crate::host::{Folders, HasWorld, Host};
 use crate::installing::store_copies;
-use crate::start::{Start, Terms, Wanted, begin};
+use crate::start::{Locking, Start, Terms, Wanted, begin};
 use crate::state::keep_state;
 use copies::Destination;
 use cycle::{Gate, Threading, Watch};
-use failure::Failure;
+use failure::{Failure, of_io};
 use folder::Folder;
 use measured::{Copied, close_into};
 use std::alloc::Global;
@@ -30,11 +31,14 @@ impl<S: System, M: Folder, T: Folder, W: Write> Host<S, Folders<M, T>, W> {
     /// are read one at a time. First the new state is stored, then the copies in the order of the
     /// wanted paths, and then the lines are printed.
     ///
+    /// An accepted path has no place if it may not be that of a copy, if it is a folder of another
+    /// accepted path, if its place is the state's, or if the system puts no file there. Then it is
+    /// printed as `no PATH NoPlace`, and the copies of the other paths are stored.
+    ///
     /// Fails with `Words`, before anything is read, if a given path may not be that of a copy, and
-    /// with `Output` if a copy can't be written. If every file is wanted, an accepted path that may
-    /// not be that of a copy is one that can't be written. On failure nothing was stored, copied or
-    /// printed; or if out of memory or by an output error, the new state was stored, and copies of
-    /// the first good paths. What is stored for other paths stays.
+    /// with `Output` if a copy can't be written for another cause. On failure nothing was stored,
+    /// copied or printed; or if out of memory or by an output error, the new state was stored, and
+    /// copies of some of the first good paths. What is stored for other paths stays.
     pub fn verify_into<R: Threads + Wait + Sync, N: Gate + Watch + Sync, D: Destination>(
         &mut self,
         threading: &Threading<'_, R, N>,
@@ -43,21 +47,23 @@ impl<S: System, M: Folder, T: Folder, W: Write> Host<S, Folders<M, T>, W> {
         to: &mut D,
     ) -> Result<u8, Failure>
         ensures known { IfOk result (λ status. status ≤ 2) }
+        ensures flushed { OnOk result (D.is_flushed to.new ≡ true) }
+        ensures nothing_left { D.is_left to.old ≡ false → D.is_left to.new ≡ false }
         ensures paths { may_be_copied terms.now.wanted ≡ false → result ≡ Err Failure.Words }
-        ensures locked { OnOk result
-            ((⟦<Self as HasWorld>⟧.world self.new).locks terms.now.settings.state.now ≡ true) }
-        ensures verified { IfOk result (IsVerifiedInto terms.now
-            (⟦<Self as HasWorld>⟧.world self.old) (⟦<Self as HasWorld>⟧.world self.new)
-            (D.keeps to.old) (D.keeps to.new)) }
-        ensures order { OnErr result (IsUntouchedOrBegun terms.now
-            (⟦<Self as HasWorld>⟧.world self.old) (⟦<Self as HasWorld>⟧.world self.new)
-            (D.keeps to.old) (D.keeps to.new)) }
-        ensures others { OthersKept terms.now.settings.out.now
+        ensures locked { OnOk result (terms.now.settings.locking ≡ Locking.Needed
+            → (⟦<Self as HasWorld>⟧.world self.new).locks terms.now.settings.state.now ≡ true) }
+        ensures verified { let into = D.place to.old in IfOk result (IsVerifiedInto terms.now into
+            (is_blocked (D.blocks to.new) (S.blocks self.new.system) into)
+            (⟦<Self as HasWorld>⟧.world self.old) (⟦<Self as HasWorld>⟧.world self.new)) }
+        ensures order { let into = D.place to.old in OnErr result (IsUntouchedOrBegun terms.now into
+            (is_blocked (D.blocks to.new) (S.blocks self.new.system) into)
+            (⟦<Self as HasWorld>⟧.world self.old) (⟦<Self as HasWorld>⟧.world self.new)) }
+        ensures others { OutsideKept (D.place to.old) terms.now.settings.out.now
             (⟦<Self as HasWorld>⟧.world self.old).keeps
             (⟦<Self as HasWorld>⟧.world self.new).keeps }
         ensures quiet { IfErr result (λ f. f ≢ Failure.Memory → f ≢ Failure.Output
-            → IsUntouchedInto (⟦<Self as HasWorld>⟧.world self.old)
-            (⟦<Self as HasWorld>⟧.world self.new) (D.keeps to.old) (D.keeps to.new)) }
+            → IsUntouched
+            (⟦<Self as HasWorld>⟧.world self.old) (⟦<Self as HasWorld>⟧.world self.new)) }
         ensures cause { IfErr result (IsCauseToVerifyInto terms.now
             (⟦<Self as HasWorld>⟧.world self.old) (⟦<Self as HasWorld>⟧.world self.new)) }
     {
@@ -71,6 +77,7 @@ impl<S: System, M: Folder, T: Folder, W: Write> Host<S, Folders<M, T>, W> {
     }
 
     /// Does so from the state and the moment of `start`, and leaves the temporary files.
+    #[tactic(auto, using(crate::proofs::Ending::outside))]
     fn verify_into_from<'a, R: Threads + Wait + Sync, N: Gate + Watch + Sync, D: Destination>(
         &mut self,
         threading: &Threading<'_, R, N>,
@@ -79,22 +86,23 @@ impl<S: System, M: Folder, T: Folder, W: Write> Host<S, Folders<M, T>, W> {
         to: &mut D,
     ) -> Result<u8, Failure>
         ensures known { IfOk result (λ status. status ≤ 2) }
-        ensures locked { (⟦<Self as HasWorld>⟧.world self.new).locks
-            ≡ (⟦<Self as HasWorld>⟧.world self.old).locks }
-        ensures verified { IfOk result (IsVerifiedIntoFrom start.now wanted.now
-            (⟦<Self as HasWorld>⟧.world self.old) (⟦<Self as HasWorld>⟧.world self.new)
-            (D.keeps to.old) (D.keeps to.new)) }
-        ensures order { OnErr result (IsUntouchedOrBegunFrom start.now wanted.now
-            (⟦<Self as HasWorld>⟧.world self.old) (⟦<Self as HasWorld>⟧.world self.new)
-            (D.keeps to.old) (D.keeps to.new)) }
-        ensures others { OthersKept start.now.state.now
+        ensures flushed { OnOk result (D.is_flushed to.new ≡ true) }
+        ensures locked { StaysLocked (⟦<Self as HasWorld>⟧.world self.old).locks
+            (⟦<Self as HasWorld>⟧.world self.new).locks }
+        ensures verified { let into = D.place to.old in IfOk result (IsVerifiedIntoFrom start.now
+            wanted.now into (is_blocked (D.blocks to.new) (S.blocks self.new.system) into)
+            (⟦<Self as HasWorld>⟧.world self.old) (⟦<Self as HasWorld>⟧.world self.new)) }
+        ensures order { let into = D.place to.old in OnErr result (IsUntouchedOrBegunFrom start.now
+            wanted.now into (is_blocked (D.blocks to.new) (S.blocks self.new.system) into)
+            (⟦<Self as HasWorld>⟧.world self.old) (⟦<Self as HasWorld>⟧.world self.new)) }
+        ensures others { OutsideKept (D.place to.old) start.now.state.now
             (⟦<Self as HasWorld>⟧.world self.old).keeps
             (⟦<Self as HasWorld>⟧.world self.new).keeps }
         ensures quiet { IfErr result (λ f. f ≢ Failure.Memory → f ≢ Failure.Output
-            → IsUntouchedInto (⟦<Self as HasWorld>⟧.world self.old)
-            (⟦<Self as HasWorld>⟧.world self.new) (D.keeps to.old) (D.keeps to.new)) }
-        ensures cause { IfErr result (IsCauseToVerifyFrom start.now
+            → IsUntouched
             (⟦<Self as HasWorld>⟧.world self.old) (⟦<Self as HasWorld>⟧.world self.new)) }
+        ensures cause { IfErr result (IsCauseFrom (⟦<Self as HasWorld>⟧.world self.old).mirrors
+            (⟦<Self as HasWorld>⟧.world self.new).mirrors) }
     {
         let alloc = start.alloc;
         let followed = self.folders.follow(threading, start, wanted)?;
@@ -107,7 +115,33 @@ impl<S: System, M: Folder, T: Folder, W: Write> Host<S, Folders<M, T>, W> {
         let Copied { outcome, copies } = copied;
         let paths = wanted.paths(listed.as_slice());
         keep_state(alloc, &mut self.system, start.state, outcome.trusted())?;
-        store_copies(alloc, paths, outcome.verdicts(), copies.as_slice(), to)?;
-        tell_outcome(alloc, &outcome, paths, &mut self.out)
+        let stored = store_copies(
+            alloc,
+            paths,
+            outcome.verdicts(),
+            copies.as_slice(),
+            &mut self.system,
+            start.state,
+            &*to,
+        )?;
+        flush(alloc, paths, stored.as_slice(), to)?;
+        tell_copied(alloc, &outcome, paths, stored.as_slice(), &mut self.out)
+    }
+}
+
+/// Flushes the folders of the copies that were stored. Fails with `Output` if one can't be flushed.
+fn flush<D: Destination>(
+    alloc: Global,
+    paths: &[String],
+    stored: &[bool],
+    to: &mut D,
+) -> Result<(), Failure>
+    ensures flushed { OnOk result (D.is_flushed to.new ≡ true) }
+    ensures same_blocks { D.blocks to.new ≡ D.blocks to.old }
+    ensures refused { IfErr result (λ f. (f ≡ Failure.Memory) ⊎ (f ≡ Failure.Output)) }
+{
+    match to.flush(alloc, paths, stored) {
+        Ok(()) => Ok(()),
+        Err(error) => Err(of_io(&error, Failure::Output)),
     }
 }

@@ -1,8 +1,8 @@
 //! The files that have to be fetched next.
 
-ghost use Rattle.std.specs.Prelude.{◌≡◌, ◌≢◌, ◌⊎◌, IfErr, IfOk, OnOk, map, string_bytes};
+ghost use Rattle.std.specs.Prelude.{◌≡◌, ◌≢◌, IfErr, IfOk, OnOk, map, string_bytes};
 ghost use Rattle.examine.specs.Checks.{file_in};
-ghost use Rattle.update.specs.Causes.{AreWrong};
+ghost use Rattle.update.specs.Causes.{IsCauseFrom};
 ghost use Rattle.update.specs.Fetching as spec;
 ghost use Rattle.update.specs.Moments.{IsMomentOf};
 ghost use Rattle.update.specs.Runs.{IsRead};
@@ -12,6 +12,7 @@ use crate::clock::moment;
 use crate::host::{Folders, HasMirrors, HasWorld, Host};
 use crate::start::Opened;
 use crate::state::read_state;
+use cjson::NoMemory;
 use cycle::{Cycle, Limits, Moment, Round, Trusted, follow_alone};
 use failure::Failure;
 use folder::Folder;
@@ -22,13 +23,13 @@ use std::io::Write;
 use system::System;
 
 /// What the arguments name: the path of the file with the trusted state, the text of the moment,
-/// the maximum number of roles that a search visits (1 to 256), the wanted paths, in order, and the
-/// only folder whose files are printed, if one is named.
+/// the limits, the wanted paths, in order, and the only folder whose files are printed, if one is
+/// named.
 #[derive(Drop)]
 pub struct Wants<'a> {
     pub state: &'a str,
     pub moment: Option<&'a str>,
-    pub limit: usize,
+    pub limits: Limits,
     pub wanted: Vec<String>,
     pub only: Option<Place>,
 }
@@ -39,8 +40,8 @@ impl<S: System, M: Folder, T: Folder, W: Write> Host<S, Folders<M, T>, W> {
     /// another run has locked it, and then the folders: the metadata as a verification does, and of
     /// the target files only their names. Stores nothing.
     ///
-    /// Fails with `Now` or `Clock`, with `State`, with `Folder`, with `Words` if the limit is out
-    /// of its range, and if out of memory or by an output error.
+    /// Fails with `Now` or `Clock`, with `State`, with `Folder`, and if out of memory or by an
+    /// output error.
     pub fn next(&mut self, alloc: Global, wants: &Wants<'_>) -> Result<u8, Failure>
         ensures known { IfOk result (λ status. status ≡ 0) }
         ensures listed { OnOk result (spec.IsNext wants.now
@@ -71,8 +72,7 @@ impl<S: System, M: Folder, T: Folder, W: Write> Host<S, Folders<M, T>, W> {
             ≡ (⟦<Self as HasWorld>⟧.world self.old).keeps }
         ensures quiet { IfErr result (λ f. f ≢ Failure.Memory → f ≢ Failure.Output → IsUntouched
             (⟦<Self as HasWorld>⟧.world self.old) (⟦<Self as HasWorld>⟧.world self.new)) }
-        ensures cause { IfErr result (spec.IsCauseToList wants.now.limit
-            (⟦<Self as HasWorld>⟧.world self.old).mirrors
+        ensures cause { IfErr result (IsCauseFrom (⟦<Self as HasWorld>⟧.world self.old).mirrors
             (⟦<Self as HasWorld>⟧.world self.new).mirrors) }
     {
         let opened = self.folders.open(alloc)?;
@@ -105,17 +105,12 @@ fn absent<'a>(
     trusted: &'a Trusted,
     moment: Moment,
     opened: Opened,
-) -> Result<Vec<Need>, Failure>
+) -> Result<Vec<Need>, NoMemory>
     ensures needs { IfOk result (λ all. all.items ≡ spec.needs_on
         (spec.request_of wants.now trusted.now moment) (file_in opened.repo.metadata)
         (map string_bytes opened.names.items)) }
-    ensures refused { IfErr result (λ f. (f ≡ Failure.Memory)
-        ⊎ ((f ≡ Failure.Words) × AreWrong wants.now.limit 0)) }
 {
     let Opened { repo, names } = opened;
-    let Some(limits) = Limits::new(wants.limit, 0) else {
-        return Err(Failure::Words);
-    };
     let round = Round {
         repo: &repo,
         now: moment,
@@ -125,7 +120,7 @@ fn absent<'a>(
         alloc,
         trusted,
         round,
-        limits,
+        limits: wants.limits,
     })?;
     let targets = names_of(alloc, names)?;
     Ok(needs(alloc, trusted, &course, &repo.metadata, &targets)?)

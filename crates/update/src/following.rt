@@ -1,13 +1,14 @@
 //! The course of a verification, before any target file is read.
 
-ghost use Rattle.std.specs.Prelude.{◌≡◌, ◌⊎◌, IfErr, IfOk};
+ghost use Rattle.std.specs.Prelude.{IfErr, IfOk};
 ghost use Rattle.std.specs.List.{AllZip};
-ghost use Rattle.update.specs.Causes.{AreWrong, IsCauseFrom};
+ghost use Rattle.update.specs.Causes.{IsCauseToRead};
 ghost use Rattle.update.specs.Opened.{AreListed, IsFollowed};
 ghost use Rattle.update.specs.Same.{IsSame};
 
 use crate::host::{Folders, HasMirrors};
-use crate::start::{Opened, Start, Wanted, limits_of};
+use crate::start::{Opened, Start, Wanted};
+use cjson::NoMemory;
 use cycle::{Course, Cycle, Gate, Round, Threading, Watch, follow, has_consistent_names};
 use failure::Failure;
 use folder::Folder;
@@ -38,13 +39,11 @@ impl<M: Folder, T: Folder> Folders<M, T> {
             (IsFollowed (⟦<Self as HasMirrors>⟧.mirrors self.old) start.now wanted.now) }
         ensures same { AllZip IsSame (⟦<Self as HasMirrors>⟧.mirrors self.old)
             (⟦<Self as HasMirrors>⟧.mirrors self.new) }
-        ensures cause { IfErr result (IsCauseFrom (AreWrong start.now.limit start.now.workers)
-            (⟦<Self as HasMirrors>⟧.mirrors self.old)
+        ensures cause { IfErr result (IsCauseToRead (⟦<Self as HasMirrors>⟧.mirrors self.old)
             (⟦<Self as HasMirrors>⟧.mirrors self.new)) }
     {
         let opened = self.open(start.alloc)?;
         let listed = listed_paths(start, wanted, &opened)?;
-        let limits = limits_of(start)?;
         let round = Round {
             repo: &opened.repo,
             now: start.moment,
@@ -54,9 +53,9 @@ impl<M: Folder, T: Folder> Folders<M, T> {
             alloc: start.alloc,
             trusted: &start.trusted,
             round,
-            limits,
+            limits: start.limits,
         };
-        let course = follow(&cycle, threading, start.workers)?;
+        let course = follow(&cycle, threading, start.threads())?;
         let Opened { names, .. } = opened;
         Ok(Followed {
             course,
@@ -68,16 +67,17 @@ impl<M: Folder, T: Folder> Folders<M, T> {
 
 /// Returns the paths of the names that were listed, if each is wanted. The names are consistent if
 /// the root says so that is trusted once the metadata was examined.
-fn listed_paths(start: &Start<'_>, wanted: &Wanted, opened: &Opened) -> Result<Vec<String>, Failure>
+fn listed_paths(
+    start: &Start<'_>,
+    wanted: &Wanted,
+    opened: &Opened,
+) -> Result<Vec<String>, NoMemory>
     ensures paths { IfOk result
         (λ listed. AreListed start.now wanted.now opened.now listed.items) }
-    ensures refused { IfErr result (λ f. (f ≡ Failure.Memory)
-        ⊎ ((f ≡ Failure.Words) × AreWrong start.now.limit start.now.workers)) }
 {
     match wanted {
         Wanted::Paths(_) => Ok(Vec::new(start.alloc)),
         Wanted::Every => {
-            let limits = limits_of(start)?;
             let round = Round {
                 repo: &opened.repo,
                 now: start.moment,
@@ -87,7 +87,7 @@ fn listed_paths(start: &Start<'_>, wanted: &Wanted, opened: &Opened) -> Result<V
                 alloc: start.alloc,
                 trusted: &start.trusted,
                 round,
-                limits,
+                limits: start.limits,
             };
             let names = opened.names.as_slice();
             let is_consistent = has_consistent_names(&cycle)?;

@@ -22,31 +22,15 @@ pub struct Folders<M, T> {
 
 impl<M: Folder, T: Folder> HasMirrors for Folders<M, T> {
     ghost mirrors = { λ f. record {
-      metadata = record {
-        lists = M.lists f.metadata;
-        holds = M.holds f.metadata;
-        failures = M.failures f.metadata;
-      };
-      targets = record {
-        lists = T.lists f.targets;
-        holds = T.holds f.targets;
-        failures = T.failures f.targets;
-      };
+      metadata = M.gives f.metadata;
+      targets = T.gives f.targets;
     } ∷ [] };
 }
 
 impl<M: Folder, T: Folder> HasMirrors for Vec<Folders<M, T>> {
     ghost mirrors = { λ v. map (λ f. record {
-      metadata = record {
-        lists = M.lists f.metadata;
-        holds = M.holds f.metadata;
-        failures = M.failures f.metadata;
-      };
-      targets = record {
-        lists = T.lists f.targets;
-        holds = T.holds f.targets;
-        failures = T.failures f.targets;
-      };
+      metadata = M.gives f.metadata;
+      targets = T.gives f.targets;
     }) v.items };
 }
 

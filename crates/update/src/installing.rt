@@ -1,58 +1,81 @@
 //! The copies of good targets, stored for their paths.
 
-ghost use Rattle.std.specs.Prelude.{◌≡◌, ◌≢◌, ◌⊎◌, ◌++◌, ◌∷◌, [], List, ℕ, Option, Some};
-ghost use Rattle.std.specs.Prelude.{IfErr, IfSome, IsSomeAnd, OnErr, OnOk, map, string_bytes};
-ghost use Rattle.std.specs.Prelude.{bytes_eq, if◌then◌else◌, false, true};
+ghost use Rattle.std.specs.Prelude.{◌≡◌, ◌≢◌, ◌⊎◌, List, ℕ, Option, Some, false, true};
+ghost use Rattle.std.specs.Prelude.{IfErr, IfOk, IfSome, IsSomeAnd, OnErr, OnOk, length, map};
+ghost use Rattle.std.specs.Prelude.{bytes_eq, if◌then◌else◌, string_bytes};
 ghost use Rattle.std.specs.BTreeSet.{contains_text};
+ghost use Rattle.std.specs.IoError.{error_kind};
 ghost use Rattle.std.specs.List.{slice_get};
+ghost use Rattle.copies.specs.Paths as spec;
 ghost use Rattle.copies.specs.Paths.{IsSameAt};
 ghost use Rattle.cycle.specs.Workflow.{Target};
-ghost use Rattle.update.specs.Copies.{IsCopied};
-ghost use Rattle.update.specs.Stored as glue;
-ghost use Rattle.update.specs.Stored.{AreCopiesOf, AreFirstGoodCopied, AreGoodCopied, HasPaths};
-ghost use Rattle.update.specs.Stored.{IsLentFor, Lookup};
+ghost use Rattle.folder.specs.Folders.{path_below};
+ghost use Rattle.system.specs.Blocked as blocked;
+ghost use Rattle.system.specs.Locks.{StaysLocked};
+ghost use Rattle.update.specs.Copies.{IsCopied, IsFlag, OutsideKept, is_blocked, is_free};
+ghost use Rattle.update.specs.Stored.{AreInstalled, AreSomeInstalled, DecidesOne, IsLentFor};
 
-use copies::{Destination, is_below};
+use crate::placing::candidates;
+use copies::Destination;
 use cycle::Verdict;
 use failure::{Failure, of_io};
 use std::alloc::{AllocError, Global};
 use std::collections::BTreeSet;
+use std::io;
+use system::{System, is_of_path};
 
-/// Stores the copy of each wanted path whose verdict is good, in order; a path that is wanted twice
-/// is stored once. Fails with `Output` if one can't be stored; then the good paths before it are.
-pub(crate) fn store_copies<D: Destination>(
+/// The paths whose copy was stored, and those for which none can be.
+#[derive(Drop)]
+struct Decided {
+    stored: BTreeSet<String>,
+    refused: BTreeSet<String>,
+}
+
+/// Stores the copies of the wanted paths whose verdict is good, in order, and returns for each
+/// wanted path, by position, whether its copy was stored; a path that is wanted twice is stored
+/// once. None is stored for a path that isn't one below the folder, that is a folder of another one
+/// with a good verdict, whose place is the state's, or where the system puts no file.
+///
+/// Fails with `Output` if a copy can't be written for another cause, or if out of memory; then the
+/// copies before it were stored.
+pub(crate) fn store_copies<S: System, D: Destination>(
     alloc: Global,
     wanted: &[String],
     verdicts: &[Verdict],
     copies: &[Option<D::Temporary>],
-    to: &mut D,
-) -> Result<(), Failure>
-    ensures copied { (found : Lookup) → let paths = map string_bytes wanted.now in
-        AreCopiesOf D.Temporary.took found paths copies.now → OnOk result
-        (AreGoodCopied found paths verdicts.now (D.keeps to.old) (D.keeps to.new)) }
-    ensures begun { (found : Lookup) → let paths = map string_bytes wanted.now in
-        AreCopiesOf D.Temporary.took found paths copies.now → OnErr result
-        (AreFirstGoodCopied found paths verdicts.now (D.keeps to.old) (D.keeps to.new)) }
+    system: &mut S,
+    state: &str,
+    to: &D,
+) -> Result<Vec<bool>, Failure>
+    ensures by_position { IfOk result (λ stored. length stored.items ≡ length wanted.now) }
+    ensures stored { let into = D.place to.now in IfOk result (λ stored.
+        AreInstalled D.Temporary.wrote copies.now into state.now
+        (is_blocked (D.blocks to.now) (S.blocks system.old) into) (map string_bytes wanted.now)
+        verdicts.now (S.keeps system.old) (S.keeps system.new) stored.items) }
+    ensures begun { let into = D.place to.now in OnErr result
+        (AreSomeInstalled D.Temporary.wrote copies.now into state.now
+        (is_blocked (D.blocks to.now) (S.blocks system.old) into) (map string_bytes wanted.now)
+        verdicts.now (S.keeps system.old) (S.keeps system.new)) }
+    ensures spared { IsSameAt state.now (S.keeps system.old) (S.keeps system.new) }
+    ensures outside { OutsideKept (D.place to.now) state.now
+        (S.keeps system.old) (S.keeps system.new) }
+    ensures same_blocks { S.blocks system.new ≡ S.blocks system.old }
+    ensures locked { StaysLocked (S.locks system.old) (S.locks system.new) }
     ensures refused { IfErr result (λ f. (f ≡ Failure.Memory) ⊎ (f ≡ Failure.Output)) }
 {
-    let mut stored = BTreeSet::new(alloc);
+    let mut flags = candidates(alloc, wanted, verdicts)?;
+    let mut decided = Decided {
+        stored: BTreeSet::new(alloc),
+        refused: BTreeSet::new(alloc),
+    };
     for i in 0..wanted.len() {
-        if is_good_at(verdicts, i) {
+        if flags[i] {
             let copy = copy_at(copies, i);
-            store_copy(alloc, wanted[i].as_str(), copy, &mut stored, to)?;
+            let path = wanted[i].as_str();
+            flags[i] = store_copy(alloc, path, copy, &mut decided, system, state, to)?;
         }
     }
-    Ok(())
-}
-
-/// Whether the verdict at the index is good.
-fn is_good_at(verdicts: &[Verdict], i: usize) -> bool
-    ensures { result ≡ glue.is_good_at verdicts.now i }
-{
-    match verdicts.get(i) {
-        Some(Verdict::Good { .. }) => true,
-        _ => false,
-    }
+    Ok(flags)
 }
 
 /// Returns the copy at the index, if there is one.
@@ -62,41 +85,106 @@ fn copy_at<K>(copies: &[Option<K>], i: usize) -> Option<&K>
     copies.get(i)?.as_ref()
 }
 
-/// Stores the copy for the path, unless it was stored before. Fails with `Output` if there is none,
-/// or if it can't be stored.
-fn store_copy<D: Destination>(
+/// Stores the copy for the path, unless that was decided before, and returns whether it was stored.
+/// Fails with `Output` if there is none.
+fn store_copy<S: System, D: Destination>(
     alloc: Global,
     path: &str,
     copy: Option<&D::Temporary>,
-    stored: &mut BTreeSet<String>,
-    to: &mut D,
-) -> Result<(), Failure>
-    ensures paths { (done : List (List ℕ)) → HasPaths stored.old done
-        → OnOk result (HasPaths stored.new (done ++ path.now ∷ [])) }
-    ensures copied { (t : Option Target) → IsLentFor D.Temporary.took copy.entry t
-        → contains_text stored.old path.now ≡ false
-        → OnOk result (IsSomeAnd t (IsCopied (D.keeps to.new) path.now)) }
-    ensures again { contains_text stored.old path.now ≡ true
-        → OnOk result (D.keeps to.new ≡ D.keeps to.old) }
-    ensures others { OnOk result ((other : List ℕ) → other ≢ path.now
-        → IsSameAt other (D.keeps to.old) (D.keeps to.new)) }
-    ensures unchanged { OnErr result (D.keeps to.new ≡ D.keeps to.old) }
+    decided: &mut Decided,
+    system: &mut S,
+    state: &str,
+    to: &D,
+) -> Result<bool, Failure>
+    requires below { spec.is_below path.now ≡ true }
+    ensures decided { let into = D.place to.now in IfOk result (DecidesOne
+        (is_free into state.now) (is_blocked (D.blocks to.now) (S.blocks system.old) into)
+        decided.old decided.new path.now) }
+    ensures copied { (t : Option Target) → IsLentFor D.Temporary.wrote copy.entry t
+        → contains_text decided.old.stored path.now ≡ false
+        → IfOk result (λ is_stored. is_stored ≡ true
+        → IsSomeAnd t (IsCopied (D.place to.now) (S.keeps system.new) path.now)) }
+    ensures again { contains_text decided.old.stored path.now ≡ true
+        → OnOk result (S.keeps system.new ≡ S.keeps system.old) }
+    ensures not_stored { IfOk result (λ is_stored. is_stored ≡ false
+        → S.keeps system.new ≡ S.keeps system.old) }
+    ensures others { OnOk result ((other : List ℕ) → other ≢ path_below (D.place to.now) path.now
+        → IsSameAt other (S.keeps system.old) (S.keeps system.new)) }
+    ensures spared { IsSameAt state.now (S.keeps system.old) (S.keeps system.new) }
+    ensures outside { OutsideKept (D.place to.now) state.now
+        (S.keeps system.old) (S.keeps system.new) }
+    ensures same_blocks { S.blocks system.new ≡ S.blocks system.old }
+    ensures locked { StaysLocked (S.locks system.old) (S.locks system.new) }
+    ensures unchanged { OnErr result (S.keeps system.new ≡ S.keeps system.old) }
     ensures refused { IfErr result (λ f. (f ≡ Failure.Memory) ⊎ (f ≡ Failure.Output)) }
 {
-    if has_path(stored, path) {
-        return Ok(());
+    if has_path(&decided.stored, path) {
+        return Ok(true);
+    }
+    if has_path(&decided.refused, path) {
+        return Ok(false);
     }
     let Some(file) = copy else {
         return Err(Failure::Output);
     };
-    if !is_below(path) {
-        return Err(Failure::Output);
+    add_path(alloc, &mut decided.stored, path)?;
+    if install(alloc, path, file, system, state, to)? {
+        return Ok(true);
     }
-    add_path(alloc, stored, path)?;
-    match to.take_over(alloc, file, path) {
-        Ok(()) => Ok(()),
-        Err(error) => Err(of_io(&error, Failure::Output)),
+    drop_path(&mut decided.stored, path);
+    add_path(alloc, &mut decided.refused, path)?;
+    Ok(false)
+}
+
+/// Stores the copy at the place of its path, and returns whether it could: the place isn't the
+/// state's, and the system puts a file there.
+fn install<S: System, D: Destination>(
+    alloc: Global,
+    path: &str,
+    file: &D::Temporary,
+    system: &mut S,
+    state: &str,
+    to: &D,
+) -> Result<bool, Failure>
+    requires below { spec.is_below path.now ≡ true }
+    ensures decided { let into = D.place to.now in IfOk result (IsFlag (is_free into state.now)
+        (is_blocked (D.blocks to.now) (S.blocks system.old) into) path.now) }
+    ensures stored { IfOk result (λ is_stored. is_stored ≡ true
+        → (bytes : List ℕ) → D.Temporary.wrote file.now bytes ≡ true
+        → S.keeps system.new (path_below (D.place to.now) path.now) bytes ≡ true) }
+    ensures not_stored { IfOk result (λ is_stored. is_stored ≡ false
+        → S.keeps system.new ≡ S.keeps system.old) }
+    ensures others { (other : List ℕ) → other ≢ path_below (D.place to.now) path.now
+        → IsSameAt other (S.keeps system.old) (S.keeps system.new) }
+    ensures spared { IsSameAt state.now (S.keeps system.old) (S.keeps system.new) }
+    ensures same_blocks { S.blocks system.new ≡ S.blocks system.old }
+    ensures unchanged { OnErr result (S.keeps system.new ≡ S.keeps system.old) }
+    ensures locked { StaysLocked (S.locks system.old) (S.locks system.new) }
+    ensures refused { IfErr result (λ f. (f ≡ Failure.Memory) ⊎ (f ≡ Failure.Output)) }
+{
+    let place = match to.place_for(alloc, path) {
+        Ok(place) => place,
+        Err(error) => return refused_by(&error),
+    };
+    if place.as_str() == state {
+        return Ok(false);
     }
+    match system.install(file, place.as_str()) {
+        Ok(()) => Ok(true),
+        Err(error) => refused_by(&error),
+    }
+}
+
+/// Returns false if the error is that of the path. Fails for every other error.
+fn refused_by(error: &io::Error) -> Result<bool, Failure>
+    ensures path { IfOk result (λ is_stored.
+        (is_stored ≡ false) × (blocked.is_of_path (error_kind error.now) ≡ true)) }
+    ensures refused { IfErr result (λ f. (f ≡ Failure.Memory) ⊎ (f ≡ Failure.Output)) }
+{
+    if is_of_path(error) {
+        return Ok(false);
+    }
+    Err(of_io(error, Failure::Output))
 }
 
 /// Whether the set has the path.
@@ -114,4 +202,13 @@ fn add_path(alloc: Global, set: &mut BTreeSet<String>, path: &str) -> Result<(),
 {
     set.insert(String::from_str(alloc, path)?)?;
     Ok(())
+}
+
+/// Removes the path from the set.
+#[tactic(auto, using(std::proofs::lemmas::Map::Text::text_keys))]
+fn drop_path(set: &mut BTreeSet<String>, path: &str)
+    ensures { (other : List ℕ) → contains_text set.new other
+        ≡ (if bytes_eq path.now other then false else contains_text set.old other) }
+{
+    set.remove(path);
 }

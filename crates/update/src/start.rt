@@ -1,16 +1,18 @@
 //! What a verification begins with.
 
-ghost use Rattle.std.specs.Prelude.{◌≡◌, ◌≤◌, true, IfErr, IfOk, OnOk, map, string_bytes};
+ghost use Rattle.std.specs.Prelude.{◌≡◌, ◌≢◌, ◌≤◌, ◌⊎◌, true, IfErr, IfOk, OnOk, map};
+ghost use Rattle.std.specs.Prelude.{string_bytes};
 ghost use Rattle.std.specs.List.{AllZip};
-ghost use Rattle.update.specs.Causes.{AreWrong, IsCauseToBegin, IsCauseToRead};
+ghost use Rattle.update.specs.Causes.{IsCauseToBegin, IsCauseToRead, IsNoState};
 ghost use Rattle.update.specs.Copies as spec;
 ghost use Rattle.update.specs.Opened.{paths_from};
-ghost use Rattle.update.specs.Runs.{AreMetadata, IsStart, moment_text};
+ghost use Rattle.update.specs.Runs.{AreMetadata, IsRead, IsStart, given_by, moment_text};
 ghost use Rattle.update.specs.Same.{IsSame};
 
 use crate::clock::moment;
 use crate::host::{Folders, HasMirrors};
-use crate::state::lock_state;
+use crate::state::{lock_state, read_state};
+use cjson::number::Within;
 use copies::are_below;
 use cycle::{Limits, Moment, Repo, Trusted};
 use failure::Failure;
@@ -19,25 +21,32 @@ use std::alloc::Global;
 use std::collections::BTreeMap;
 use system::System;
 
-/// Maximum number of checks of a plan.
-const CHECKS: usize = 4096;
-
 /// Maximum number of bytes that are read of a metadata file: the greatest limit of any kind, and
 /// one byte that shows that a file is over it.
 const MOST_LOOKED_AT: u64 = 5_000_001;
 
-/// Maximum number of workers of a run.
-const WORKERS: usize = 64;
+/// A number of threads that decide checks in advance.
+pub type Workers = Within<0, 64>;
 
-/// What the arguments of a run name: the path of the file with the trusted state, the text of the
-/// moment, the maximum number of roles that a search visits (1 to 256), the number of threads that
-/// decide checks in advance (0 to 64), and the path of the file for the new state.
+/// Whether the file of the trusted state has to be locked.
+#[derive(Clone, Copy, Debug, PartialEq, Eq)]
+pub enum Locking {
+    /// It is locked until the run has ended.
+    Needed,
+    /// It is read without a lock: its file system has none.
+    Without,
+}
+
+/// What the arguments of a run name: the path of the file with the trusted state, whether that is
+/// locked, the text of the moment, the limits, the number of workers, and the path of the file for
+/// the new state.
 #[derive(Clone, Copy)]
 pub struct Settings<'a> {
     pub state: &'a str,
+    pub locking: Locking,
     pub moment: Option<&'a str>,
-    pub limit: usize,
-    pub workers: usize,
+    pub limits: Limits,
+    pub workers: Workers,
     pub out: &'a str,
 }
 
@@ -80,58 +89,93 @@ pub struct Terms<'a> {
     pub wanted: Wanted,
 }
 
-/// What a verification begins with: the allocator, the trusted state, the moment, the maximum
-/// number of roles that a search visits (1 to 256), the number of threads that decide checks in
-/// advance (0 to 64), and the path of the file for the new state.
+/// What a verification begins with: the allocator, the trusted state, the moment, the limits, the
+/// number of workers, and the path of the file for the new state.
 #[derive(Drop)]
 pub struct Start<'a> {
     pub alloc: Global,
     pub trusted: Trusted,
     pub moment: Moment,
-    pub limit: usize,
-    pub workers: usize,
+    pub limits: Limits,
+    pub workers: Workers,
     pub state: &'a str,
 }
 
-/// Reads the moment, and then locks and reads the trusted state that the settings name.
-pub(crate) fn begin<'a, S: System>(
+impl Start<'_> {
+    /// Returns the number of workers.
+    pub fn threads(&self) -> usize
+        ensures { result ≤ 64 }
+    {
+        self.workers.get() as usize
+    }
+}
+
+/// Reads the moment, and then the trusted state that the settings name, while its file is locked if
+/// it has to be.
+pub fn begin<'a, S: System>(
     alloc: Global,
     system: &mut S,
     settings: &Settings<'a>,
 ) -> Result<Start<'a>, Failure>
     ensures start { IfOk result
-        (IsStart settings.now (S.gives_locked system.old) (S.shows system.old)) }
-    ensures locked { OnOk result (S.locks system.new settings.now.state.now ≡ true) }
+        (IsStart settings.now (given_by settings.now.locking (S.gives_locked system.old)
+        (S.gives system.old)) (S.shows system.old)) }
+    ensures locked { OnOk result (settings.now.locking ≡ Locking.Needed
+        → S.locks system.new settings.now.state.now ≡ true) }
     ensures kept { S.keeps system.new ≡ S.keeps system.old }
     ensures cause { IfErr result (IsCauseToBegin (moment_text settings.now) (S.shows system.old)
-        (S.gives_locked system.old settings.now.state.now)
+        (given_by settings.now.locking (S.gives_locked system.old) (S.gives system.old)
+        settings.now.state.now)
         (S.refuses system.old settings.now.state.now)) }
 {
     let moment = moment(system, settings.moment)?;
     Ok(Start {
         alloc,
-        trusted: lock_state(alloc, system, settings.state)?,
+        trusted: first_state(alloc, system, settings)?,
         moment,
-        limit: settings.limit,
+        limits: settings.limits,
         workers: settings.workers,
         state: settings.out,
     })
 }
 
+/// Reads the trusted state, while its file is locked if it has to be.
+fn first_state<S: System>(
+    alloc: Global,
+    system: &mut S,
+    settings: &Settings<'_>,
+) -> Result<Trusted, Failure>
+    ensures read { IfOk result (IsRead (given_by settings.now.locking (S.gives_locked system.old)
+        (S.gives system.old) settings.now.state.now)) }
+    ensures locked { OnOk result (settings.now.locking ≡ Locking.Needed
+        → S.locks system.new settings.now.state.now ≡ true) }
+    ensures kept { S.keeps system.new ≡ S.keeps system.old }
+    ensures refused { IfErr result (λ f. (f ≡ Failure.Memory) ⊎ (f ≡ Failure.State)) }
+    ensures cause { IfErr result (λ f. f ≢ Failure.Memory
+        → IsNoState (given_by settings.now.locking (S.gives_locked system.old)
+        (S.gives system.old) settings.now.state.now)
+        (S.refuses system.old settings.now.state.now)) }
+{
+    match settings.locking {
+        Locking::Needed => lock_state(alloc, system, settings.state),
+        Locking::Without => read_state(alloc, system, settings.state),
+    }
+}
+
 /// The metadata that was loaded of a repository, and the names of its target files.
 #[derive(Drop)]
 pub struct Opened {
-    pub(crate) repo: Repo,
-    pub(crate) names: Vec<String>,
+    pub repo: Repo,
+    pub names: Vec<String>,
 }
 
 impl<M: Folder, T: Folder> Folders<M, T> {
     /// Loads the metadata files, of each the bytes that the workflow looks at, and lists the target
     /// files.
-    pub(crate) fn open(&mut self, alloc: Global) -> Result<Opened, Failure>
-        ensures metadata { IfOk result (λ o. AreMetadata (M.lists self.old.metadata)
-            (M.holds self.old.metadata) o.repo.metadata) }
-        ensures names { IfOk result (λ o. T.lists self.old.targets
+    pub fn open(&mut self, alloc: Global) -> Result<Opened, Failure>
+        ensures metadata { IfOk result (λ o. AreMetadata (M.gives self.old.metadata).lists
+            (M.gives self.old.metadata).holds o.repo.metadata) }
+        ensures names { IfOk result (λ o. (T.gives self.old.targets).lists
             (map string_bytes o.names.items) ≡ true) }
         ensures same { AllZip IsSame (⟦<Self as HasMirrors>⟧.mirrors self.old)
             (⟦<Self as HasMirrors>⟧.mirrors self.new) }
@@ -144,17 +188,4 @@ impl<M: Folder, T: Folder> Folders<M, T> {
         let repo = Repo { metadata, targets };
         Ok(Opened { repo, names })
     }
-}
-
-/// Returns the limits of a run. Fails with `Words` if a number is out of its range.
-pub(crate) fn limits_of(start: &Start<'_>) -> Result<Limits, Failure>
-    ensures roles { IfOk result (λ l. l.roles ≡ start.now.limit) }
-    ensures workers { IfOk result (λ _. start.now.workers ≤ 64) }
-    ensures refused { IfErr result (λ f. f ≡ Failure.Words) }
-    ensures cause { IfErr result (λ _. AreWrong start.now.limit start.now.workers) }
-{
-    if start.workers > WORKERS {
-        return Err(Failure::Words);
-    }
-    Limits::new(start.limit, CHECKS).ok_or(Failure::Words)
 }

@@ -1,7 +1,8 @@
 //! The verification of a repository in two folders.
 
 ghost use Rattle.std.specs.Prelude.{◌≡◌, ◌≢◌, ◌≤◌, true, IfErr, IfOk, OnErr, OnOk};
-ghost use Rattle.update.specs.Causes.{IsCauseToVerify, IsCauseToVerifyFrom};
+ghost use Rattle.system.specs.Locks.{StaysLocked};
+ghost use Rattle.update.specs.Causes.{IsCause, IsCauseFrom};
 ghost use Rattle.update.specs.Runs.{IsUntouchedOrStored, IsUntouchedOrStoredFrom};
 ghost use Rattle.update.specs.Runs.{IsVerified, IsVerifiedFrom};
 ghost use Rattle.update.specs.World.{IsUntouched, OthersKept};
@@ -9,7 +10,7 @@ ghost use Rattle.update.specs.World.{IsUntouched, OthersKept};
 use crate::answer::tell_outcome;
 use crate::following::Followed;
 use crate::host::{Folders, HasWorld, Host};
-use crate::start::{Start, Terms, Wanted, begin};
+use crate::start::{Locking, Start, Terms, Wanted, begin};
 use crate::state::keep_state;
 use cycle::{Gate, Threading, Watch};
 use failure::Failure;
@@ -23,7 +24,8 @@ use system::System;
 
 impl<S: System, M: Folder, T: Folder + Sync, W: Write> Host<S, Folders<M, T>, W> {
     /// Verifies what the terms name: reads the moment, locks and reads the state file, and then
-    /// reads the folders, as [`verify_from`](Host::verify_from) does. The file stays locked. If the
+    /// reads the folders, as [`verify_from`](Host::verify_from) does. The file stays locked, unless
+    /// the terms want no lock. If the
     /// moment, the state file or a folder fails, nothing was stored or printed. If out of memory or
     /// by an output error, that holds too, or the new state was stored whole. What is stored for
     /// other paths stays.
@@ -34,8 +36,8 @@ impl<S: System, M: Folder, T: Folder + Sync, W: Write> Host<S, Folders<M, T>, W>
         terms: &Terms<'_>,
     ) -> Result<u8, Failure>
         ensures known { IfOk result (λ status. status ≤ 2) }
-        ensures locked { OnOk result
-            ((⟦<Self as HasWorld>⟧.world self.new).locks terms.now.settings.state.now ≡ true) }
+        ensures locked { OnOk result (terms.now.settings.locking ≡ Locking.Needed
+            → (⟦<Self as HasWorld>⟧.world self.new).locks terms.now.settings.state.now ≡ true) }
         ensures verified { IfOk result (IsVerified terms.now
             (⟦<Self as HasWorld>⟧.world self.old) (⟦<Self as HasWorld>⟧.world self.new)) }
         ensures order { OnErr result (IsUntouchedOrStored terms.now
@@ -45,7 +47,7 @@ impl<S: System, M: Folder, T: Folder + Sync, W: Write> Host<S, Folders<M, T>, W>
             (⟦<Self as HasWorld>⟧.world self.new).keeps }
         ensures quiet { IfErr result (λ f. f ≢ Failure.Memory → f ≢ Failure.Output → IsUntouched
             (⟦<Self as HasWorld>⟧.world self.old) (⟦<Self as HasWorld>⟧.world self.new)) }
-        ensures cause { IfErr result (IsCauseToVerify terms.now
+        ensures cause { IfErr result (IsCause terms.now.settings
             (⟦<Self as HasWorld>⟧.world self.old) (⟦<Self as HasWorld>⟧.world self.new)) }
     {
         let start = begin(alloc, &mut self.system, &terms.settings)?;
@@ -72,8 +74,8 @@ impl<S: System, M: Folder, T: Folder + Sync, W: Write> Host<S, Folders<M, T>, W>
         wanted: &'a Wanted,
     ) -> Result<u8, Failure>
         ensures known { IfOk result (λ status. status ≤ 2) }
-        ensures locked { (⟦<Self as HasWorld>⟧.world self.new).locks
-            ≡ (⟦<Self as HasWorld>⟧.world self.old).locks }
+        ensures locked { StaysLocked (⟦<Self as HasWorld>⟧.world self.old).locks
+            (⟦<Self as HasWorld>⟧.world self.new).locks }
         ensures verified { IfOk result (IsVerifiedFrom start.now wanted.now
             (⟦<Self as HasWorld>⟧.world self.old) (⟦<Self as HasWorld>⟧.world self.new)) }
         ensures order { OnErr result (IsUntouchedOrStoredFrom start.now wanted.now
@@ -83,8 +85,8 @@ impl<S: System, M: Folder, T: Folder + Sync, W: Write> Host<S, Folders<M, T>, W>
             (⟦<Self as HasWorld>⟧.world self.new).keeps }
         ensures quiet { IfErr result (λ f. f ≢ Failure.Memory → f ≢ Failure.Output → IsUntouched
             (⟦<Self as HasWorld>⟧.world self.old) (⟦<Self as HasWorld>⟧.world self.new)) }
-        ensures cause { IfErr result (IsCauseToVerifyFrom start.now
-            (⟦<Self as HasWorld>⟧.world self.old) (⟦<Self as HasWorld>⟧.world self.new)) }
+        ensures cause { IfErr result (IsCauseFrom (⟦<Self as HasWorld>⟧.world self.old).mirrors
+            (⟦<Self as HasWorld>⟧.world self.new).mirrors) }
     {
         let alloc = start.alloc;
         let followed = self.folders.follow(threading, start, wanted)?;
@@ -95,7 +97,7 @@ impl<S: System, M: Folder, T: Folder + Sync, W: Write> Host<S, Folders<M, T>, W>
         } = followed;
         let readers = Readers {
             rt: threading.rt,
-            threads: start.workers,
+            threads: start.threads(),
         };
         let outcome = close(&readers, alloc, course, &mut self.folders.targets, names)?;
         let paths = wanted.paths(listed.as_slice());

@@ -19,6 +19,7 @@ pub const INIT: &[Argument] = &[
 /// The arguments of `verify`.
 pub const VERIFY: &[Argument] = &[
     STATE,
+    UNLOCKED,
     METADATA,
     TARGETS,
     NOW,
@@ -40,6 +41,7 @@ pub const VERIFY: &[Argument] = &[
 /// The arguments of `replay`.
 pub const REPLAY: &[Argument] = &[
     STATE,
+    UNLOCKED,
     NOW,
     LIMIT,
     WORKERS,
@@ -101,6 +103,15 @@ const STATE: Argument = Argument {
     name: "state",
     form: Form::Needed("STATE"),
     help: "The trusted state",
+};
+
+const UNLOCKED: Argument = Argument {
+    name: "unlocked",
+    form: Form::Switch {
+        needs: &[],
+        conflicts: &[],
+    },
+    help: "Don't lock the trusted state, for a file system without locks",
 };
 
 const METADATA: Argument = Argument {

@@ -45,8 +45,11 @@ With --every each file of the targets folder is wanted, and PATH and --paths-fro
 each path once, in byte order. Where names are consistent, a path is the name without `HASH.`.
 With --into each accepted target is copied below DIR, under its path, from the very bytes that were
 checked. A copy takes its place in one step, after the state was written and before the lines are
-printed. A wanted path that is empty or absolute, or has an empty part, `.` or `..`, is then an
-error.
+printed. A wanted path that is empty or absolute, has an empty part, `.` or `..`, or begins with
+`.tufcheck.` is then an error, and so is a DIR that isn't apart from the other files and folders.
+An accepted path that can't be written has the line `no NAME NoPlace`.
+The trusted state is locked until the run has ended; another run with it waits. A file that can't be
+locked is an error, unless there is --unlocked.
 Workers check signatures in advance, and then digest the target files. For them at most 4 MB of
 metadata are read twice. Lines, state and status are the same for any number of workers.
 With --progress it also prints to standard error, at most once a second,

@@ -86,7 +86,7 @@ An old file is replaced, and with it a link, but not the file to which it leads.
   $ has twice/.tufcheck.1.new
   [1]
 
-A folder of temporary files that another run left is not used, and stays.
+A folder of that name that others may use is no run's: it is not used, and stays.
   $ folder twice/.tufcheck.1.new
   $ put twice/.tufcheck.1.new/1
   > left
@@ -98,6 +98,20 @@ A folder of temporary files that another run left is not used, and stays.
   > left
   $ same twice/.tufcheck.1.new/1 left
   $ has twice/.tufcheck.2.new
+  [1]
+
+What a run that ended has left is removed.
+  $ unlock twice/.tufcheck.1.new
+  $ folder twice/.tufcheck.3.new
+  $ unlock twice/.tufcheck.3.new
+  $ put twice/.tufcheck.3.new/lock
+  $ verify one two --into twice b
+  root 1
+  end ready
+  ok "b" 1 "targets"
+  $ has twice/.tufcheck.1.new
+  [1]
+  $ has twice/.tufcheck.3.new
   [1]
 
 If the update stops, nothing is copied.
@@ -112,7 +126,7 @@ If the update stops, nothing is copied.
   [1]
   $ copy timestamp.json metadata/timestamp.json
 
-A path that is empty or absolute, or has an empty part, `.` or `..`, is a usage error, before the moment, the state and the folders are read. Without copies such a path is like any other.
+A path that is empty or absolute, has an empty part, `.` or `..`, or begins with `.tufcheck.` is a usage error, before the moment, the state and the folders are read. Without copies such a path is like any other.
   $ remove two
   $ verify one two --into bad ""
   ! tufcheck: words
@@ -135,6 +149,12 @@ A path that is empty or absolute, or has an empty part, `.` or `..`, is a usage 
   $ verify one two --into bad d/../abc.txt
   ! tufcheck: words
   [3]
+  $ verify one two --into bad .tufcheck.1.new/1
+  ! tufcheck: words
+  [3]
+  $ verify one two --into bad abc.txt .TufCheck.
+  ! tufcheck: words
+  [3]
   $ tufcheck verify --state gone --metadata gone --targets gone --out two --now never --into bad d/./f
   ! tufcheck: words
   [3]
@@ -148,15 +168,48 @@ A path that is empty or absolute, or has an empty part, `.` or `..`, is a usage 
   [1]
   $ has two
   [1]
-  $ verify one two .. /abc.txt ""
+  $ verify one two .. /abc.txt "" .tufcheck.1.new/1
   root 1
   end ready
   no ".." NotFound
   no "/abc.txt" NotFound
   no "" NotFound
+  no ".tufcheck.1.new/1" NotFound
   [1]
 
-A copy that can't be written ends the run before anything is stored.
+The folder for copies is apart from the state, the folders and the list of paths: none is it or below it, nor is it below one of them, by whatever name. Else that is a usage error, before anything is read.
+  $ verify one two --into . abc.txt
+  ! tufcheck: words
+  [3]
+  $ verify one two --into targets abc.txt
+  ! tufcheck: words
+  [3]
+  $ verify one two --into metadata/new/copies abc.txt
+  ! tufcheck: words
+  [3]
+  $ verify one bad/two --into bad abc.txt
+  ! tufcheck: words
+  [3]
+  $ verify bad/../one two --into bad abc.txt
+  ! tufcheck: words
+  [3]
+  $ link targets alias
+  $ verify one two --into alias/copies abc.txt
+  ! tufcheck: words
+  [3]
+  $ link bad/two nowhere
+  $ verify one nowhere --into bad abc.txt
+  ! tufcheck: words
+  [3]
+  $ folder lists
+  $ copy list lists/list
+  $ verify one two --into lists --paths-from lists/list
+  ! tufcheck: words
+  [3]
+  $ has bad
+  [1]
+
+A copy that can't be written ends the run before anything is stored, and so does a folder that can't be followed.
   $ remove two
   $ folder frozen
   $ freeze frozen
@@ -171,32 +224,34 @@ A copy that can't be written ends the run before anything is stored.
   ! tufcheck: output
   [4]
   $ verify one two --into file/below abc.txt
-  ! tufcheck: output
-  [4]
+  ! tufcheck: words
+  [3]
   $ has two
   [1]
 
-If a copy can't take its path, the state is stored and the copies before it are there, those after it aren't.
+An accepted path that can't be written has a line of its own. The state and the other copies are stored.
   $ folder half/abc.txt
   $ put half/d
   > a file
-  $ verify one two --into half b abc.txt n
-  ! tufcheck: output
-  [4]
+  $ verify one two --into half abc.txt b n
+  root 1
+  end ready
+  no "abc.txt" NoPlace
+  ok "b" 1 "targets"
+  no "n" LengthWrong
+  [1]
   $ same targets/b half/b
   $ has half/n
   [1]
   $ has half/.tufcheck.1.new
   [1]
   $ has two
-  $ verify one two --into half d/e/f b
-  ! tufcheck: output
-  [4]
-  $ verify one two --into half .tufcheck.1.new b
+  $ verify one two --into half d/e/f b d/e/f
   root 1
   end ready
-  no ".tufcheck.1.new" NotFound
+  no "d/e/f" NoPlace
   ok "b" 1 "targets"
+  no "d/e/f" NoPlace
   [1]
 
 Copies are there if the lines can't be printed.
@@ -221,10 +276,11 @@ Every file of the targets folder, in byte order.
   $ has twice/n
   [1]
 
-With consistent names a copy has its path, whichever digest names the file.
+With consistent names a copy has its path, whichever digest names the file. A path that is a folder of another accepted one has no place.
   $ make
   > @keys
   > consistent yes
+  > target targets d 31 sha256
   > target targets d/e - sha256
   > target targets r 31 sha512
   > target targets b 62 both
@@ -237,14 +293,16 @@ With consistent names a copy has its path, whichever digest names the file.
   end ready
   ok "abc.txt" 3 "targets"
   ok "b" 1 "targets"
+  no "d" NoPlace
   ok "d/e" 0 "targets"
   ok "r" 1 "targets"
+  [1]
   $ same targets/ba7816bf8f01cfea414140de5dae2223b00361a396177a9cb410ff61f20015ad.abc.txt plain/abc.txt
   $ same targets/3e23e8160039594a33894f6564e1b1348bbd7a0088d42c4acb73eeaed59c009d.b plain/b
   $ has plain/d/e
   $ has plain/r
 
-With them a name may stand for a path that no copy may have. It has its line, and if it is accepted the copy is one that can't be written.
+With them a name may stand for a path that no copy may have. It has its line.
   $ put targets/ba7816bf8f01cfea414140de5dae2223b00361a396177a9cb410ff61f20015ad...
   > abc
   $ put targets/ba7816bf8f01cfea414140de5dae2223b00361a396177a9cb410ff61f20015ad.
@@ -256,6 +314,7 @@ With them a name may stand for a path that no copy may have. It has its line, an
   no ".." NotFound
   ok "abc.txt" 3 "targets"
   ok "b" 1 "targets"
+  no "d" NoPlace
   ok "d/e" 0 "targets"
   ok "r" 1 "targets"
   [1]

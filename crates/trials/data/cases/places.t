@@ -37,17 +37,22 @@ Over another state, which keeps its mode, and nothing is left beside it.
   $ mode state
   700
 
-A file that already has the temporary file's name stays unchanged.
+Temporary files that runs which ended have left are removed. What isn't a plain file stays, and is not used.
   $ put new.1.new
-  > mine
-  $ copy new.1.new mine
+  > left
+  $ folder new.2.new
+  $ put new.4.new
   $ verify old new abc.txt
   root 1
   end ready
   ok "abc.txt" 3 "targets"
   $ same new good
-  $ same new.1.new mine
+  $ has new.1.new
+  [1]
   $ has new.2.new
+  $ has new.3.new
+  [1]
+  $ has new.4.new
   [1]
 
 A link is followed to its file, also where that isn't there yet, and stays a link.

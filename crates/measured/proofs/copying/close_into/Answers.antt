@@ -4,5 +4,5 @@ use Rattle.measured.proofs.copying.close_into.Goals as goal
 
 pub returns-clause-outcome : goal.returns-clause-outcome
 returns-clause-outcome g c =
-    closed (g.F.Folder.lists c.args.folder.now) (g.F.Folder.holds c.args.folder.now) (map string_bytes c.args.names.items) c.in_ok-known.known c.args.course c.in_ok-outcome.outcome
+    closed (g.F.Folder.gives c.args.folder.now).lists (g.F.Folder.gives c.args.folder.now).holds (map string_bytes c.args.names.items) c.in_ok-known.known c.args.course c.in_ok-outcome.outcome
     c.requires.listed c.in_ok-known.ensures.known c.in_ok-outcome.ensures.outcome

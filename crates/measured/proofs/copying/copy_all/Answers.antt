@@ -1,4 +1,5 @@
-use Rattle.std.proofs.Common.{◌≡◌, ℕ, ◌+◌, ◌<◌, ◌≤◌, get_or, length, sym, ◌∙◌, subst, arith, take, true}
+use Rattle.std.proofs.Common.{◌≡◌, ◌+◌, ◌<◌, ◌≤◌, get_or, length, sym, ◌∙◌, subst, take, true}
+use Rattle.folder.proofs.Sameness.{same_trans}
 use Rattle.measured.specs.Closed.{is_found, is_found_by}
 use Rattle.measured.specs.Copied.{AreCopiesFor}
 use Rattle.measured.specs.Known.{IsKnown}
@@ -17,22 +18,17 @@ loop-search-preserved g c =
     let is = subst (λ l. c.search-item.result ≡ get_or l c.loop-search.search-index c.search-item.result) all c.search-item.is in
     record {
       known = λ names h.
-          subst (λ hs. IsKnown names hs found c.copy_one.new.known) was.same_bytes
+          subst (λ hs. IsKnown names hs found c.copy_one.new.known) was.same.holds
           (c.in_ok-copy.ensures.known names found
           (λ name by. found_at consistent searches c.loop-search.search-index c.search-item.result within is name
           (subst (λ k. is_found_by k name c.search-item.result ≡ true) c.has_consistent_names-consistent.ensures.value by))
-          (subst (λ hs. IsKnown names hs found c.loop-search.known) (sym was.same_bytes) (was.known names h)));
-      copies = subst (λ v. AreCopiesFor g.D.Temporary.Sink.took v (take (c.loop-search.search-index + 1) c.args.course.now.searches)) (sym c.in_ok-push.ensures.items)
-          (one_copy_more g.D.Temporary.Sink.took c.loop-search.copies.items c.args.course.now.searches c.loop-search.search-index c.in_ok-copy.copy c.search-item.result
+          (subst (λ hs. IsKnown names hs found c.loop-search.known) (sym was.same.holds) (was.known names h)));
+      copies = subst (λ v. AreCopiesFor g.D.Temporary.Temporary.wrote v (take (c.loop-search.search-index + 1) c.args.course.now.searches)) (sym c.in_ok-push.ensures.items)
+          (one_copy_more g.D.Temporary.Temporary.wrote c.loop-search.copies.items c.args.course.now.searches c.loop-search.search-index c.in_ok-copy.copy c.search-item.result
           within is was.copies c.in_ok-copy.ensures.copy);
-      counts = below c.in_ok-copy.ensures.counts was.counts;
-      same_lists = c.in_ok-copy.ensures.same_lists ∙ was.same_lists;
-      same_bytes = c.in_ok-copy.ensures.same_bytes ∙ was.same_bytes;
-      kept = c.in_ok-copy.ensures.kept ∙ was.kept;
+      same = same_trans _ _ _ was.same c.in_ok-copy.ensures.same;
+      same_place = c.in_ok-copy.ensures.same_place ∙ was.same_place;
     }
-  where
-    below : {a b d : ℕ} → b ≤ d → a ≤ b → a ≤ d
-    below p q = grind arith
 
 pub returns-clause-copies : goal.returns-clause-copies
 returns-clause-copies g c = all_copied _ _ c.args.course.now.searches c.loop-search.search-index

@@ -10,8 +10,8 @@ use Rattle.measured.proofs.reading.read_file.Goals as goal
 
 pub returns-clause-known : goal.returns-clause-known
 returns-clause-known g c = λ names found is known.
-    wanted_more names (g.F.Folder.holds c.args.folder.now) found (string_bytes c.args.name) _ c.args.known.now c.put.new.known known c.in_ok-put.ensures.put c.requires.there
-    (record { is_found = is; measure = subst (λ n. IsMeasureOf c.widened-need.result (g.F.Folder.holds c.args.folder.now n) c.in_ok-measure.field-0) c.as_str-2.ensures.value c.in_ok-measure.ensures.given })
+    wanted_more names (g.F.Folder.gives c.args.folder.now).holds found (string_bytes c.args.name) _ c.args.known.now c.put.new.known known c.in_ok-put.ensures.put c.requires.there
+    (record { is_found = is; measure = subst (λ n. IsMeasureOf c.widened-need.result ((g.F.Folder.gives c.args.folder.now).holds n) c.in_ok-measure.field-0) c.as_str-2.ensures.value c.in_ok-measure.ensures.given })
 
 pub returns-clause-grows : goal.returns-clause-grows
 returns-clause-grows g c =

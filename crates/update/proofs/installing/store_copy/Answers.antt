@@ -1,18 +1,24 @@
-use Rattle.std.proofs.Common.{◌∙◌, subst, sym, IfSome, Some}
-use Rattle.update.specs.Stored.{IsCopyFor}
-use Rattle.update.proofs.Copied.{again_paths, more_paths, stored_copy}
+use Rattle.std.proofs.Common.{◌∙◌, refl, subst, sym}
+use Rattle.update.specs.Copies.{IsFlag, is_blocked, is_free}
+use Rattle.update.proofs.Copied.{decided_again, decided_refused, decided_stored}
 use Rattle.update.proofs.installing.store_copy.Goals as goal
 
-pub returns-then-has_path-clause-paths : goal.returns-then-has_path-clause-paths
-returns-then-has_path-clause-paths g c = λ done has. again_paths c.args.stored.now done c.args.path.now (sym c.has_path.ensures ∙ c.if-has_path.true) has
+pub returns-then-has_path-clause-decided : goal.returns-then-has_path-clause-decided
+returns-then-has_path-clause-decided g c = λ done is.
+    decided_again (is_free (g.D.Destination.place c.args.to.now) c.args.state.now) (is_blocked (g.D.Destination.blocks c.args.to.now) (g.S.System.blocks c.args.system.now) (g.D.Destination.place c.args.to.now))
+    c.args.decided.now done c.args.path.now (sym c.has_path.ensures ∙ c.if-has_path.true) is
 
-pub returns-in-Ok-clause-paths : goal.returns-in-Ok-clause-paths
-returns-in-Ok-clause-paths g c = λ done has. more_paths c.args.stored.now c.add_path.new.set done c.args.path.now c.in_ok-add_path.ensures has
+pub returns-then-branch-clause-decided : goal.returns-then-branch-clause-decided
+returns-then-branch-clause-decided g c = λ done is.
+    let free = is_free (g.D.Destination.place c.args.to.now) c.args.state.now in
+    let blocked = is_blocked (g.D.Destination.blocks c.args.to.now) (g.S.System.blocks c.args.system.now) (g.D.Destination.place c.args.to.now) in
+    decided_stored free blocked c.args.decided.now (record { stored = c.add_path.new.set; refused = c.args.decided.now.refused }) done c.args.path.now c.in_ok-add_path.ensures refl
+    (subst (IsFlag free blocked c.args.path.now) c.if-branch.true c.in_ok-install.ensures.decided) is
 
-pub returns-in-Ok-clause-copied : goal.returns-in-Ok-clause-copied
-returns-in-Ok-clause-copied g c = λ target copy new.
-    stored_copy _ _ c.args.path.now target (sym c.is_below.ensures.test ∙ c.if-not-is_below.false) c.in-Ok.ensures.stored
-    (subst (λ o. IfSome o (λ file. IsCopyFor g.D.Temporary.Sink.took (Some file.now) target)) c.in-Some.is copy)
-
-pub returns-in-Ok-clause-others : goal.returns-in-Ok-clause-others
-returns-in-Ok-clause-others g c = c.take_over.ensures.others
+pub returns-clause-decided : goal.returns-clause-decided
+returns-clause-decided g c = λ done is.
+    let free = is_free (g.D.Destination.place c.args.to.now) c.args.state.now in
+    let blocked = is_blocked (g.D.Destination.blocks c.args.to.now) (g.S.System.blocks c.args.system.now) (g.D.Destination.place c.args.to.now) in
+    decided_refused free blocked c.args.decided.now (record { stored = c.add_path.new.set; refused = c.args.decided.now.refused })
+    (record { stored = c.drop_path.new.set; refused = c.add_path-2.new.set }) done c.args.path.now (sym c.has_path.ensures ∙ c.if-has_path.false) c.in_ok-add_path.ensures
+    c.drop_path.ensures c.in_ok-add_path-2.ensures (subst (IsFlag free blocked c.args.path.now) c.if-branch.false c.in_ok-install.ensures.decided) is

@@ -12,5 +12,5 @@ returns-clause-followed g c =
     followed _ s c.args.wanted.now c.in_ok-opened.opened _ c.paths.result.now
     (record { metadata = c.in_ok-opened.ensures.metadata; names = c.in_ok-opened.ensures.names }) refl
     (c.paths.ensures ∙ ap (paths_from c.args.wanted.now) c.as_slice.ensures.value)
-    (c.in_ok-course.ensures.course ∙ ap (λ limit. course (request s.trusted s.moment c.paths.result.now limit) files) c.in_ok-limits.ensures.roles)
+    c.in_ok-course.ensures.course
     c.in_ok-listed.ensures.paths

@@ -1,0 +1,9 @@
+use Rattle.command.proofs.Doing.{first_of, held_of}
+use Rattle.command.proofs.carrying.init.Goals as goal
+
+pub returns-clause-first : goal.returns-clause-first
+returns-clause-first g c =
+    let h = held_of c.new.result.locked c.new.result.stored in
+    let k = held_of c.init-done.new.self.system.locked c.init-done.new.self.system.stored in
+    first_of c.init-done.result c.args.root.now c.args.state.now h k (g.W.Write.contents c.args.out) (g.W.Write.contents c.init-done.new.self.out)
+    c.init-done.ensures.status c.init-done.ensures.trusted c.init-done.ensures.refused

@@ -1,0 +1,3 @@
+pub mod Causing
+pub mod Cycling
+pub mod Places

@@ -1,0 +1,83 @@
+-- One verification after another, each from the state of the one before.
+use Rattle.std.specs.List.{AllZip}
+use Rattle.std.specs.Bool.{⊤}
+use Rattle.std.specs.Io.KnownBytes.{Appends}
+use Rattle.std.specs.Prelude.{◌≡◌, ◌⊎◌, ℕ, List, Bool, true, Option, String, map, string_bytes, [], ◌∷◌}
+use Rattle.std.specs.declared.alloc.Global.{Global}
+use Rattle.examine.specs.Checks.{file_in}
+use Rattle.report.specs.Lines.{last_status, cycles_text}
+use Rattle.update.specs.Runs.{AreMetadata, Begins, IsOutcomeIn, IsUntouched, Loaded, MayBeSeen, Mirror, Outcome, Request, Seen, State, World, start_of, state_text}
+use Rattle.replay.specs.declared.replaying.Cycles.{Cycles}
+use Rattle.update.specs.declared.start.Start as program
+
+-- what was read of a repository: its metadata files, and what was seen of its target files
+pub record Contents : Type 0 where
+  pub metadata : Loaded
+  pub targets : Seen
+
+-- the folders may give it
+pub record MayGive (mirror : Mirror) (c : Contents) : Type 0 where
+  pub metadata : AreMetadata mirror.metadata.lists mirror.metadata.holds c.metadata
+  pub targets : MayBeSeen mirror.targets.lists mirror.targets.holds c.targets
+
+-- what the first cycle begins with
+abbrev pub first_of : program.Start → List (String Global) → Request
+first_of s wanted = start_of s (map string_bytes wanted)
+
+-- the same request from another state
+abbrev pub from_state : Request → State → Request
+from_state s trusted = record s { trusted = trusted }
+
+-- what the next cycle begins with
+abbrev pub after : Request → Outcome → Request
+after s o = from_state s o.trusted
+
+-- the state after the cycles
+abbrev pub last_state : Request → List Outcome → State
+last_state s [] = s.trusted
+last_state s (o ∷ os) = last_state (after s o) os
+
+-- the outcomes of the cycles, each from the state of the one before
+abbrev pub AreOutcomesIn : Request → List Contents → List Outcome → Type 0
+AreOutcomesIn s [] [] = Unit {0}
+AreOutcomesIn s [] (o ∷ os) = ⊥
+AreOutcomesIn s (c ∷ cs) [] = ⊥
+AreOutcomesIn s (c ∷ cs) (o ∷ os) =
+    IsOutcomeIn s (file_in c.metadata) c.targets o × AreOutcomesIn (after s o) cs os
+
+-- what was read of the repositories, and the outcomes of the cycles
+pub record AreOutcomesOn (mirrors : List Mirror) (start : Request) (os : List Outcome)
+    : Type 0 where
+  pub contents : List Contents
+  pub given : AllZip MayGive mirrors contents
+  pub of_workflow : AreOutcomesIn start contents os
+
+-- the lines of the cycles were printed, and the status is that of the last one
+pub record ArePrinted (os : List Outcome) (wanted : List (List ℕ)) (status : ℕ)
+    (old new : Option (List ℕ)) : Type 0 where
+  pub lines : Appends old new (cycles_text wanted os)
+  pub answered : status ≡ last_status os
+
+-- the outcomes of the cycles: the state after them is stored, and more holds of them
+pub record AreStored (mirrors : List Mirror) (start : Request) (keeps : List ℕ → Bool)
+    (follows : List Outcome → Type 0) : Type 0 where
+  pub outcomes : List Outcome
+  pub of_cycles : AreOutcomesOn mirrors start outcomes
+  pub kept : keeps (state_text (last_state start outcomes)) ≡ true
+  pub then : follows outcomes
+
+-- # The cycles on the repositories, in order, from the state and the moment that the words name.
+
+-- the state after them is stored, and more holds of their outcomes
+abbrev pub CyclesStore : Cycles → World → World → (List Outcome → Type 0) → Type 0
+CyclesStore c old new follows = Begins c.settings old (λ s.
+    AreStored old.mirrors (first_of s c.wanted.items) (new.keeps s.state.now) follows)
+
+-- their lines were printed too, and this is the status
+abbrev pub IsReplayed : Cycles → World → World → ℕ → Type 0
+IsReplayed c old new status = CyclesStore c old new
+    (λ os. ArePrinted os (map string_bytes c.wanted.items) status old.printed new.printed)
+
+-- nothing was stored or printed, or the last state was stored
+abbrev pub IsUntouchedOrCycled : Cycles → World → World → Type 0
+IsUntouchedOrCycled c old new = IsUntouched old new ⊎ CyclesStore c old new (λ _. ⊤)

@@ -1,0 +1,212 @@
+//! One cycle after another, each on a repository in two folders.
+
+ghost use Rattle.std.specs.Prelude.{◌≡◌, ◌≢◌, ◌≤◌, ◌<◌, true, IfErr, IfOk, IfSome, OnErr};
+ghost use Rattle.std.specs.Prelude.{OnOk, length, map, slice_get, string_bytes};
+ghost use Rattle.std.specs.List.{AllZip};
+ghost use Rattle.examine.specs.Checks.{file_in};
+ghost use Rattle.folder.specs.Folders.{IsSameFolder};
+ghost use Rattle.update.specs.Causes.{IsCause, IsCauseToRead};
+ghost use Rattle.replay.specs.Cycles.{AreOutcomesOn, IsReplayed, IsUntouchedOrCycled};
+ghost use Rattle.replay.specs.Cycles.{first_of, from_state, last_state};
+ghost use Rattle.update.specs.Opened.{IsOpened};
+ghost use Rattle.update.specs.Runs.{IsOutcomeOn};
+ghost use Rattle.update.specs.Same.{IsCauseToEnd, IsSame};
+ghost use Rattle.update.specs.World.{IsUntouched, OthersKept};
+
+use cjson::NoMemory;
+use cjson::number::Within;
+use cycle::{Gate, Keeper, Outcome, Round, Threading, Watch};
+use failure::Failure;
+use folder::Folder;
+use measured::{Readers, close};
+use report::tell_cycles;
+use std::alloc::Global;
+use std::io::Write;
+use std::sync::Wait;
+use std::thread::Threads;
+use system::System;
+use update::{
+    Folders, HasMirrors, HasWorld, Host, Locking, Opened, Settings, Start, begin, keep_state,
+};
+
+/// A number of files whose verdicts are cached from cycle to cycle.
+pub type Cached = Within<1, 4096>;
+
+/// What the arguments of a replay name: the settings, the wanted paths, in order, and the size of
+/// the verdict cache.
+#[derive(Drop)]
+pub struct Cycles<'a> {
+    pub settings: Settings<'a>,
+    pub wanted: Vec<String>,
+    pub keep: Cached,
+}
+
+/// Verifies what each pair of folders holds, in order, each time from the state of the cycle
+/// before. Stores the last state, and prints for each cycle the line `cycle K`, counted from 1,
+/// and its lines. Returns the status of the last one, or 0 if there is none. Cached verdicts
+/// have no influence on any of it.
+///
+/// All metadata folders are loaded and the names of all target files are listed before the
+/// first cycle. A target file that a cycle's searches found is read in that cycle, and no other
+/// is. Otherwise all is as for [`verify`](Host::verify), with the last state.
+pub fn replay<
+    S: System,
+    M: Folder,
+    T: Folder + Sync,
+    W: Write,
+    R: Threads + Wait + Sync,
+    N: Gate + Watch + Sync,
+>(
+    host: &mut Host<S, Vec<Folders<M, T>>, W>,
+    threading: &Threading<'_, R, N>,
+    alloc: Global,
+    cycles: &Cycles<'_>,
+) -> Result<u8, Failure>
+    ensures known { IfOk result (λ status. status ≤ 2) }
+    ensures locked { OnOk result (cycles.now.settings.locking ≡ Locking.Needed
+        → (⟦<Host<S, Vec<Folders<M, T>>, W> as HasWorld>⟧.world host.new).locks
+        cycles.now.settings.state.now ≡ true) }
+    ensures replayed { IfOk result (IsReplayed cycles.now
+        (⟦<Host<S, Vec<Folders<M, T>>, W> as HasWorld>⟧.world host.old)
+        (⟦<Host<S, Vec<Folders<M, T>>, W> as HasWorld>⟧.world host.new)) }
+    ensures order { OnErr result (IsUntouchedOrCycled cycles.now
+        (⟦<Host<S, Vec<Folders<M, T>>, W> as HasWorld>⟧.world host.old)
+        (⟦<Host<S, Vec<Folders<M, T>>, W> as HasWorld>⟧.world host.new)) }
+    ensures others { OthersKept cycles.now.settings.out.now
+        (⟦<Host<S, Vec<Folders<M, T>>, W> as HasWorld>⟧.world host.old).keeps
+        (⟦<Host<S, Vec<Folders<M, T>>, W> as HasWorld>⟧.world host.new).keeps }
+    ensures quiet { IfErr result (λ f. f ≢ Failure.Memory → f ≢ Failure.Output → IsUntouched
+        (⟦<Host<S, Vec<Folders<M, T>>, W> as HasWorld>⟧.world host.old)
+        (⟦<Host<S, Vec<Folders<M, T>>, W> as HasWorld>⟧.world host.new)) }
+    ensures cause { IfErr result (IsCause cycles.now.settings
+        (⟦<Host<S, Vec<Folders<M, T>>, W> as HasWorld>⟧.world host.old)
+        (⟦<Host<S, Vec<Folders<M, T>>, W> as HasWorld>⟧.world host.new)) }
+{
+    let start = begin(alloc, &mut host.system, &cycles.settings)?;
+    let opened = open_all(alloc, &mut host.folders)?;
+    let mut keeper = keeper_of(alloc, &start, cycles.keep)?;
+    let begun = Begun {
+        start: &start,
+        wanted: cycles.wanted.as_slice(),
+    };
+    let outcomes = outcomes(threading, &begun, opened, &mut host.folders, &mut keeper)?;
+    keep_state(alloc, &mut host.system, start.state, keeper.trusted())?;
+    tell_cycles(alloc, outcomes.as_slice(), begun.wanted, &mut host.out)
+}
+
+/// Opens all repositories, in order.
+fn open_all<M: Folder, T: Folder>(
+    alloc: Global,
+    folders: &mut Vec<Folders<M, T>>,
+) -> Result<Vec<Opened>, Failure>
+    ensures opened { IfOk result (λ all. AllZip IsOpened
+        (⟦<Vec<Folders<M, T>> as HasMirrors>⟧.mirrors folders.old) all.items) }
+    ensures same { AllZip IsSame (⟦<Vec<Folders<M, T>> as HasMirrors>⟧.mirrors folders.old)
+        (⟦<Vec<Folders<M, T>> as HasMirrors>⟧.mirrors folders.new) }
+    ensures cause { IfErr result (IsCauseToRead
+        (⟦<Vec<Folders<M, T>> as HasMirrors>⟧.mirrors folders.old)
+        (⟦<Vec<Folders<M, T>> as HasMirrors>⟧.mirrors folders.new)) }
+{
+    let mut all = Vec::new(alloc);
+    for k in 0..folders.len() {
+        all.push(open_at(alloc, folders, k)?)?;
+    }
+    Ok(all)
+}
+
+/// Opens the repository at that place.
+fn open_at<M: Folder, T: Folder>(
+    alloc: Global,
+    folders: &mut Vec<Folders<M, T>>,
+    k: usize,
+) -> Result<Opened, Failure>
+    requires place { k < length folders.old.items }
+    ensures opened { IfOk result (λ o. IfSome
+        (slice_get (⟦<Vec<Folders<M, T>> as HasMirrors>⟧.mirrors folders.old) k)
+        (λ m. IsOpened m o)) }
+    ensures same { AllZip IsSame (⟦<Vec<Folders<M, T>> as HasMirrors>⟧.mirrors folders.old)
+        (⟦<Vec<Folders<M, T>> as HasMirrors>⟧.mirrors folders.new) }
+    ensures cause { IfErr result (IsCauseToRead
+        (⟦<Vec<Folders<M, T>> as HasMirrors>⟧.mirrors folders.old)
+        (⟦<Vec<Folders<M, T>> as HasMirrors>⟧.mirrors folders.new)) }
+{
+    folders[k].open(alloc)
+}
+
+/// Returns a keeper of the state that the cycles begin with.
+fn keeper_of(alloc: Global, start: &Start<'_>, keep: Cached) -> Result<Keeper, NoMemory>
+    ensures state { IfOk result (λ k. k ≡ start.now.trusted) }
+{
+    let trusted = start.trusted.copy()?;
+    Keeper::new(alloc, trusted, keep.get() as usize)
+}
+
+/// What each cycle of a replay begins with, and the wanted paths.
+#[derive(Clone, Copy)]
+struct Begun<'a> {
+    start: &'a Start<'a>,
+    wanted: &'a [String],
+}
+
+/// Returns the outcomes of all cycles of a keeper of the start's state, with the number of workers
+/// that the start names.
+fn outcomes<R: Threads + Wait + Sync, N: Gate + Watch + Sync, M: Folder, T: Folder + Sync>(
+    threading: &Threading<'_, R, N>,
+    begun: &Begun<'_>,
+    opened: Vec<Opened>,
+    folders: &mut Vec<Folders<M, T>>,
+    keeper: &mut Keeper,
+) -> Result<Vec<Outcome>, Failure>
+    requires state { keeper.old ≡ begun.now.start.now.trusted }
+    requires opened { AllZip IsOpened
+        (⟦<Vec<Folders<M, T>> as HasMirrors>⟧.mirrors folders.old) opened.items }
+    ensures outcomes { IfOk result (λ all. AreOutcomesOn
+        (⟦<Vec<Folders<M, T>> as HasMirrors>⟧.mirrors folders.old)
+        (first_of begun.now.start.now begun.now.wanted.now) all.items) }
+    ensures state { IfOk result (λ all. keeper.new
+        ≡ last_state (first_of begun.now.start.now begun.now.wanted.now) all.items) }
+    ensures cause { IfErr result (IsCauseToRead
+        (⟦<Vec<Folders<M, T>> as HasMirrors>⟧.mirrors folders.old)
+        (⟦<Vec<Folders<M, T>> as HasMirrors>⟧.mirrors folders.new)) }
+{
+    let mut all = Vec::new(begun.start.alloc);
+    for one in opened {
+        let targets = &mut folders[all.len()].targets;
+        all.push(outcome(threading, begun, one, targets, keeper)?)?;
+    }
+    Ok(all)
+}
+
+/// Returns the outcome of one cycle from the keeper's state, which is then the outcome's.
+fn outcome<R: Threads + Wait + Sync, N: Gate + Watch + Sync, T: Folder + Sync>(
+    threading: &Threading<'_, R, N>,
+    begun: &Begun<'_>,
+    one: Opened,
+    targets: &mut T,
+    keeper: &mut Keeper,
+) -> Result<Outcome, Failure>
+    requires listed { (T.gives targets.old).lists (map string_bytes one.names.items) ≡ true }
+    ensures outcome { IfOk result (IsOutcomeOn (T.gives targets.old).lists
+        (T.gives targets.old).holds
+        (from_state (first_of begun.now.start.now begun.now.wanted.now) keeper.old)
+        (file_in one.repo.metadata)) }
+    ensures state { IfOk result (λ o. keeper.new ≡ o.trusted) }
+    ensures same { IsSameFolder (T.gives targets.old) (T.gives targets.new) }
+    ensures cause { IfErr result
+        (IsCauseToEnd (T.gives targets.old) (T.gives targets.new)) }
+{
+    let Opened { repo, names } = one;
+    let start = begun.start;
+    let round = Round {
+        repo: &repo,
+        now: start.moment,
+        wanted: begun.wanted,
+    };
+    let threads = start.threads();
+    let course = keeper.follow(&round, &start.limits, threading, threads)?;
+    let readers = Readers {
+        rt: threading.rt,
+        threads,
+    };
+    close(&readers, start.alloc, course, targets, names)
+}

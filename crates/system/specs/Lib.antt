@@ -1,0 +1,4 @@
+pub mod Blocked
+pub mod Bounds
+pub mod Files
+pub mod Locks
