@@ -2,6 +2,7 @@
 the crates."""
 import hashlib
 import json
+import os
 
 EXPIRES = "2030-01-01T00:00:00Z"
 
@@ -94,11 +95,11 @@ def part(kind, version=1, **members):
     return {"_type": kind, "expires": EXPIRES, "spec_version": "1.0.31", "version": version, **members}
 
 
-def root(key):
+def root(key, consistent=False):
     """The first root, in which one key has all roles."""
     role = {"keyids": [key.id], "threshold": 1}
     roles = {name: role for name in ("root", "timestamp", "snapshot", "targets")}
-    return signed(part("root", consistent_snapshot=False, keys={key.id: key.object}, roles=roles), key)
+    return signed(part("root", consistent_snapshot=consistent, keys={key.id: key.object}, roles=roles), key)
 
 
 def target(content):
@@ -115,3 +116,31 @@ def snapshot(key, names, version=1):
 
 def delegation(name, key, **paths):
     return {"keyids": [key.id], "name": name, "terminating": False, "threshold": 1, **paths}
+
+
+def repository(folder, key, contents, version=1, low=None, consistent=False):
+    """Writes a repository whose targets file lists the contents of paths. The key has all roles at the top; `version` is
+    that of timestamp and snapshot, and 1 with consistent names. `low` is the key and the contents of a delegated role of
+    that name, for three levels of paths."""
+    files = {"1.root": root(key, consistent), "timestamp": timestamp(key, version)}
+    named = lambda name: f"1.{name}" if consistent else name
+    listed = {"targets": {path: target(content) for path, content in contents.items()}}
+    if low:
+        role = delegation("low", low[0], paths=["*", "*/*", "*/*/*"])
+        listed["delegations"] = {"keys": {low[0].id: low[0].object}, "roles": [role]}
+        inner = {path: target(content) for path, content in low[1].items()}
+        files[named("low")] = signed(part("targets", targets=inner), low[0])
+    files[named("targets")] = signed(part("targets", **listed), key)
+    files[named("snapshot")] = snapshot(key, ["targets", "low"] if low else ["targets"], version)
+    for name, content in files.items():
+        write(f"{folder}/metadata/{name}.json", content)
+    for path, content in {**contents, **(low[1] if low else {})}.items():
+        above, base = os.path.split(path)
+        hashed = f"{hashlib.sha256(content).hexdigest()}.{base}" if consistent else base
+        write(os.path.join(folder, "targets", above, hashed), content)
+
+
+def write(path, content):
+    os.makedirs(os.path.dirname(path), exist_ok=True)
+    with open(path, "wb") as file:
+        file.write(content)

@@ -3,13 +3,28 @@
 # Usage: fetch-curl.sh URL STATE DIR PATH..
 # URL/metadata and URL/targets are the folders of the repository. The files are written into the
 # folder DIR, which should be new: a file that is there isn't fetched. Names go into the URL as they
-# stand, so a name with `?`, `#` or `%` isn't found.
+# stand, so a name with `?`, `#` or `%` isn't found. URL begins with `https:`, unless PROTOCOL in the
+# environment names another protocol, as `http` for a test on one machine.
 set -eu
 url=$1
+protocol=${PROTOCOL:-https}
 shift
 
+# An answer whose length is more than MOST isn't begun. One without a length is cut off a byte
+# behind MOST, since curl before 8.4 has no limit for it. The status is that of curl, which fails
+# once it can't write.
 fetch() {
-    curl --fail --silent --globoff --path-as-is --max-time 600 --max-filesize "$3" "$url/$1/$2"
+    {
+        ended=$({
+            {
+                code=0
+                curl --fail --silent --globoff --path-as-is --proto "=$protocol" --max-time 600 \
+                    --speed-limit 1000 --speed-time 30 --max-filesize "$3" "$url/$1/$2" || code=$?
+                echo "$code" >&3
+            } | head -c "$(($3 + 1))" >&4
+        } 3>&1)
+    } 4>&1
+    return "$ended"
 }
 
 . "$(dirname "$0")/fetching.sh"
