@@ -408,10 +408,10 @@ def to_pipe(path, _):
     os.mkfifo(path)
 
 
-# The file that changes, and a call before the run looks at it: the first metadata file is read before it, or the folder of
-# temporary files is made.
+# The file that changes, and a call before the run looks at it: the timestamp is read before it, or the folder of temporary
+# files is made.
 CHANGED = {"target": ("targets/abc.txt", "mkdir:.tufcheck.1.new"),
-           "metadata": ("metadata/timestamp.json", "open:1.root.json")}
+           "metadata": ("metadata/snapshot.json", "open:timestamp.json")}
 for kind, (file, before) in CHANGED.items():
     attack(f"mirror/{kind}-becomes-a-pipe")(becomes(file, to_pipe, before))
     attack(f"mirror/{kind}-becomes-a-link")(becomes(file, lambda path, to: path.symlink_to(to), f"open:{file}"))
@@ -649,17 +649,27 @@ attack("crash/flush-that-fails")(flush_fails("/out", "abc.txt"))
 attack("crash/flush-of-a-folder-below-that-fails")(flush_fails("/out/d/e", "abc.txt", "d/e/f"))
 
 
-# What is stopped later.
+# Files that nobody signed, 300 of 5 MB each.
 
 
-@attack("mirror/unsigned-files-that-cost-memory", later=True)
-def unsigned_files(room):
-    room.make("repo", ABC)
-    for number in range(300):
-        with open(room.at(f"repo/metadata/x{number}.json"), "wb") as file:
-            file.truncate(5_000_000)
-    ran = room.verify("repo", "abc.txt")
-    need(ran.status == 0, ran)
+def unsigned_files(words):
+    def act(room):
+        room.make("repo", ABC)
+        for number in range(300):
+            with open(room.at(f"repo/metadata/x{number}.json"), "wb") as file:
+                file.truncate(5_000_000)
+        ran = room.run(*words(room))
+        need(ran.status == 0, ran)
+    return act
+
+
+FOLDERS = ["--metadata", "repo/metadata", "--targets", "repo/targets"]
+BEGUN = ["--now", NOW, "--state", "s"]
+attack("mirror/unsigned-files-that-cost-memory")(unsigned_files(lambda room: room.words("repo", "abc.txt")))
+attack("mirror/unsigned-files-that-cost-next-memory")(unsigned_files(lambda room: ["next", *BEGUN, *FOLDERS, "abc.txt"]))
+attack("mirror/unsigned-files-that-cost-replay-memory")(
+    unsigned_files(lambda room: ["replay", *BEGUN, "--out", "o", "abc.txt", "repo"])
+)
 
 
 def tried(program, library, name, act):

@@ -69,7 +69,7 @@ pub fn next_in<T: Threads + Wait + Sync, W: Write>(
         folders,
         out,
     };
-    let done = host.next(run.alloc, wants);
+    let done = host.next(&run.threading(), run.alloc, wants);
     (done, host.out)
 }
 

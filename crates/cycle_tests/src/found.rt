@@ -5,7 +5,7 @@ ghost use Rattle.folder.specs.Folders.{HasGrown};
 ghost use Rattle.folder.specs.Measures.{IsMeasure};
 
 use crate::repositories::{first_state, limits_of, made, metadata, moment, string};
-use cycle::{Course, Cycle, Repo, Round, Trusted, follow_alone, has_consistent_names};
+use cycle::{Course, Cycle, Repo, Round, Trusted, follow_alone};
 use folder::{Folder, LoadFault, Measure, Need};
 use keys::Direct;
 use measured::{Readers, close};
@@ -252,7 +252,8 @@ fn ends_consistent<R: Abort + AllocGlobal>(
     repo: &Repo,
     wanted: &[String],
 ) -> bool {
-    has_consistent_names(&cycle_of(rt, trusted, repo, wanted)).expect(rt, "memory")
+    let course = follow_alone(&cycle_of(rt, trusted, repo, wanted));
+    course.expect(rt, "memory").has_consistent_names()
 }
 
 #[test]

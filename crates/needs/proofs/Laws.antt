@@ -14,7 +14,7 @@ use Rattle.deleg.specs.declared.found.Found.{Found}
 use Rattle.deleg.specs.declared.found.Found.TheVariants.{Listed, NotFound, LimitReached, RoleRefused}
 use Rattle.cycle.specs.Workflow.{Course, End, Ready, Request, Stopped, Target, course, searched, target_of}
 use Rattle.needs.specs.Laws.{AreAbsent, HasEnough, are_optional, has_file, is_one_there, is_short, is_short_end, is_short_found, names_at}
-use Rattle.needs.specs.Needs.{Names, Need, absent, end_need, file_needs, found_need, is_none_of, is_sought, metadata_needs, name_needs, needs, next_root, noted_files, role_below, root_need, search_need, step_need, target_need, target_needs}
+use Rattle.needs.specs.Needs.{Names, Need, absent, end_need, file_needs, found_need, is_none_of, is_sought, metadata_needs, missing_metadata, name_needs, needs, next_root, noted_files, role_below, root_need, search_need, step_need, target_need, target_needs}
 use Rattle.needs.specs.declared.need.Place.TheVariants as place
 use Rattle.needs.proofs.Lists.{Holds, IsOptional, holds-both, holds-each, holds-from, holds-list, holds-once, holds-somes, none-once, optional-from, optional-none, split}
 use Rattle.needs.proofs.Refusing.{searched-lists}
@@ -94,6 +94,16 @@ holds-root P there old last h = if_not (is_sought old last) (there (root_name (l
 
 -- ---- the laws
 
+-- no metadata file among them is there
+pub gone_metadata : (r : Request) (files : Files) (metadata : Names) → ((name : List ℕ) → metadata name ≡ is_some (files name))
+    → ByRecursion (λ n. metadata n.name ≡ false) (missing_metadata r.trusted.root.reading (course r files) metadata)
+gone_metadata r files metadata same =
+    let IsGoneBy = λ (n : Need). metadata n.name ≡ false in
+    let here : Course = course r files in
+    holds-both IsGoneBy (next_root r.trusted.root.reading here metadata) (metadata_needs here)
+    (holds-list IsGoneBy _ (holds-root IsGoneBy metadata r.trusted.root.reading here.trusted.root.reading (λ name most h. h)))
+    (holds-metadata IsGoneBy r files (λ n g. same n.name ∙ ap is_some g.absent))
+
 module _ (r : Request) (files : Files) (metadata targets : Names) (same : (name : List ℕ) → metadata name ≡ is_some (files name)) where
   abbrev here : Course
   here = course r files
@@ -107,14 +117,17 @@ module _ (r : Request) (files : Files) (metadata targets : Names) (same : (name 
   gone-out : (n : Need) → IsGone files n → IsOut n
   gone-out n g = ap (λ p. names_at metadata targets p n.name) g.place ∙ same n.name ∙ ap is_some g.absent
 
+  metadata_out : ByRecursion IsOut (missing_metadata r.trusted.root.reading here metadata)
+  metadata_out = holds-both IsOut (next_root r.trusted.root.reading here metadata) (metadata_needs here)
+      (holds-list IsOut _ (holds-root IsOut metadata r.trusted.root.reading here.trusted.root.reading (λ name most h. h)))
+      (holds-metadata IsOut r files gone-out)
+
   -- none of them is there
   pub are_absent : AreAbsent metadata targets listed
   are_absent = All-from_recursion IsOut listed
-      (holds-both IsOut (next_root r.trusted.root.reading here metadata) _
-      (holds-list IsOut _ (holds-root IsOut metadata r.trusted.root.reading here.trusted.root.reading (λ name most h. h)))
-      (holds-both IsOut (metadata_needs here) (target_needs here targets)
-      (holds-metadata IsOut r files gone-out)
-      (holds-targets IsOut targets here.trusted.root.reading.consistent (λ optional name most h. h) here.searches)))
+      (holds-both IsOut (missing_metadata r.trusted.root.reading here metadata) (target_needs here targets)
+      metadata_out
+      (holds-targets IsOut targets here.trusted.root.reading.consistent (λ optional name most h. h) here.searches))
 
   -- ---- if all of them are optional
 
@@ -164,10 +177,10 @@ module _ (r : Request) (files : Files) (metadata targets : Names) (same : (name 
   pub has_enough : are_optional listed ≡ true → HasEnough targets here
   has_enough h =
       let IsNeeded = λ (n : Need). n.optional ≡ false in
-      let rest = (split (next_root r.trusted.root.reading here metadata) _ h).1 in
-      let parts = split (metadata_needs here) (target_needs here targets) rest in
+      let parts = split (missing_metadata r.trusted.root.reading here metadata) (target_needs here targets) h in
+      let others = (split (next_root r.trusted.root.reading here metadata) (metadata_needs here) parts.0).1 in
       let consistent = here.trusted.root.reading.consistent in
-      let others_none = none-once (end_need here.trusted here.end ∷ map (search_need here.trusted) here.searches) (optional-none (metadata_needs here) parts.0 (holds-metadata IsNeeded r files (λ n g. g.needed))) in
+      let others_none = none-once (end_need here.trusted here.end ∷ map (search_need here.trusted) here.searches) (optional-none (metadata_needs here) others (holds-metadata IsNeeded r files (λ n g. g.needed))) in
       record {
         end = not_short (is_short_end here.end) (end_need here.trusted here.end) (advanced-lists files r.moment r.trusted) others_none.0;
         roles = none_short r.wanted others_none.1;

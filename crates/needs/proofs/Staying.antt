@@ -26,7 +26,7 @@ use Rattle.deleg.specs.declared.found.Found.{Found}
 use Rattle.deleg.specs.declared.found.Found.TheVariants.{Listed, NotFound, LimitReached, RoleRefused}
 use Rattle.cycle.specs.Workflow.{Course, End, Ready, Request, Stopped, course, searched}
 use Rattle.needs.specs.Laws.{IsMore, IsSettled}
-use Rattle.needs.specs.Needs.{Names, Need, absent, each_once, end_need, found_need, is_needed, is_sought, metadata_needs, needs, next_root, noted, role_need, root_need, search_need, target_needs}
+use Rattle.needs.specs.Needs.{Names, Need, absent, each_once, end_need, found_need, is_needed, is_sought, metadata_needs, missing_metadata, needs, next_root, noted, role_need, root_need, search_need, target_needs}
 use Rattle.needs.specs.declared.need.Place.TheVariants.{Metadata}
 use Rattle.needs.proofs.Laws.{holds-metadata}
 use Rattle.needs.proofs.Lists.{Holds}
@@ -228,58 +228,55 @@ made s e all = record { trusted = s; end = e; searches = all }
 of : Files → Request → Advanced → Course
 of files r a = made a.state a.end (map (searched files r.moment r.limit a.state a.end) r.wanted)
 
-module _ (r : Request) (files : Files) (metadata targets : Names) (same : (name : List ℕ) → metadata name ≡ is_some (files name)) where
+module _ (r : Request) (files : Files) (metadata : Names) (same : (name : List ℕ) → metadata name ≡ is_some (files name)) where
   abbrev here : Course
   here = course r files
 
-  abbrev listed : List Need
-  listed = needs r.trusted.root.reading here metadata targets
+  abbrev lacking : List Need
+  lacking = missing_metadata r.trusted.root.reading here metadata
 
-  module _ (more : Files) (m : IsMore files listed more) where
-    -- a metadata file that is listed is missing in both
-    abbrev IsOut : Need → Type 0
-    IsOut n = n.place ≡ Metadata → more n.name ≡ None
+  -- a metadata file that is listed is missing in both
+  abbrev IsOut : Files → Need → Type 0
+  IsOut more n = n.place ≡ Metadata → more n.name ≡ None
 
-    abbrev rest : List Need
-    rest = metadata_needs here ++ target_needs here targets
+  module _ (more : Files) (kept : (name : List ℕ) → IfSome (files name) (λ bytes. more name ≡ Some bytes)) (gone : ByRecursion (IsOut more) lacking) where
+    out : ByRecursion (IsOut more) (next_root r.trusted.root.reading here metadata) × ByRecursion (IsOut more) (metadata_needs here)
+    out = parts (IsOut more) (next_root r.trusted.root.reading here metadata) (metadata_needs here) gone
 
-    out : ByRecursion IsOut (next_root r.trusted.root.reading here metadata) × ByRecursion IsOut rest
-    out = parts IsOut (next_root r.trusted.root.reading here metadata) rest (recursion_from_All IsOut listed m.absent)
-
-    both : (all : List Need) → ByRecursion IsOut all → ByRecursion (λ n. n.place ≡ Metadata) all → ByRecursion (λ n. more n.name ≡ None) all
+    both : (all : List Need) → ByRecursion (IsOut more) all → ByRecursion (λ n. n.place ≡ Metadata) all → ByRecursion (λ n. more n.name ≡ None) all
     both [] h k = tt
     both (n ∷ all) h k = (h.0 k.0, both all h.1 k.1)
 
     missing : ByRecursion (Holds (λ n. more n.name ≡ None)) (end_need here.trusted here.end ∷ map (search_need here.trusted) here.searches)
     missing = from-once (λ name. more name ≡ None) (end_need here.trusted here.end ∷ map (search_need here.trusted) here.searches)
-        (both (metadata_needs here) (parts IsOut (metadata_needs here) (target_needs here targets) out.1).0 (holds-metadata (λ n. n.place ≡ Metadata) r files (λ n g. g.place)))
+        (both (metadata_needs here) out.1 (holds-metadata (λ n. n.place ≡ Metadata) r files (λ n g. g.place)))
 
-    known : Known files more m.kept (steps files r.moment r.trusted)
+    known : Known files more kept (steps files r.moment r.trusted)
     known = at_end (steps files r.moment r.trusted) missing.0
       where
-        at_end : (o : Result State Advanced) → Holds (λ n. more n.name ≡ None) (end_need (ended o).state (ended o).end) → Known files more m.kept o
+        at_end : (o : Result State Advanced) → Holds (λ n. more n.name ≡ None) (end_need (ended o).state (ended o).end) → Known files more kept o
         at_end (Ok s) h = λ n is. absurd (none-some n is)
         at_end (Err a) h = λ n is. holds-some (λ n. more n.name ≡ None) (end_need a.state a.end) n h is
 
-    no_next : (p : Root) → ByRecursion IsOut (option_to_list (root_need metadata r.trusted.root.reading p)) → p.header.version < r.trusted.root.reading.header.version + most_roots → NoNext files more m.kept p
+    no_next : (p : Root) → ByRecursion (IsOut more) (option_to_list (root_need metadata r.trusted.root.reading p)) → p.header.version < r.trusted.root.reading.header.version + most_roots → NoNext files more kept p
     no_next p h less greater none =
-        at_root (absent Metadata true (next_name files more m.kept p) root_limit) (is_sought r.trusted.root.reading p) (metadata (next_name files more m.kept p)) sought (same (next_name files more m.kept p) ∙ ap is_some none) h refl
+        at_root (absent Metadata true (next_name files more kept p) root_limit) (is_sought r.trusted.root.reading p) (metadata (next_name files more kept p)) sought (same (next_name files more kept p) ∙ ap is_some none) h refl
       where
         sought : is_sought r.trusted.root.reading p ≡ true
         sought = ap (λ b. b && nat_lt p.header.version (r.trusted.root.reading.header.version + most_roots)) (lt-ltb p.header.version greatest (leb-false greatest p.header.version greater))
             ∙ lt-ltb p.header.version (r.trusted.root.reading.header.version + most_roots) less
 
-        at_root : (n : Need) (a b : Bool) → a ≡ true → b ≡ false → ByRecursion IsOut (option_to_list (if a && not b then Some n else None)) → n.place ≡ Metadata → more n.name ≡ None
+        at_root : (n : Need) (a b : Bool) → a ≡ true → b ≡ false → ByRecursion (IsOut more) (option_to_list (if a && not b then Some n else None)) → n.place ≡ Metadata → more n.name ≡ None
         at_root n true true is there h place = absurd (true≢false there)
         at_root n true false is there h place = h.0 place
         at_root n false b is there h place = absurd (true≢false (sym is))
 
-    last : Last files more m.kept most_roots r.trusted
+    last : Last files more kept most_roots r.trusted
     last t is less =
         no_next t.root.reading
-        (subst (λ (p : Part Root). ByRecursion IsOut (option_to_list (root_need metadata r.trusted.root.reading p.reading))) (sym (last-root files r.moment r.trusted t is)) out.0) less
+        (subst (λ (p : Part Root). ByRecursion (IsOut more) (option_to_list (root_need metadata r.trusted.root.reading p.reading))) (sym (last-root files r.moment r.trusted t is)) out.0) less
 
-    all_gone : (searches : List (Option Search)) → ByRecursion (Holds (λ n. more n.name ≡ None)) (map (search_need here.trusted) searches) → ByRecursion (λ o. AreGone files more m.kept r.moment here.trusted o) searches
+    all_gone : (searches : List (Option Search)) → ByRecursion (Holds (λ n. more n.name ≡ None)) (map (search_need here.trusted) searches) → ByRecursion (λ o. AreGone files more kept r.moment here.trusted o) searches
     all_gone [] h = tt
     all_gone (o ∷ searches) h = ((λ n is. holds-some (λ n. more n.name ≡ None) (search_need here.trusted o) n h.0 is), all_gone searches h.1)
 
@@ -287,9 +284,14 @@ module _ (r : Request) (files : Files) (metadata targets : Names) (same : (name 
     unfolding made of
     same_course =
         let a : Advanced = advanced files r.moment r.trusted in
-        ap (of more r) (ap ended (sym (same_steps files more m.kept r.moment r.trusted last known)))
-        ∙ ap (made a.state a.end) (sym (same_searches files more m.kept r.moment r.limit a.state a.end r.wanted (all_gone here.searches missing.1)))
+        ap (of more r) (ap ended (sym (same_steps files more kept r.moment r.trusted last known)))
+        ∙ ap (made a.state a.end) (sym (same_searches files more kept r.moment r.limit a.state a.end r.wanted (all_gone here.searches missing.1)))
 
   -- no other files change the course
-  pub is_settled : IsSettled r files listed
-  is_settled more m = same_course more m
+  pub is_settled_by : IsSettled r files lacking
+  is_settled_by more m = same_course more m.kept (recursion_from_All (IsOut more) lacking m.absent)
+
+  pub is_settled : (targets : Names) → IsSettled r files (needs r.trusted.root.reading here metadata targets)
+  is_settled targets more m =
+      let all : List Need = needs r.trusted.root.reading here metadata targets in
+      same_course more m.kept (parts (IsOut more) lacking (target_needs here targets) (recursion_from_All (IsOut more) all m.absent)).0

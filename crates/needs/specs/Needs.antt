@@ -163,8 +163,10 @@ abbrev pub target_needs : Course → Names → List Need
 target_needs c there =
     fold (noted_files there c.trusted.root.reading.consistent) [] c.searches
 
--- the next root, the other metadata files, and the files of targets, which are looked up after all
--- searches
+-- the metadata files: the next root, and the others
+abbrev pub missing_metadata : Root → Course → Names → List Need
+missing_metadata old c metadata = next_root old c metadata ++ metadata_needs c
+
+-- these, and the files of targets, which are looked up after all searches
 abbrev pub needs : Root → Course → Names → Names → List Need
-needs old c metadata targets =
-    next_root old c metadata ++ (metadata_needs c ++ target_needs c targets)
+needs old c metadata targets = missing_metadata old c metadata ++ target_needs c targets

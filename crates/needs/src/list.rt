@@ -53,7 +53,7 @@ pub fn needs<V>(
     listed(alloc, before, course, metadata, targets)
 }
 
-/// Returns them: the next root, the other metadata files, and the files of targets.
+/// Returns them: the metadata files, and the files of targets.
 fn listed<V>(
     alloc: Global,
     before: &Trusted,
@@ -64,10 +64,24 @@ fn listed<V>(
     ensures { IfOk result (λ all. all.items ≡ spec.needs before.now.root.reading course.now
         (is_in metadata.now) (is_in targets.now)) }
 {
+    let mut all = missing_metadata(alloc, before, course, metadata)?;
+    let mut found = target_needs(alloc, course, targets)?;
+    all.append(&mut found)?;
+    Ok(all)
+}
+
+/// Returns the metadata files among [`needs`], in the same order. Fails only if out of memory.
+pub fn missing_metadata(
+    alloc: Global,
+    before: &Trusted,
+    course: &Course,
+    metadata: &BTreeMap<String, Vec<u8>>,
+) -> Result<Vec<Need>, NoMemory>
+    ensures missing { IfOk result (λ all. all.items ≡ spec.missing_metadata
+        before.now.root.reading course.now (is_in metadata.now)) }
+{
     let mut all = next_root(alloc, before, course, metadata)?;
     let mut others = metadata_needs(alloc, course)?;
-    let mut found = target_needs(alloc, course, targets)?;
-    others.append(&mut found)?;
     all.append(&mut others)?;
     Ok(all)
 }

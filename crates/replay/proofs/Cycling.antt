@@ -2,21 +2,17 @@
 use Rattle.std.proofs.Common.{◌≡◌, ◌∙◌, Global, Result, Ok, Err, IfOk, OnOk, List, [], ◌∷◌, ◌++◌, ℕ, Bool, Option, String, true, ◌+◌, ap, length, length-append, map, refl, string_bytes, subst, sym}
 use Rattle.std.specs.List.{AllZip}
 use Rattle.std.specs.Io.KnownBytes.{Appends}
+use Rattle.cycle.specs.Workflow.{Course}
+use Rattle.lookups.specs.Lookups.{IsCourseOn, IsPart, IsSettledOn}
+use Rattle.lookups.specs.declared.metadata.Metadata.{Metadata}
+use Rattle.lookups.proofs.Settling.{course_on}
 use Rattle.report.specs.Lines.{cycles_text, last_status}
-use Rattle.examine.specs.Checks.{file_in}
-use Rattle.replay.specs.Cycles.{AreOutcomesIn, AreOutcomesOn, AreStored, ArePrinted, Contents, MayGive, after, first_of, from_state, last_state}
-use Rattle.update.specs.Runs.{AreMetadata, MayBeSeen, IsOutcomeIn, IsOutcomeOn, Loaded, Outcome, Request, State, state_text}
+use Rattle.folder.specs.Folders.{Giving, IsSameFolder}
+use Rattle.replay.specs.Cycles.{AreOutcomesOn, AreStored, ArePrinted, after, first_of, from_state, last_state}
+use Rattle.update.specs.Runs.{IsOutcomeOn, MayBeSeen, Outcome, Request, Seen, State, state_text}
 use Rattle.update.specs.Same.{IsSame}
 use Rattle.update.specs.World.{Mirror}
 use Rattle.update.specs.declared.start.Start as program
-
--- lists that fit fit with one more element each
-pub all_zip_push : {A B : Type 0} (R : A → B → Type 0) (xs : List A) (ys : List B) (x : A) (y : B)
-    → AllZip R xs ys → R x y → AllZip R (xs ++ x ∷ []) (ys ++ y ∷ [])
-all_zip_push R [] [] x y h r = (r, tt)
-all_zip_push R [] (b ∷ ys) x y h r = absurd h
-all_zip_push R (a ∷ xs) [] x y h r = absurd h
-all_zip_push R (a ∷ xs) (b ∷ ys) x y h r = (h.0, all_zip_push R xs ys x y h.1 r)
 
 -- ---- one cycle more
 
@@ -27,30 +23,22 @@ last_more s (p ∷ os) o = last_more (after s p) os o
 pub state_more : (s : Request) (os all : List Outcome) (o : Outcome) (later : State) → later ≡ o.trusted → all ≡ os ++ o ∷ [] → later ≡ last_state s all
 state_more s os all o later is all_is = is ∙ sym (last_more s os o) ∙ sym (ap (last_state s) all_is)
 
-outcomes_more : (s : Request) (cs : List Contents) (os : List Outcome) (c : Contents) (o : Outcome) → AreOutcomesIn s cs os → IsOutcomeIn (from_state s (last_state s os)) (file_in c.metadata) c.targets o
-    → AreOutcomesIn s (cs ++ c ∷ []) (os ++ o ∷ [])
-outcomes_more s [] [] c o h one = (one, tt)
-outcomes_more s [] (p ∷ os) c o h one = absurd h
-outcomes_more s (n ∷ cs) [] c o h one = absurd h
-outcomes_more s (n ∷ cs) (p ∷ os) c o h one = (h.0, outcomes_more (after s p) cs os c o h.1 one)
-
-pub cycle_more : (s : Request) (ms : List Mirror) (m : Mirror) (os all : List Outcome) (o : Outcome) (now : State) (metadata : Loaded)
-    → AreOutcomesOn ms s os → now ≡ last_state s os → AreMetadata m.metadata.lists m.metadata.holds metadata
-    → IsOutcomeOn m.targets.lists m.targets.holds (from_state s now) (file_in metadata) o → all ≡ os ++ o ∷ []
-    → AreOutcomesOn (ms ++ m ∷ []) s all
-cycle_more s ms m os all o now metadata before state loaded is all_is =
-    let c : Contents = record { metadata = metadata; targets = is.targets } in
-    subst (λ l. AreOutcomesOn (ms ++ m ∷ []) s l) (sym all_is) (record {
-      contents = before.contents ++ c ∷ [];
-      given = all_zip_push MayGive ms before.contents m c before.given (record { metadata = loaded; targets = is.may_be_seen });
-      of_workflow = outcomes_more s before.contents os c o before.of_workflow (subst (λ t. IsOutcomeIn (from_state s t) (file_in metadata) is.targets o) state is.of_files);
-    })
+pub cycle_more : (s : Request) (ms : List Mirror) (m : Mirror) (os all : List Outcome) (o : Outcome) (now : State)
+    → AreOutcomesOn ms s os → now ≡ last_state s os → IsOutcomeOn m (from_state s now) o → all ≡ os ++ o ∷ [] → AreOutcomesOn (ms ++ m ∷ []) s all
+cycle_more s ms m os all o now before state is all_is =
+    subst (λ l. AreOutcomesOn (ms ++ m ∷ []) s l) (sym all_is) (more s ms os before (subst (λ t. IsOutcomeOn m (from_state s t) o) state is))
+  where
+    more : (s : Request) (ms : List Mirror) (os : List Outcome) → AreOutcomesOn ms s os → IsOutcomeOn m (from_state s (last_state s os)) o → AreOutcomesOn (ms ++ m ∷ []) s (os ++ o ∷ [])
+    more s [] [] h one = (one, tt)
+    more s [] (p ∷ os) h one = absurd h
+    more s (n ∷ ms) [] h one = absurd h
+    more s (n ∷ ms) (p ∷ os) h one = (h.0, more (after s p) ms os h.1 one)
 
 pub counted_more : {A B : Type 0} (xs : List A) (ys : List B) (x : A) (y : B) → length xs ≡ length ys → length (xs ++ x ∷ []) ≡ length (ys ++ y ∷ [])
 counted_more xs ys x y is = length-append xs (x ∷ []) ∙ ap (λ n. n + 1) is ∙ sym (length-append ys (y ∷ []))
 
 pub none_yet : (s : Request) (os : List Outcome) → os ≡ [] → AreOutcomesOn [] s os
-none_yet s os is = subst (AreOutcomesOn [] s) (sym is) (record { contents = []; given = tt; of_workflow = tt })
+none_yet s os is = subst (AreOutcomesOn [] s) (sym is) tt
 
 -- ---- the state after the cycles, with the wanted paths by another name
 
@@ -73,22 +61,27 @@ module _ (ms : List Mirror) (s : program.Start) (paths wanted : List (String Glo
 
 -- ---- folders that stay what they were
 
-given_before : (m n : Mirror) (c : Contents) → IsSame m n → MayGive n c → MayGive m c
-given_before m n c same is = record {
-  metadata = subst (λ h. AreMetadata m.metadata.lists h c.metadata) same.metadata.holds (subst (λ l. AreMetadata l n.metadata.holds c.metadata) same.metadata.lists is.metadata);
-  targets = subst (λ h. MayBeSeen m.targets.lists h c.targets) same.targets.holds (subst (λ l. MayBeSeen l n.targets.holds c.targets) same.targets.lists is.targets);
+pub outcome_before : (m n : Mirror) (r : Request) (o : Outcome) → IsSame m n → IsOutcomeOn n r o → IsOutcomeOn m r o
+outcome_before m n r o same is = record {
+  metadata = is.metadata;
+  looked_up = record {
+    may_be_seen = before m.metadata n.metadata same.metadata is.metadata is.looked_up.may_be_seen;
+    starts = is.looked_up.starts;
+  };
+  targets = is.targets;
+  may_be_seen = before m.targets n.targets same.targets is.targets is.may_be_seen;
+  of_files = is.of_files;
 }
-
-all_given_before : (ms ns : List Mirror) (cs : List Contents) → AllZip IsSame ms ns → AllZip MayGive ns cs → AllZip MayGive ms cs
-all_given_before [] [] [] h k = tt
-all_given_before [] [] (c ∷ cs) h k = absurd k
-all_given_before [] (n ∷ ns) cs h k = absurd h
-all_given_before (m ∷ ms) [] cs h k = absurd h
-all_given_before (m ∷ ms) (n ∷ ns) [] h k = absurd k
-all_given_before (m ∷ ms) (n ∷ ns) (c ∷ cs) h k = (given_before m n c h.0 k.0, all_given_before ms ns cs h.1 k.1)
+  where
+    before : (a b : Giving) → IsSameFolder a b → (seen : Seen) → MayBeSeen b.lists b.holds seen → MayBeSeen a.lists a.holds seen
+    before a b same seen may = subst (λ h. MayBeSeen a.lists h seen) same.holds (subst (λ l. MayBeSeen l b.holds seen) same.lists may)
 
 pub outcomes_before : (ms ns : List Mirror) (s : Request) (os : List Outcome) → AllZip IsSame ms ns → AreOutcomesOn ns s os → AreOutcomesOn ms s os
-outcomes_before ms ns s os same are = record { contents = are.contents; given = all_given_before ms ns are.contents same are.given; of_workflow = are.of_workflow }
+outcomes_before [] [] s os h are = are
+outcomes_before [] (n ∷ ns) s os h are = absurd h
+outcomes_before (m ∷ ms) [] s os h are = absurd h
+outcomes_before (m ∷ ms) (n ∷ ns) s [] h are = absurd are
+outcomes_before (m ∷ ms) (n ∷ ns) s (o ∷ os) h are = (outcome_before m n s o h.0 are.0, outcomes_before ms ns (after s o) os h.1 are.1)
 
 -- ---- the lines
 
@@ -98,3 +91,9 @@ pub printed_all : {E : Type 0} (os : List Outcome) (wanted : List (List ℕ)) (o
     → IfOk r (λ status. ArePrinted os wanted status old new)
 printed_all os wanted old new (Ok status) lines answered = record { lines = lines; answered = answered }
 printed_all os wanted old new (Err e) lines answered = tt
+
+-- ---- a course that no other metadata files change
+
+pub course_ok : {E : Type 0} (g : Giving) (m : Metadata) (r : Request) (o : Result Course E) → OnOk o (IsPart g m) → IfOk o (IsSettledOn r m) → IfOk o (IsCourseOn g r)
+course_ok g m r (Ok c) part settled = course_on g m part r c settled
+course_ok g m r (Err e) part settled = tt

@@ -5,8 +5,8 @@ use Rattle.failure.specs.declared.failure.Failure.{Failure}
 use Rattle.failure.specs.declared.failure.Failure.TheVariants as failure
 use Rattle.update.specs.Causes.{HaveFailed, IsCauseToRead, SomeFailed}
 use Rattle.update.specs.Opened.{IsOpened}
-use Rattle.update.specs.Runs.{AreMetadata}
-use Rattle.folder.specs.Folders.{IsSameFolder}
+use Rattle.lookups.specs.Lookups.{IsPart}
+use Rattle.lookups.proofs.Reading.{part_before, part_still}
 use Rattle.folder.proofs.Sameness.{same_refl, same_trans}
 use Rattle.update.specs.Same.{IsSame}
 use Rattle.update.specs.World.{Mirror}
@@ -28,10 +28,6 @@ same_then [] (n ∷ b) c h k = absurd h
 same_then (m ∷ a) [] c h k = absurd h
 same_then (m ∷ a) (n ∷ b) [] h k = absurd k
 same_then (m ∷ a) (n ∷ b) (o ∷ c) h k = (record { metadata = same_trans _ _ _ h.0.metadata k.0.metadata; targets = same_trans _ _ _ h.0.targets k.0.targets }, same_then a b c h.1 k.1)
-
--- where only the target files were read
-pub same_targets : (m n : Mirror) → n.metadata ≡ m.metadata → IsSameFolder m.targets n.targets → AllZip IsSame (m ∷ []) (n ∷ [])
-same_targets m n is h = (record { metadata = subst (IsSameFolder m.metadata) (sym is) (same_refl m.metadata); targets = h }, tt)
 
 -- ---- one of a list
 
@@ -104,13 +100,13 @@ module _ {F : Type 0} (mirror : F → Mirror) where
 
 pub opened_before : (m n : Mirror) (o : Opened) → IsSame m n → IsOpened n o → IsOpened m o
 opened_before m n o same is = record {
-  metadata = subst (λ h. AreMetadata m.metadata.lists h o.repo.metadata) same.metadata.holds (subst (λ l. AreMetadata l n.metadata.holds o.repo.metadata) same.metadata.lists is.metadata);
+  metadata = part_before m.metadata n.metadata o.metadata same.metadata is.metadata;
   names = ap (λ l. l (map string_bytes o.names.items)) (sym same.targets.lists) ∙ is.names;
 }
 
 opened_after : (m n : Mirror) (o : Opened) → IsSame m n → IsOpened m o → IsOpened n o
 opened_after m n o same is = record {
-  metadata = subst (λ h. AreMetadata n.metadata.lists h o.repo.metadata) (sym same.metadata.holds) (subst (λ l. AreMetadata l m.metadata.holds o.repo.metadata) (sym same.metadata.lists) is.metadata);
+  metadata = part_still m.metadata n.metadata o.metadata same.metadata is.metadata;
   names = ap (λ l. l (map string_bytes o.names.items)) same.targets.lists ∙ is.names;
 }
 
@@ -133,7 +129,7 @@ open_more mirror (m ∷ ms) (x ∷ xs) (suc k) [] o h lt is so = absurd so
 open_more mirror (m ∷ ms) (x ∷ xs) (suc k) (a ∷ all) o h lt is so = subst (λ j. AllZip IsOpened (take j (m ∷ ms)) (a ∷ all ++ o ∷ [])) (sym (add-one (suc k)))
     (so.0, subst (λ j. AllZip IsOpened (take j ms) (all ++ o ∷ [])) (add-one k) (open_more mirror ms xs k all o h.1 (omega arith) is so.1))
 
-pub opened_result : (m : Mirror) (r : Result Opened Failure) → IfOk r (λ o. AreMetadata m.metadata.lists m.metadata.holds o.repo.metadata)
+pub opened_result : (m : Mirror) (r : Result Opened Failure) → IfOk r (λ o. IsPart m.metadata o.metadata)
     → IfOk r (λ o. m.targets.lists (map string_bytes o.names.items) ≡ true) → IfOk r (IsOpened m)
 opened_result m (Ok o) metadata names = record { metadata = metadata; names = names }
 opened_result m (Err e) metadata names = tt

@@ -1,24 +1,13 @@
 -- One verification after another, each from the state of the one before.
-use Rattle.std.specs.List.{AllZip}
 use Rattle.std.specs.Bool.{⊤}
 use Rattle.std.specs.Io.KnownBytes.{Appends}
 use Rattle.std.specs.Prelude.{◌≡◌, ◌⊎◌, ℕ, List, Bool, true, Option, String, map, string_bytes, [], ◌∷◌}
 use Rattle.std.specs.declared.alloc.Global.{Global}
-use Rattle.examine.specs.Checks.{file_in}
+use Rattle.folder.specs.Folders.{Giving}
 use Rattle.report.specs.Lines.{last_status, cycles_text}
-use Rattle.update.specs.Runs.{AreMetadata, Begins, IsOutcomeIn, IsUntouched, Loaded, MayBeSeen, Mirror, Outcome, Request, Seen, State, World, start_of, state_text}
+use Rattle.update.specs.Runs.{Begins, IsOutcomeOn, IsUntouched, Mirror, Outcome, Request, State, World, start_of, state_text}
 use Rattle.replay.specs.declared.replaying.Cycles.{Cycles}
 use Rattle.update.specs.declared.start.Start as program
-
--- what was read of a repository: its metadata files, and what was seen of its target files
-pub record Contents : Type 0 where
-  pub metadata : Loaded
-  pub targets : Seen
-
--- the folders may give it
-pub record MayGive (mirror : Mirror) (c : Contents) : Type 0 where
-  pub metadata : AreMetadata mirror.metadata.lists mirror.metadata.holds c.metadata
-  pub targets : MayBeSeen mirror.targets.lists mirror.targets.holds c.targets
 
 -- what the first cycle begins with
 abbrev pub first_of : program.Start → List (String Global) → Request
@@ -37,20 +26,16 @@ abbrev pub last_state : Request → List Outcome → State
 last_state s [] = s.trusted
 last_state s (o ∷ os) = last_state (after s o) os
 
--- the outcomes of the cycles, each from the state of the one before
-abbrev pub AreOutcomesIn : Request → List Contents → List Outcome → Type 0
-AreOutcomesIn s [] [] = Unit {0}
-AreOutcomesIn s [] (o ∷ os) = ⊥
-AreOutcomesIn s (c ∷ cs) [] = ⊥
-AreOutcomesIn s (c ∷ cs) (o ∷ os) =
-    IsOutcomeIn s (file_in c.metadata) c.targets o × AreOutcomesIn (after s o) cs os
+-- the folders of a repository
+abbrev pub mirror_of : Giving → Giving → Mirror
+mirror_of metadata targets = record { metadata = metadata; targets = targets }
 
--- what was read of the repositories, and the outcomes of the cycles
-pub record AreOutcomesOn (mirrors : List Mirror) (start : Request) (os : List Outcome)
-    : Type 0 where
-  pub contents : List Contents
-  pub given : AllZip MayGive mirrors contents
-  pub of_workflow : AreOutcomesIn start contents os
+-- the outcomes of the cycles, each on a repository of its own and from the state of the one before
+abbrev pub AreOutcomesOn : List Mirror → Request → List Outcome → Type 0
+AreOutcomesOn [] s [] = Unit {0}
+AreOutcomesOn [] s (o ∷ os) = ⊥
+AreOutcomesOn (m ∷ ms) s [] = ⊥
+AreOutcomesOn (m ∷ ms) s (o ∷ os) = IsOutcomeOn m s o × AreOutcomesOn ms (after s o) os
 
 -- the lines of the cycles were printed, and the status is that of the last one
 pub record ArePrinted (os : List Outcome) (wanted : List (List ℕ)) (status : ℕ)

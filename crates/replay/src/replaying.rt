@@ -3,11 +3,11 @@
 ghost use Rattle.std.specs.Prelude.{◌≡◌, ◌≢◌, ◌≤◌, ◌<◌, true, IfErr, IfOk, IfSome, OnErr};
 ghost use Rattle.std.specs.Prelude.{OnOk, length, map, slice_get, string_bytes};
 ghost use Rattle.std.specs.List.{AllZip};
-ghost use Rattle.examine.specs.Checks.{file_in};
 ghost use Rattle.folder.specs.Folders.{IsSameFolder};
 ghost use Rattle.update.specs.Causes.{IsCause, IsCauseToRead};
 ghost use Rattle.replay.specs.Cycles.{AreOutcomesOn, IsReplayed, IsUntouchedOrCycled};
-ghost use Rattle.replay.specs.Cycles.{first_of, from_state, last_state};
+ghost use Rattle.replay.specs.Cycles.{first_of, from_state, last_state, mirror_of};
+ghost use Rattle.lookups.specs.Lookups.{IsCourseOn, IsPart};
 ghost use Rattle.update.specs.Opened.{IsOpened};
 ghost use Rattle.update.specs.Runs.{IsOutcomeOn};
 ghost use Rattle.update.specs.Same.{IsCauseToEnd, IsSame};
@@ -15,9 +15,10 @@ ghost use Rattle.update.specs.World.{IsUntouched, OthersKept};
 
 use cjson::NoMemory;
 use cjson::number::Within;
-use cycle::{Gate, Keeper, Outcome, Round, Threading, Watch};
+use cycle::{Course, Gate, Keeper, Outcome, Threading, Watch};
 use failure::Failure;
 use folder::Folder;
+use lookups::{Asked, Metadata};
 use measured::{Readers, close};
 use report::tell_cycles;
 use std::alloc::Global;
@@ -46,9 +47,8 @@ pub struct Cycles<'a> {
 /// and its lines. Returns the status of the last one, or 0 if there is none. Cached verdicts
 /// have no influence on any of it.
 ///
-/// All metadata folders are loaded and the names of all target files are listed before the
-/// first cycle. A target file that a cycle's searches found is read in that cycle, and no other
-/// is. Otherwise all is as for [`verify`](Host::verify), with the last state.
+/// All folders are listed before the first cycle. A target file that a cycle's searches found is
+/// read in that cycle, and no other is. Otherwise all is as for [`verify`](Host::verify), with the last state.
 pub fn replay<
     S: System,
     M: Folder,
@@ -171,42 +171,69 @@ fn outcomes<R: Threads + Wait + Sync, N: Gate + Watch + Sync, M: Folder, T: Fold
 {
     let mut all = Vec::new(begun.start.alloc);
     for one in opened {
-        let targets = &mut folders[all.len()].targets;
-        all.push(outcome(threading, begun, one, targets, keeper)?)?;
+        let here = &mut folders[all.len()];
+        all.push(outcome(threading, begun, one, here, keeper)?)?;
     }
     Ok(all)
 }
 
 /// Returns the outcome of one cycle from the keeper's state, which is then the outcome's.
-fn outcome<R: Threads + Wait + Sync, N: Gate + Watch + Sync, T: Folder + Sync>(
+fn outcome<R: Threads + Wait + Sync, N: Gate + Watch + Sync, M: Folder, T: Folder + Sync>(
     threading: &Threading<'_, R, N>,
     begun: &Begun<'_>,
     one: Opened,
-    targets: &mut T,
+    here: &mut Folders<M, T>,
     keeper: &mut Keeper,
 ) -> Result<Outcome, Failure>
-    requires listed { (T.gives targets.old).lists (map string_bytes one.names.items) ≡ true }
-    ensures outcome { IfOk result (IsOutcomeOn (T.gives targets.old).lists
-        (T.gives targets.old).holds
-        (from_state (first_of begun.now.start.now begun.now.wanted.now) keeper.old)
-        (file_in one.repo.metadata)) }
+    requires metadata { IsPart (M.gives here.old.metadata) one.metadata }
+    requires names { (T.gives here.old.targets).lists (map string_bytes one.names.items) ≡ true }
+    ensures outcome { IfOk result (IsOutcomeOn (mirror_of (M.gives here.old.metadata)
+        (T.gives here.old.targets))
+        (from_state (first_of begun.now.start.now begun.now.wanted.now) keeper.old)) }
     ensures state { IfOk result (λ o. keeper.new ≡ o.trusted) }
-    ensures same { IsSameFolder (T.gives targets.old) (T.gives targets.new) }
-    ensures cause { IfErr result
-        (IsCauseToEnd (T.gives targets.old) (T.gives targets.new)) }
+    ensures same { AllZip IsSame (⟦<Folders<M, T> as HasMirrors>⟧.mirrors here.old)
+        (⟦<Folders<M, T> as HasMirrors>⟧.mirrors here.new) }
+    ensures cause { IfErr result (IsCauseToRead
+        (⟦<Folders<M, T> as HasMirrors>⟧.mirrors here.old)
+        (⟦<Folders<M, T> as HasMirrors>⟧.mirrors here.new)) }
 {
-    let Opened { repo, names } = one;
+    let Opened {
+        mut metadata,
+        names,
+    } = one;
     let start = begun.start;
-    let round = Round {
-        repo: &repo,
-        now: start.moment,
-        wanted: begun.wanted,
-    };
-    let threads = start.threads();
-    let course = keeper.follow(&round, &start.limits, threading, threads)?;
+    let course = course(threading, begun, &mut metadata, &mut here.metadata, keeper)?;
+    keeper.trust(&course)?;
     let readers = Readers {
         rt: threading.rt,
-        threads,
+        threads: start.threads(),
     };
-    close(&readers, start.alloc, course, targets, names)
+    close(&readers, start.alloc, course, &mut here.targets, names)
+}
+
+/// Returns the course from the keeper's state, for which metadata files are read when they are
+/// looked up.
+fn course<R: Threads + Wait + Sync, N: Gate + Watch + Sync, M: Folder>(
+    threading: &Threading<'_, R, N>,
+    begun: &Begun<'_>,
+    metadata: &mut Metadata,
+    folder: &mut M,
+    keeper: &mut Keeper,
+) -> Result<Course, Failure>
+    requires part { IsPart (M.gives folder.old) metadata.old }
+    ensures course { IfOk result (IsCourseOn (M.gives folder.old)
+        (from_state (first_of begun.now.start.now begun.now.wanted.now) keeper.old)) }
+    ensures state { keeper.new ≡ keeper.old }
+    ensures same { IsSameFolder (M.gives folder.old) (M.gives folder.new) }
+    ensures cause { IfErr result (IsCauseToEnd (M.gives folder.old) (M.gives folder.new)) }
+{
+    let start = begun.start;
+    let asked = Asked {
+        alloc: start.alloc,
+        moment: start.moment,
+        wanted: begun.wanted,
+        limits: start.limits,
+        workers: start.threads(),
+    };
+    metadata.follow(folder, threading, keeper, &asked)
 }

@@ -1,5 +1,5 @@
 -- A verification from a start: a course that is followed, and ended by the target files.
-use Rattle.std.proofs.Common.{◌≡◌, ◌≢◌, ◌∙◌, ap, Global, Result, Ok, Err, IfOk, OnErr, OnOk, List, ℕ, Bool, String, Option, length, map, refl, string_bytes, true, subst, sym}
+use Rattle.std.proofs.Common.{◌≡◌, ◌≢◌, ◌∙◌, ap, Global, Result, Ok, Err, IfOk, OnErr, OnOk, List, [], ℕ, Bool, String, Vec, Option, length, map, refl, string_bytes, true, subst, sym}
 use Rattle.std.proofs.lemmas.List.{length-map}
 use Rattle.std.specs.Bool.{⊤}
 use Rattle.copies.specs.Paths.{IsSameAt}
@@ -8,9 +8,15 @@ use Rattle.examine.specs.Checks.{file_in}
 use Rattle.measured.specs.Closed.{IsClosed}
 use Rattle.cycle.specs.declared.verdict.Verdict.{Verdict}
 use Rattle.measured.specs.Copied.{AreCopiesFor}
-use Rattle.rolechain.specs.Advance.{advanced}
 use Rattle.update.specs.Copies.{AreBegun, AreSomeStored, AreStored, IsPrintedInto, IsPrintedWith, Kept, OutsideKept, is_blocked, target_for}
-use Rattle.update.specs.Opened.{IsFollowedOn, IsOpened, paths_from, paths_of}
+use Rattle.folder.specs.Folders.{Giving, IsSameFolder}
+use Rattle.folder.proofs.Sameness.{same_trans}
+use Rattle.lookups.specs.Lookups.{Grows, IsPart, IsSettledOn, files_read}
+use Rattle.lookups.specs.declared.metadata.Metadata.{Metadata}
+use Rattle.lookups.proofs.Reading.{part_before}
+use Rattle.lookups.proofs.Settling.{course_on, stays}
+use Rattle.paths.specs.Names.{ArePathsOf}
+use Rattle.update.specs.Opened.{AreListed, IsFollowedOn, paths_from, paths_of}
 use Rattle.update.specs.Runs.{AreWanted, IsStored, IsStoredOn, IsPrinted, IsPrintedOf, Request, State, start_of, state_text}
 use Rattle.update.specs.Same.{IsSame}
 use Rattle.update.specs.Stored.{AreCopiesOf, AreInstalled, AreSomeInstalled, Lookup}
@@ -19,8 +25,9 @@ use Rattle.update.specs.declared.following.Followed.{Followed}
 use Rattle.update.specs.declared.start.Opened.{Opened}
 use Rattle.update.specs.declared.start.Start as program
 use Rattle.update.specs.declared.start.Wanted.{Wanted}
+use Rattle.update.specs.declared.start.Wanted.TheVariants.{Every}
 use Rattle.update.proofs.Copied.{copies_of, stored_since}
-use Rattle.update.proofs.Storing.{closed_outcome, outcome_on}
+use Rattle.update.proofs.Storing.{closed_outcome}
 
 -- ---- what is neither the state nor below the folder for copies
 
@@ -41,43 +48,47 @@ still_stored mid after place text same kept = same text ∙ kept
 
 -- ---- the course
 
-pub followed : (m : Mirror) (s : program.Start) (wanted : Wanted) (o : Opened) (f : Followed) (p : List (String Global)) → IsOpened m o → f.names ≡ o.names
-    → p ≡ paths_from wanted f.listed.items → f.course ≡ course (start_of s (map string_bytes p)) (file_in o.repo.metadata)
-    → AreWanted wanted (advanced (file_in o.repo.metadata) s.moment s.trusted).state.root.reading.consistent (map string_bytes f.names.items) (paths_of wanted f)
-    → IsFollowedOn m s wanted f
-followed m s wanted o f p opened names is courses are =
+pub followed : (m : Mirror) (a b : Giving) (s : program.Start) (wanted : Wanted) (o : Opened) (later : Metadata) (f : Followed) (r : Request) (p : List (String Global))
+    → IsSameFolder m.metadata a → IsSameFolder a b → m.targets.lists (map string_bytes o.names.items) ≡ true → f.names ≡ o.names → p ≡ paths_from wanted f.listed.items
+    → r ≡ start_of s (map string_bytes p) → IsPart b later → Grows o.metadata later → IsSettledOn r later f.course → AreListed a s wanted o f.listed.items → IsFollowedOn m s wanted f
+followed m a b s wanted o later f r p first second names same is requested part grows settled are =
     let paths = paths_of wanted f in
-    let whole : f.course ≡ course (start_of s paths) (file_in o.repo.metadata) =
-    courses ∙ ap (λ (l : List (String Global)). course (start_of s (map string_bytes l)) (file_in o.repo.metadata)) is in
+    let there : IsSettledOn (start_of s paths) later f.course =
+    subst (λ (l : List (String Global)). IsSettledOn (start_of s (map string_bytes l)) later f.course) is (subst (λ q. IsSettledOn q later f.course) requested settled) in
+    let list = λ (l : Vec (String Global) Global). map string_bytes l.items in
+    let here : IsPart m.metadata later = part_before m.metadata b later (same_trans m.metadata a b first second) part in
     record {
-      metadata = o.repo.metadata;
-      in_metadata = opened.metadata;
-      names = subst (λ l. m.targets.lists (map string_bytes l.items) ≡ true) (sym names) opened.names;
-      are_wanted = subst (λ (t : State). AreWanted wanted t.root.reading.consistent (map string_bytes f.names.items) paths) (sym (ap (λ (k : Course). k.trusted) whole)) are;
-      of_request = whole;
+      names = subst (λ l. m.targets.lists (list l) ≡ true) (sym same) names;
+      are_wanted = subst (λ (k : Course). AreWanted wanted k.trusted.root.reading.consistent (list f.names) paths) (sym there.same)
+          (subst (λ l. AreWanted wanted (course (start_of s paths) (file_in later.repo.metadata)).trusted.root.reading.consistent (list l) paths) (sym same)
+          (are later (part_before a b later second part) grows));
+      of_request = course_on m.metadata later here (start_of s paths) f.course there;
     }
+
+-- the paths of names, by a course that more files don't change
+pub listed_by : (g : Giving) (s : program.Start) (o : Opened) (c : Course) (r : Request) (listed : List (String Global)) → r ≡ start_of s [] → IsSettledOn r o.metadata c
+    → ArePathsOf c.trusted.root.reading.consistent (map string_bytes o.names.items) (map string_bytes listed) → AreListed g s Every o listed
+listed_by g s o c r listed requested settled are later part grows =
+    subst (λ (k : Course). ArePathsOf k.trusted.root.reading.consistent (map string_bytes o.names.items) (map string_bytes listed))
+    (sym (stays g (start_of s []) o.metadata later c (subst (λ q. IsSettledOn q o.metadata c) requested settled) part grows)) are
 
 -- ---- its end
 
 module _ (m n : Mirror) (s : program.Start) (wanted : Wanted) (f : Followed) (o : Outcome) (keeps : List ℕ → Bool) (trusted : State)
     (d : IsFollowedOn m s wanted f) (same : IsSame m n) (closed : IsClosed n.targets.lists n.targets.holds f.course o) (state : trusted ≡ o.trusted)
     (kept : keeps (state_text trusted) ≡ true) where
-  pub stored : (follows : Request → Files → Outcome → Type 0) → follows (start_of s (paths_of wanted f)) (file_in d.metadata) o → IsStoredOn m s wanted keeps follows
+  pub stored : (follows : Request → Files → Outcome → Type 0) → follows (start_of s (paths_of wanted f)) (files_read d.of_request.seen) o → IsStoredOn m s wanted keeps follows
   stored follows then =
       let paths = paths_of wanted f in
-      let r = start_of s paths in
       let names : List (List ℕ) = map string_bytes f.names.items in
       let ended : o.trusted ≡ f.course.trusted = ap (λ (x : Outcome). x.trusted) (closed.outcome closed.files closed.are_seen) in
       record {
-        metadata = d.metadata;
-        in_metadata = d.in_metadata;
         names = names;
         listed = d.names;
         paths = paths;
         outcome = o;
         are_wanted = subst (λ (t : State). AreWanted wanted t.root.reading.consistent names paths) (sym ended) d.are_wanted;
-        of_workflow = outcome_on n.targets.lists m.targets.lists n.targets.holds m.targets.holds r (file_in d.metadata) o same.targets.lists same.targets.holds
-            (closed_outcome {E = ⊤} n.targets.lists n.targets.holds r (file_in d.metadata) f.course (Ok o) d.of_request closed);
+        of_workflow = closed_outcome m n.targets (start_of s paths) f.course o d.of_request same.targets.lists same.targets.holds closed;
         kept = subst (λ (t : State). keeps (state_text t) ≡ true) state kept;
         then = then;
       }
@@ -102,12 +113,12 @@ module _ (m n : Mirror) (s : program.Start) (wanted : Wanted) (f : Followed) (o 
     -- what holds whatever the targets are holds of those of the searches
     as_found : (P : List ℕ → (List ℕ → Bool) → (List ℕ → Bool) → Lookup → List (List ℕ) → List Verdict → Type 0)
         → ((found : Lookup) → AreCopiesOf took found (map string_bytes p) given → P place by_folder by_system found (map string_bytes p) verdicts)
-        → P into later_folder later_system (target_for request (file_in d.metadata)) (paths_of wanted f) o.verdicts
+        → P into later_folder later_system (target_for request (files_read d.of_request.seen)) (paths_of wanted f) o.verdicts
     as_found P copied =
         let all = paths_of wanted f in
         let same_paths : map string_bytes p ≡ all = ap (map string_bytes) paths in
-        let found = target_for request (file_in d.metadata) in
-        let are = copies_of took copies request (file_in d.metadata) f.course d.of_request for_course in
+        let found = target_for request (files_read d.of_request.seen) in
+        let are = copies_of took copies request (files_read d.of_request.seen) f.course d.of_request.on_read for_course in
         subst (λ b. P into b later_system found all o.verdicts) (sym same_folder)
         (subst (λ k. P into by_folder k found all o.verdicts) (sym same_blocks)
         (subst (λ z. P z by_folder by_system found all o.verdicts) same_place
@@ -116,7 +127,7 @@ module _ (m n : Mirror) (s : program.Start) (wanted : Wanted) (f : Followed) (o 
         (copied found (subst (λ l. AreCopiesOf took found l given) (sym same_paths) (subst (AreCopiesOf took found all) (sym copies_are) are)))))))
 
     all_stored : (stored : List Bool) → AreInstalled took given place s.state.now (is_blocked by_folder by_system place) (map string_bytes p) verdicts mid after stored
-        → AreStored into s.state.now (is_blocked later_folder later_system into) (target_for request (file_in d.metadata)) (paths_of wanted f) o.verdicts stored before after
+        → AreStored into s.state.now (is_blocked later_folder later_system into) (target_for request (files_read d.of_request.seen)) (paths_of wanted f) o.verdicts stored before after
     all_stored stored copied = stored_since into s.state.now _ _ (paths_of wanted f) o.verdicts stored before mid after only
         (as_found (λ z b k found l v. AreStored z s.state.now (is_blocked b k z) found l v stored mid after) copied)
 

@@ -1,27 +1,37 @@
--- The files that are listed, by the names of a folder.
-use Rattle.std.proofs.Common.{◌≡◌, ℕ, List, Option, Some, None, is_some, option_map, String, Vec, Global, refl, ap, ◌∙◌}
+-- The files that are absent, by the names of folders.
+use Rattle.std.proofs.Common.{◌≡◌, ℕ, List, Bool, true, Option, Some, None, is_some, option_map, Vec, Global, refl, sym, ap, ◌∙◌}
 use Rattle.std.specs.Bool.{⊤}
+use Rattle.std.specs.Prelude.{String}
 use Rattle.std.specs.BTreeMap.{BTreeMap, get_by_text}
 use Rattle.std.specs.List.{list_any}
 use Rattle.std.specs.Str.{bytes_eq}
 use Rattle.std.proofs.Math.Path.{fun_ext}
-use Rattle.examine.specs.Checks.{file_in}
-use Rattle.cycle.specs.Workflow.{Course}
+use Rattle.cycle.specs.Workflow.{Course, Files, course}
+use Rattle.folder.specs.Seen.{is_named}
+use Rattle.lookups.specs.Lookups.{IsPart, IsSettledOn, files_read}
+use Rattle.lookups.specs.declared.metadata.Metadata.{Metadata}
+use Rattle.lookups.proofs.Settling.{course_on, read_names}
 use Rattle.needs.specs.Needs.{is_in, needs}
 use Rattle.needs.specs.declared.need.Need.{Need}
-use Rattle.update.specs.Fetching.{needs_on}
-use Rattle.update.specs.Runs.{Request, course}
+use Rattle.update.specs.Fetching.{AreAbsentOn}
+use Rattle.update.specs.Runs.{Request}
+use Rattle.update.specs.World.{Mirror}
 
-some-map : {A B : Type 0} (h : A → B) (o : Option A) → is_some o ≡ is_some (option_map h o)
-some-map h None = refl
-some-map h (Some x) = refl
-
--- the needs of a course, with a map of the names
-pub all_needs : (r : Request) (c : Course) (m : BTreeMap (String Global) (Vec ℕ Global)) (t : BTreeMap (String Global) ⊤) (names : List (List ℕ)) (all : List Need)
-    → all ≡ needs r.trusted.root.reading c (is_in m) (is_in t) → c ≡ course r (file_in m) → ((name : List ℕ) → is_in t name ≡ list_any (λ other. bytes_eq other name) names)
-    → all ≡ needs_on r (file_in m) names
-all_needs r c m t names all is same named =
-    is
-    ∙ ap (λ c. needs r.trusted.root.reading c (is_in m) (is_in t)) same
-    ∙ ap (λ there. needs r.trusted.root.reading (course r (file_in m)) there (is_in t)) (fun_ext (λ name. some-map (λ v. v.items) (get_by_text m name)))
-    ∙ ap (needs r.trusted.root.reading (course r (file_in m)) (λ name. is_some (file_in m name))) (fun_ext named)
+-- the needs of a course, with a map of the names of the target files
+pub absent_on : (m : Mirror) (r : Request) (o : Metadata) (c : Course) (t : BTreeMap (String Global) ⊤) (names : List (List ℕ)) (all : List Need)
+    → IsPart m.metadata o → IsSettledOn r o c → m.targets.lists names ≡ true → ((name : List ℕ) → is_in t name ≡ list_any (λ other. bytes_eq other name) names)
+    → all ≡ needs r.trusted.root.reading c (is_in o.repo.metadata) (is_in t) → AreAbsentOn m r all
+absent_on m r o c t names all part settled listed named is =
+    let on = course_on m.metadata o part r c settled in
+    let here : Course = course r (files_read on.seen) in
+    let there : List ℕ → Bool = λ name. is_some (files_read on.seen name) in
+    record {
+      names = names;
+      listed = listed;
+      course = c;
+      of_request = on;
+      needed = is
+          ∙ ap (λ (k : Course). needs r.trusted.root.reading k (is_in o.repo.metadata) (is_in t)) on.on_read
+          ∙ ap (λ n. needs r.trusted.root.reading here n (is_in t)) (read_names m.metadata o part)
+          ∙ ap (λ n. needs r.trusted.root.reading here there n) (fun_ext named);
+    }

@@ -1,9 +1,10 @@
 -- The files that have to be fetched next, printed.
 use Rattle.std.specs.Io.KnownBytes.{Appends}
 use Rattle.std.specs.Prelude.{◌≡◌, ◌⊎◌, ℕ, List, [], ◌∷◌, true, Option, is_some, option_map}
-use Rattle.examine.specs.Checks.{file_in}
+use Rattle.cycle.specs.Workflow.{Course}
 use Rattle.failure.specs.declared.failure.Failure.{Failure}
 use Rattle.folder.specs.Seen.{is_named}
+use Rattle.lookups.specs.Lookups.{IsCourseOn, files_read}
 use Rattle.needs.specs.Needs.{needs}
 use Rattle.needs.specs.declared.need.Need.{Need}
 use Rattle.needs.specs.declared.need.Place.{Place}
@@ -11,7 +12,7 @@ use Rattle.report.specs.Fetching.{needs_text}
 use Rattle.rolechain.specs.Advance as chain
 use Rattle.update.specs.Causes.{IsCauseFrom, IsCauseToBegin}
 use Rattle.update.specs.Moments.{IsMomentOf, Moment}
-use Rattle.update.specs.Runs.{AreMetadata, Files, IsRead, Loaded, Request, course, request}
+use Rattle.update.specs.Runs.{Files, IsRead, Request, course, request}
 pub use Rattle.update.specs.World.{Mirror, World}
 use Rattle.update.specs.declared.fetching.Wants.{Wants}
 
@@ -42,20 +43,25 @@ needs_on r metadata names =
     needs r.trusted.root.reading (course r metadata) (λ name. is_some (metadata name))
     (is_named names)
 
--- their lines were printed, by the folders of a repository
-pub record IsListedOn (mirror : Mirror) (r : Request) (only : Option Place)
-    (old new : Option (List ℕ)) : Type 0 where
-  pub metadata : Loaded
-  pub in_metadata : AreMetadata mirror.metadata.lists mirror.metadata.holds metadata
+-- they are these, by what was read of the metadata folder of a repository
+pub record AreAbsentOn (mirror : Mirror) (r : Request) (all : List Need) : Type 0 where
   pub names : List (List ℕ)
   pub listed : mirror.targets.lists names ≡ true
-  pub lines : Appends old new (needs_text only (needs_on r (file_in metadata) names))
+  pub course : Course
+  pub of_request : IsCourseOn mirror.metadata r course
+  pub needed : all ≡ needs_on r (files_read of_request.seen) names
 
 -- the same on the only repository
-abbrev pub IsListed : List Mirror → Request → Option Place → Option (List ℕ) → Option (List ℕ)
-    → Type 0
-IsListed (m ∷ []) r only old new = IsListedOn m r only old new
-IsListed _ r only old new = ⊥
+abbrev pub AreAbsentIn : List Mirror → Request → List Need → Type 0
+AreAbsentIn (m ∷ []) r all = AreAbsentOn m r all
+AreAbsentIn _ r all = ⊥
+
+-- the lines of the files that are absent were printed
+pub record IsListed (mirrors : List Mirror) (r : Request) (only : Option Place)
+    (old new : Option (List ℕ)) : Type 0 where
+  pub all : List Need
+  pub are_absent : AreAbsentIn mirrors r all
+  pub lines : Appends old new (needs_text only all)
 
 -- the same of what the words request, with a state and a moment that were read
 abbrev pub IsNextFrom : Wants → chain.State → Moment → World → World → Type 0

@@ -1,9 +1,12 @@
--- What was loaded of a repository, for the contracts of private functions.
+-- What was seen of a repository, for the contracts of private functions.
 use Rattle.std.specs.Prelude.{◌≡◌, ℕ, List, String, true, map, string_bytes, [], ◌∷◌}
 use Rattle.std.specs.declared.alloc.Global.{Global}
 use Rattle.examine.specs.Checks.{file_in}
+use Rattle.lookups.specs.Lookups.{Grows, IsCourseOn, IsPart}
+use Rattle.lookups.specs.declared.metadata.Metadata.{Metadata}
+use Rattle.folder.specs.Folders.{Giving}
 use Rattle.rolechain.specs.Advance.{advanced}
-use Rattle.update.specs.Runs.{AreMetadata, AreWanted, Loaded, course, start_of}
+use Rattle.update.specs.Runs.{AreWanted, start_of}
 use Rattle.update.specs.World.{Mirror}
 use Rattle.update.specs.declared.following.Followed.{Followed}
 use Rattle.update.specs.declared.start.Opened.{Opened}
@@ -11,9 +14,9 @@ use Rattle.update.specs.declared.start.Start as program
 use Rattle.update.specs.declared.start.Wanted.{Wanted}
 use Rattle.update.specs.declared.start.Wanted.TheVariants.{Paths, Every}
 
--- metadata files that the folder may give, and the names of a list that the other one may give
+-- a list of the metadata folder, with what was read of it, and one of the other folder
 pub record IsOpened (mirror : Mirror) (o : Opened) : Type 0 where
-  pub metadata : AreMetadata mirror.metadata.lists mirror.metadata.holds o.repo.metadata
+  pub metadata : IsPart mirror.metadata o.metadata
   pub names : mirror.targets.lists (map string_bytes o.names.items) ≡ true
 
 -- the paths that are given, or those that were listed
@@ -22,10 +25,10 @@ paths_from (Paths given) listed = given.items
 paths_from Every listed = listed
 
 -- the paths of what was listed, if every file is wanted; the names are consistent if the root says
--- so that is trusted once the metadata was examined
-abbrev pub AreListed : program.Start → Wanted → Opened → List (String Global) → Type 0
-AreListed s wanted o listed =
-    let root = (advanced (file_in o.repo.metadata) s.moment s.trusted).state.root in
+-- so that is trusted once the metadata was examined, whatever more is read of it
+abbrev pub AreListed : Giving → program.Start → Wanted → Opened → List (String Global) → Type 0
+AreListed g s wanted o listed = (later : Metadata) → IsPart g later → Grows o.metadata later
+    → let root = (advanced (file_in later.repo.metadata) s.moment s.trusted).state.root in
     AreWanted wanted root.reading.consistent (map string_bytes o.names.items)
     (map string_bytes (paths_from wanted listed))
 
@@ -33,16 +36,14 @@ AreListed s wanted o listed =
 abbrev pub paths_of : Wanted → Followed → List (List ℕ)
 paths_of wanted f = map string_bytes (paths_from wanted f.listed.items)
 
--- the course of the wanted paths in metadata files that the folder may give, and the names of a
--- list that the other one may give
+-- the course of the wanted paths on the metadata folder, and the names of a list that the other one
+-- may give
 pub record IsFollowedOn (mirror : Mirror) (s : program.Start) (wanted : Wanted) (f : Followed)
     : Type 0 where
-  pub metadata : Loaded
-  pub in_metadata : AreMetadata mirror.metadata.lists mirror.metadata.holds metadata
   pub names : mirror.targets.lists (map string_bytes f.names.items) ≡ true
   pub are_wanted : AreWanted wanted f.course.trusted.root.reading.consistent
       (map string_bytes f.names.items) (paths_of wanted f)
-  pub of_request : f.course ≡ course (start_of s (paths_of wanted f)) (file_in metadata)
+  pub of_request : IsCourseOn mirror.metadata (start_of s (paths_of wanted f)) f.course
 
 -- the same on the only repository
 abbrev pub IsFollowed : List Mirror → program.Start → Wanted → Followed → Type 0

@@ -1,16 +1,13 @@
 -- A verification: what it begins with, its outcome, and what it stores and prints.
-use Rattle.std.specs.BTreeMap.{BTreeMap}
 use Rattle.std.specs.Bool.{⊤}
 use Rattle.std.specs.Io.KnownBytes.{Appends}
 use Rattle.std.specs.Prelude.{codes, IfSome, ◌≡◌, ◌⊎◌, ℕ, List, Bool, true, Option, String, Vec, Ok, map, option_map, string_bytes, [], ◌∷◌}
 use Rattle.std.specs.declared.alloc.Global.{Global}
-use Rattle.examine.specs.Checks.{file_in}
 use Rattle.rolechain.specs.Text.{state_of}
 use Rattle.rolechain.specs.Kept.{kept_of, kept_text}
 pub use Rattle.rolechain.specs.Advance.{State}
 pub use Rattle.cycle.specs.Workflow.{Files, Outcome, Repository, Request, course, request, workflow}
-use Rattle.cycle.specs.Looked.{AreAlike, most_looked_at}
-use Rattle.folder.specs.Starts.{AreStarts}
+use Rattle.lookups.specs.Lookups.{IsLookedUp, files_read}
 use Rattle.measured.specs.Closed.{is_found}
 use Rattle.paths.specs.Names.{ArePathsOf}
 use Rattle.report.specs.Lines.{outcome_status, outcome_text}
@@ -72,37 +69,29 @@ AreWanted Every consistent names paths = ArePathsOf consistent names paths
 
 -- # Its outcome.
 
--- what is read from a folder
-abbrev pub Loaded : Type 0
-Loaded = BTreeMap (String Global) (Vec ℕ Global)
-
--- the metadata files of a folder, as the workflow looks at them: those whose names end in `.json`,
--- each as its first bytes
-abbrev pub AreMetadata : (List (List ℕ) → Bool) → (List ℕ → List ℕ → Bool) → Loaded → Type 0
-AreMetadata lists holds files = AreStarts (codes ".json") most_looked_at lists holds files
-
 -- the name is one of a target that a search found
 abbrev pub is_found_from : Request → Files → List ℕ → Bool
 is_found_from s metadata name =
     let c = course s metadata in
     is_found c.trusted.root.reading.consistent c.searches name
 
--- The outcome on all metadata files of which the same is looked at, and on all target files that
--- are seen so. There are such target files, and none was read but of targets that searches found.
-pub record IsOutcomeIn (start : Request) (metadata : Files) (targets : Seen) (o : Outcome)
-    : Type 0 where
-  pub outcome : (repo : Repository) → AreAlike repo.metadata metadata
+-- The outcome on all files that are seen so, whatever else they have. No target file was read but
+-- of targets that searches found. There are such files.
+pub record IsOutcomeIn (start : Request) (metadata targets : Seen) (o : Outcome) : Type 0 where
+  pub outcome : (repo : Repository) → AreSeen metadata repo.metadata
       → AreSeen targets repo.targets → o ≡ workflow start repo
   pub only_found : (name : List ℕ) → IfSome (targets.read name)
-      (λ _. is_found_from start metadata name ≡ true)
-  pub files : Files
-  pub are_seen : AreSeen targets files
+      (λ _. is_found_from start (files_read metadata) name ≡ true)
+  pub repo : Repository
+  pub are_metadata : AreSeen metadata repo.metadata
+  pub are_targets : AreSeen targets repo.targets
 
--- what was seen of the target files, and the outcome
-pub record IsOutcomeOn (lists : List (List ℕ) → Bool) (holds : List ℕ → List ℕ → Bool)
-    (start : Request) (metadata : Files) (o : Outcome) : Type 0 where
+-- what was seen of the folders of a repository, and the outcome
+pub record IsOutcomeOn (mirror : Mirror) (start : Request) (o : Outcome) : Type 0 where
+  pub metadata : Seen
+  pub looked_up : IsLookedUp mirror.metadata metadata
   pub targets : Seen
-  pub may_be_seen : MayBeSeen lists holds targets
+  pub may_be_seen : MayBeSeen mirror.targets.lists mirror.targets.holds targets
   pub of_files : IsOutcomeIn start metadata targets o
 
 -- # What it stores and prints.
@@ -119,17 +108,14 @@ has_consistent_names o = o.trusted.root.reading.consistent
 -- stored, and more holds of the request, of the metadata and of it.
 pub record IsStoredOn (mirror : Mirror) (s : program.Start) (wanted : Wanted)
     (keeps : List ℕ → Bool) (follows : Request → Files → Outcome → Type 0) : Type 0 where
-  pub metadata : Loaded
-  pub in_metadata : AreMetadata mirror.metadata.lists mirror.metadata.holds metadata
   pub names : List (List ℕ)
   pub listed : mirror.targets.lists names ≡ true
   pub paths : List (List ℕ)
   pub outcome : Outcome
   pub are_wanted : AreWanted wanted (has_consistent_names outcome) names paths
-  pub of_workflow : IsOutcomeOn mirror.targets.lists mirror.targets.holds (start_of s paths)
-      (file_in metadata) outcome
+  pub of_workflow : IsOutcomeOn mirror (start_of s paths) outcome
   pub kept : keeps (state_text outcome.trusted) ≡ true
-  pub then : follows (start_of s paths) (file_in metadata) outcome
+  pub then : follows (start_of s paths) (files_read of_workflow.metadata) outcome
 
 -- the same on the only repository
 abbrev pub IsStored : List Mirror → program.Start → Wanted → (List ℕ → Bool)

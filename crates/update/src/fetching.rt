@@ -1,9 +1,10 @@
 //! The files that have to be fetched next.
 
-ghost use Rattle.std.specs.Prelude.{◌≡◌, ◌≢◌, IfErr, IfOk, OnOk, map, string_bytes};
-ghost use Rattle.examine.specs.Checks.{file_in};
-ghost use Rattle.update.specs.Causes.{IsCauseFrom};
+ghost use Rattle.std.specs.Prelude.{◌≡◌, ◌≢◌, ◌≤◌, IfErr, IfOk, OnOk};
+ghost use Rattle.update.specs.Causes.{IsCauseFrom, IsCauseToRead};
 ghost use Rattle.update.specs.Fetching as spec;
+ghost use Rattle.lookups.specs.Lookups.{request_of};
+ghost use Rattle.update.specs.Fetching.{AreAbsentIn};
 ghost use Rattle.update.specs.Moments.{IsMomentOf};
 ghost use Rattle.update.specs.Runs.{IsRead};
 ghost use Rattle.update.specs.World.{IsUntouched};
@@ -12,14 +13,16 @@ use crate::clock::moment;
 use crate::host::{Folders, HasMirrors, HasWorld, Host};
 use crate::start::Opened;
 use crate::state::read_state;
-use cjson::NoMemory;
-use cycle::{Cycle, Limits, Moment, Round, Trusted, follow_alone};
+use cycle::{Gate, Keeper, Limits, Moment, Threading, Trusted, Watch};
 use failure::Failure;
 use folder::Folder;
+use lookups::Asked;
 use needs::{Need, Place, names_of, needs};
 use report::tell_needs;
 use std::alloc::Global;
 use std::io::Write;
+use std::sync::Wait;
+use std::thread::Threads;
 use system::System;
 
 /// What the arguments name: the path of the file with the trusted state, the text of the moment,
@@ -42,7 +45,12 @@ impl<S: System, M: Folder, T: Folder, W: Write> Host<S, Folders<M, T>, W> {
     ///
     /// Fails with `Now` or `Clock`, with `State`, with `Folder`, and if out of memory or by an
     /// output error.
-    pub fn next(&mut self, alloc: Global, wants: &Wants<'_>) -> Result<u8, Failure>
+    pub fn next<R: Threads + Wait + Sync, N: Gate + Watch + Sync>(
+        &mut self,
+        threading: &Threading<'_, R, N>,
+        alloc: Global,
+        wants: &Wants<'_>,
+    ) -> Result<u8, Failure>
         ensures known { IfOk result (λ status. status ≡ 0) }
         ensures listed { OnOk result (spec.IsNext wants.now
             (⟦<Self as HasWorld>⟧.world self.old) (⟦<Self as HasWorld>⟧.world self.new)) }
@@ -53,20 +61,20 @@ impl<S: System, M: Folder, T: Folder, W: Write> Host<S, Folders<M, T>, W> {
         ensures cause { IfErr result (spec.IsCauseOfNext wants.now
             (⟦<Self as HasWorld>⟧.world self.old) (⟦<Self as HasWorld>⟧.world self.new)) }
     {
-        let (trusted, moment) = self.start(alloc, wants)?;
-        self.list(alloc, wants, &trusted, moment)?;
+        let started = self.start(alloc, wants)?;
+        self.list(threading, alloc, wants, started)?;
         Ok(0)
     }
 
     /// Lists the files from that state and moment.
-    fn list(
+    fn list<R: Threads + Wait + Sync, N: Gate + Watch + Sync>(
         &mut self,
+        threading: &Threading<'_, R, N>,
         alloc: Global,
         wants: &Wants<'_>,
-        trusted: &Trusted,
-        moment: Moment,
+        started: (Trusted, Moment),
     ) -> Result<(), Failure>
-        ensures listed { OnOk result (spec.IsNextFrom wants.now trusted.now moment
+        ensures listed { OnOk result (spec.IsNextFrom wants.now started.0 started.1
             (⟦<Self as HasWorld>⟧.world self.old) (⟦<Self as HasWorld>⟧.world self.new)) }
         ensures untouched { (⟦<Self as HasWorld>⟧.world self.new).keeps
             ≡ (⟦<Self as HasWorld>⟧.world self.old).keeps }
@@ -75,8 +83,16 @@ impl<S: System, M: Folder, T: Folder, W: Write> Host<S, Folders<M, T>, W> {
         ensures cause { IfErr result (IsCauseFrom (⟦<Self as HasWorld>⟧.world self.old).mirrors
             (⟦<Self as HasWorld>⟧.world self.new).mirrors) }
     {
-        let opened = self.folders.open(alloc)?;
-        let all = absent(alloc, wants, trusted, moment, opened)?;
+        let (trusted, moment) = started;
+        let mut keeper = Keeper::without_cache(alloc, trusted);
+        let asked = Asked {
+            alloc,
+            moment,
+            wanted: wants.wanted.as_slice(),
+            limits: wants.limits,
+            workers: 0,
+        };
+        let all = self.folders.absent(threading, &mut keeper, &asked)?;
         tell_needs(alloc, all.as_slice(), wants.only, &mut self.out)
     }
 }
@@ -97,31 +113,26 @@ impl<S: System, F: HasMirrors, W: Write> Host<S, F, W> {
     }
 }
 
-/// Returns the files that are absent, from the metadata that was loaded and the names of the target
-/// files.
-fn absent<'a>(
-    alloc: Global,
-    wants: &'a Wants<'_>,
-    trusted: &'a Trusted,
-    moment: Moment,
-    opened: Opened,
-) -> Result<Vec<Need>, NoMemory>
-    ensures needs { IfOk result (λ all. all.items ≡ spec.needs_on
-        (spec.request_of wants.now trusted.now moment) (file_in opened.repo.metadata)
-        (map string_bytes opened.names.items)) }
-{
-    let Opened { repo, names } = opened;
-    let round = Round {
-        repo: &repo,
-        now: moment,
-        wanted: wants.wanted.as_slice(),
-    };
-    let course = follow_alone(&Cycle {
-        alloc,
-        trusted,
-        round,
-        limits: wants.limits,
-    })?;
-    let targets = names_of(alloc, names)?;
-    Ok(needs(alloc, trusted, &course, &repo.metadata, &targets)?)
+impl<M: Folder, T: Folder> Folders<M, T> {
+    /// Returns the files that the course looks up and finds absent.
+    fn absent<R: Threads + Wait + Sync, N: Gate + Watch + Sync>(
+        &mut self,
+        threading: &Threading<'_, R, N>,
+        keeper: &mut Keeper,
+        asked: &Asked<'_>,
+    ) -> Result<Vec<Need>, Failure>
+        requires workers { asked.now.workers ≤ 64 }
+        ensures needs { IfOk result (λ all. AreAbsentIn (⟦<Self as HasMirrors>⟧.mirrors self.old)
+            (request_of keeper.old asked.now) all.items) }
+        ensures cause { IfErr result (IsCauseToRead (⟦<Self as HasMirrors>⟧.mirrors self.old)
+            (⟦<Self as HasMirrors>⟧.mirrors self.new)) }
+    {
+        let mut opened = self.open(asked.alloc)?;
+        let folder = &mut self.metadata;
+        let course = (opened.metadata).follow(folder, threading, keeper, asked)?;
+        let Opened { metadata, names } = opened;
+        let targets = names_of(asked.alloc, names)?;
+        let files = &metadata.repo.metadata;
+        Ok(needs(asked.alloc, keeper.trusted(), &course, files, &targets)?)
+    }
 }

@@ -1,17 +1,20 @@
 //! The course of a verification, before any target file is read.
 
-ghost use Rattle.std.specs.Prelude.{IfErr, IfOk};
+ghost use Rattle.std.specs.Prelude.{◌≡◌, ◌≤◌, IfErr, IfOk, OnOk};
 ghost use Rattle.std.specs.List.{AllZip};
+ghost use Rattle.folder.specs.Folders.{IsSameFolder};
+ghost use Rattle.cycle.specs.Workflow.{State, request};
+ghost use Rattle.lookups.specs.Lookups.{IsPart, request_of};
 ghost use Rattle.update.specs.Causes.{IsCauseToRead};
 ghost use Rattle.update.specs.Opened.{AreListed, IsFollowed};
-ghost use Rattle.update.specs.Same.{IsSame};
+ghost use Rattle.update.specs.Same.{IsCauseToEnd, IsSame};
 
 use crate::host::{Folders, HasMirrors};
 use crate::start::{Opened, Start, Wanted};
-use cjson::NoMemory;
-use cycle::{Course, Cycle, Gate, Round, Threading, Watch, follow, has_consistent_names};
+use cycle::{Course, Gate, Keeper, Threading, Watch};
 use failure::Failure;
 use folder::Folder;
+use lookups::Asked;
 use paths::paths_of_names;
 use std::alloc::Global;
 use std::sync::Wait;
@@ -27,8 +30,8 @@ pub struct Followed {
 }
 
 impl<M: Folder, T: Folder> Folders<M, T> {
-    /// Loads the metadata files, lists the target files, and follows the course of the wanted
-    /// paths.
+    /// Lists both folders, and follows the course of the wanted paths, for which metadata files are
+    /// read when they are looked up.
     pub(crate) fn follow<'a, R: Threads + Wait + Sync, N: Gate + Watch + Sync>(
         &mut self,
         threading: &Threading<'_, R, N>,
@@ -42,20 +45,12 @@ impl<M: Folder, T: Folder> Folders<M, T> {
         ensures cause { IfErr result (IsCauseToRead (⟦<Self as HasMirrors>⟧.mirrors self.old)
             (⟦<Self as HasMirrors>⟧.mirrors self.new)) }
     {
-        let opened = self.open(start.alloc)?;
-        let listed = listed_paths(start, wanted, &opened)?;
-        let round = Round {
-            repo: &opened.repo,
-            now: start.moment,
-            wanted: wanted.paths(listed.as_slice()),
-        };
-        let cycle = Cycle {
-            alloc: start.alloc,
-            trusted: &start.trusted,
-            round,
-            limits: start.limits,
-        };
-        let course = follow(&cycle, threading, start.threads())?;
+        let mut opened = self.open(start.alloc)?;
+        let mut keeper = Keeper::without_cache(start.alloc, start.trusted.copy()?);
+        let folder = &mut self.metadata;
+        let listed = listed_paths(start, wanted, folder, threading, &mut keeper, &mut opened)?;
+        let asked = asked_of(start, wanted.paths(listed.as_slice()));
+        let course = (opened.metadata).follow(folder, threading, &mut keeper, &asked)?;
         let Opened { names, .. } = opened;
         Ok(Followed {
             course,
@@ -65,32 +60,49 @@ impl<M: Folder, T: Folder> Folders<M, T> {
     }
 }
 
+/// Returns what is asked for these paths.
+fn asked_of<'a>(start: &Start<'_>, wanted: &'a [String]) -> Asked<'a>
+    ensures request { (trusted : State) → request_of trusted result
+        ≡ request trusted start.now.moment wanted.now start.now.limits.roles }
+    ensures workers { result.workers ≤ 64 }
+{
+    Asked {
+        alloc: start.alloc,
+        moment: start.moment,
+        wanted,
+        limits: start.limits,
+        workers: start.threads(),
+    }
+}
+
 /// Returns the paths of the names that were listed, if each is wanted. The names are consistent if
-/// the root says so that is trusted once the metadata was examined.
-fn listed_paths(
+/// the root says so that a course without paths trusts.
+#[tactic(auto, using(folder::proofs::Sameness::sameness))]
+fn listed_paths<F: Folder, R: Threads + Wait + Sync, N: Gate + Watch + Sync>(
     start: &Start<'_>,
     wanted: &Wanted,
-    opened: &Opened,
-) -> Result<Vec<String>, NoMemory>
-    ensures paths { IfOk result
-        (λ listed. AreListed start.now wanted.now opened.now listed.items) }
+    folder: &mut F,
+    threading: &Threading<'_, R, N>,
+    keeper: &mut Keeper,
+    opened: &mut Opened,
+) -> Result<Vec<String>, Failure>
+    requires part { IsPart (F.gives folder.old) opened.old.metadata }
+    requires state { keeper.old ≡ start.now.trusted }
+    ensures part { OnOk result (IsPart (F.gives folder.old) opened.new.metadata) }
+    ensures names { opened.new.names ≡ opened.old.names }
+    ensures state { keeper.new ≡ keeper.old }
+    ensures paths { IfOk result (λ listed. AreListed (F.gives folder.old) start.now wanted.now
+        opened.new listed.items) }
+    ensures same { IsSameFolder (F.gives folder.old) (F.gives folder.new) }
+    ensures cause { IfErr result (IsCauseToEnd (F.gives folder.old) (F.gives folder.new)) }
 {
     match wanted {
         Wanted::Paths(_) => Ok(Vec::new(start.alloc)),
         Wanted::Every => {
-            let round = Round {
-                repo: &opened.repo,
-                now: start.moment,
-                wanted: &[],
-            };
-            let cycle = Cycle {
-                alloc: start.alloc,
-                trusted: &start.trusted,
-                round,
-                limits: start.limits,
-            };
+            let asked = asked_of(start, &[]);
+            let course = (opened.metadata).follow(folder, threading, keeper, &asked)?;
+            let is_consistent = course.has_consistent_names();
             let names = opened.names.as_slice();
-            let is_consistent = has_consistent_names(&cycle)?;
             Ok(paths_of_names(start.alloc, names, is_consistent)?)
         }
     }

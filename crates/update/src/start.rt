@@ -6,7 +6,8 @@ ghost use Rattle.std.specs.List.{AllZip};
 ghost use Rattle.update.specs.Causes.{IsCauseToBegin, IsCauseToRead, IsNoState};
 ghost use Rattle.update.specs.Copies as spec;
 ghost use Rattle.update.specs.Opened.{paths_from};
-ghost use Rattle.update.specs.Runs.{AreMetadata, IsRead, IsStart, given_by, moment_text};
+ghost use Rattle.lookups.specs.Lookups.{IsPart};
+ghost use Rattle.update.specs.Runs.{IsRead, IsStart, given_by, moment_text};
 ghost use Rattle.update.specs.Same.{IsSame};
 
 use crate::clock::moment;
@@ -14,16 +15,12 @@ use crate::host::{Folders, HasMirrors};
 use crate::state::{lock_state, read_state};
 use cjson::number::Within;
 use copies::are_below;
-use cycle::{Limits, Moment, Repo, Trusted};
+use cycle::{Limits, Moment, Trusted};
 use failure::Failure;
-use folder::{Folder, load_starts};
+use folder::Folder;
+use lookups::Metadata;
 use std::alloc::Global;
-use std::collections::BTreeMap;
 use system::System;
-
-/// Maximum number of bytes that are read of a metadata file: the greatest limit of any kind, and
-/// one byte that shows that a file is over it.
-const MOST_LOOKED_AT: u64 = 5_000_001;
 
 /// A number of threads that decide checks in advance.
 pub type Workers = Within<0, 64>;
@@ -162,19 +159,17 @@ fn first_state<S: System>(
     }
 }
 
-/// The metadata that was loaded of a repository, and the names of its target files.
+/// What was seen of a repository: the metadata folder, and the names of the target files.
 #[derive(Drop)]
 pub struct Opened {
-    pub repo: Repo,
+    pub metadata: Metadata,
     pub names: Vec<String>,
 }
 
 impl<M: Folder, T: Folder> Folders<M, T> {
-    /// Loads the metadata files, of each the bytes that the workflow looks at, and lists the target
-    /// files.
+    /// Lists both folders, and reads no file.
     pub fn open(&mut self, alloc: Global) -> Result<Opened, Failure>
-        ensures metadata { IfOk result (λ o. AreMetadata (M.gives self.old.metadata).lists
-            (M.gives self.old.metadata).holds o.repo.metadata) }
+        ensures metadata { IfOk result (λ o. IsPart (M.gives self.old.metadata) o.metadata) }
         ensures names { IfOk result (λ o. (T.gives self.old.targets).lists
             (map string_bytes o.names.items) ≡ true) }
         ensures same { AllZip IsSame (⟦<Self as HasMirrors>⟧.mirrors self.old)
@@ -182,10 +177,8 @@ impl<M: Folder, T: Folder> Folders<M, T> {
         ensures cause { IfErr result (IsCauseToRead (⟦<Self as HasMirrors>⟧.mirrors self.old)
             (⟦<Self as HasMirrors>⟧.mirrors self.new)) }
     {
-        let metadata = load_starts(alloc, &mut self.metadata, ".json", MOST_LOOKED_AT)?;
+        let metadata = Metadata::list(alloc, &mut self.metadata)?;
         let names = self.targets.names(alloc)?;
-        let targets = BTreeMap::new(alloc);
-        let repo = Repo { metadata, targets };
-        Ok(Opened { repo, names })
+        Ok(Opened { metadata, names })
     }
 }

@@ -21,6 +21,16 @@ A file of the folder of metadata.
   [1]
   $ unlock metadata/snapshot.json
 
+Another file there isn't opened: the workflow doesn't look it up.
+  $ put metadata/other.json
+  > {}
+  $ lock metadata/other.json
+  $ verify old new abc.txt
+  root 1
+  end ready
+  ok "abc.txt" 3 "targets"
+  $ remove new
+
 Of the folder of targets only the files are opened that a path leads to, once the metadata is good.
   $ put targets/other
   > other

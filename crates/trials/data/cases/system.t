@@ -22,8 +22,9 @@ A clock past the year 9999, or one that can't be read, is a failure where no tex
   ! tufcheck: now
   [3]
 
-Folders that fail at each of their calls: nothing is stored, and nothing printed. The folder of metadata is listed and its
-four files are read. The folder of targets is listed, and the two files that the paths lead to are read, but not the third.
+Folders that fail at each of their calls: nothing is stored, and nothing printed. The folder of metadata is listed, and three
+of its four files are read, not the root that is trusted. The folder of targets is listed, and the two files that the paths
+lead to are read, but not the third.
   $ make
   > @one
   > target targets a 61 sha256
@@ -50,27 +51,22 @@ four files are read. The folder of targets is listed, and the two files that the
   [4]
   $ has new
   [1]
+  $ failing 4 0 new a b
+  ! tufcheck: folder
+  [4]
+  $ has new
+  [1]
+  $ failing 4 1 new a b
+  ! tufcheck: folder
+  [4]
+  $ has new
+  [1]
+  $ failing 4 2 new a b
+  ! tufcheck: folder
+  [4]
+  $ has new
+  [1]
   $ failing 4 3 new a b
-  ! tufcheck: folder
-  [4]
-  $ has new
-  [1]
-  $ failing 5 0 new a b
-  ! tufcheck: folder
-  [4]
-  $ has new
-  [1]
-  $ failing 5 1 new a b
-  ! tufcheck: folder
-  [4]
-  $ has new
-  [1]
-  $ failing 5 2 new a b
-  ! tufcheck: folder
-  [4]
-  $ has new
-  [1]
-  $ failing 5 3 new a b
   root 1
   end ready
   ok "a" 1 "targets"
@@ -79,12 +75,12 @@ four files are read. The folder of targets is listed, and the two files that the
   $ remove new
 
 A file that is wanted twice is read once.
-  $ failing 5 1 new b b
+  $ failing 4 1 new b b
   ! tufcheck: folder
   [4]
   $ has new
   [1]
-  $ failing 5 2 new b b
+  $ failing 4 2 new b b
   root 1
   end ready
   ok "b" 2 "targets"
@@ -93,27 +89,27 @@ A file that is wanted twice is read once.
   $ remove new
 
 Nothing is read of the targets without a path, for one that isn't listed, or where the cycle stops before.
-  $ failing 5 0 new
+  $ failing 4 0 new
   ! tufcheck: folder
   [4]
   $ has new
   [1]
-  $ failing 5 1 new
+  $ failing 4 1 new
   root 1
   end ready
-  $ failing 5 1 new d
+  $ failing 4 1 new d
   root 1
   end ready
   no "d" NotFound
   [1]
   $ remove targets/b
-  $ failing 5 1 new b
+  $ failing 4 1 new b
   root 1
   end ready
   no "b" Missing
   [1]
   $ remove metadata/timestamp.json
-  $ failing 4 1 new a
+  $ failing 1 1 new a
   root 1
   end timestamp Missing
   no "a" NotSearched
@@ -127,12 +123,12 @@ Where snapshots are consistent, of two files of one target the first is read and
   > @top
   $ copy targets/3e23e8160039594a33894f6564e1b1348bbd7a0088d42c4acb73eeaed59c009d.b targets/5267768822ee624d48fce15ec5ca79cbd602cb7f4c2157a516556991f22ef8c7b5ef7b18d1ff41c59370efb0858651d44a936c11b7b144c48fe04df3c6a3e8da.b
   $ remove new
-  $ failing 5 1 new b
+  $ failing 4 1 new b
   ! tufcheck: folder
   [4]
   $ has new
   [1]
-  $ failing 5 2 new b
+  $ failing 4 2 new b
   root 1
   end ready
   ok "b" 1 "targets"

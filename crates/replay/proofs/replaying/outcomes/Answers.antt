@@ -1,10 +1,10 @@
-use Rattle.std.proofs.Common.{◌≡◌, ◌<◌, ◌∙◌, ◌++◌, ◌∷◌, [], inl, inr, ap, arith, length, map, refl, rules, string_bytes, subst, sym}
+use Rattle.std.proofs.Common.{◌≡◌, ◌<◌, ◌∙◌, ◌++◌, ◌∷◌, [], ap, arith, length, map, refl, rules, string_bytes, subst, sym}
 use Rattle.std.specs.Vec.Iter.{into_iter_items}
 use Rattle.replay.specs.Cycles.{AreOutcomesOn, first_of}
-use Rattle.replay.proofs.Causing.{carried, ending_one, same_failed}
-use Rattle.replay.proofs.Cycling.{counted_more, cycle_more, none_yet, state_more}
-use Rattle.replay.proofs.Places.{all_done, same_all, same_targets, none_left, same_then, set_failed, set_same, turn, turn_below}
-use Rattle.update.proofs.Storing.{outcome_on}
+use Rattle.replay.proofs.Causing.{carried, same_read}
+use Rattle.replay.proofs.Cycling.{counted_more, cycle_more, none_yet, outcome_before, state_more}
+use Rattle.replay.proofs.Places.{all_done, same_all, none_left, same_then, set_cause, set_same, turn, turn_below}
+use Rattle.lookups.proofs.Reading.{part_still}
 use Rattle.replay.proofs.replaying.outcomes.Goals as goal
 
 pub loop-one-init : goal.loop-one-init
@@ -22,18 +22,25 @@ loop-one-init g c = record {
   same = same_all _;
 }
 
-pub index_mut-requires : goal.index_mut-requires
-index_mut-requires g c =
+pub index_mut-here-requires : goal.index_mut-here-requires
+index_mut-here-requires g c =
     let was = c.loop-one.invariant in
     let at : c.len.result ≡ length c.loop-one.all.items = search rules in
     let below : c.len.result < length c.loop-one.folders.items = turn_below _ _ was.done was.todo c.loop-one.folders.items c.len.result _ _ c.in-Some.one was.all was.same was.opened c.in-Some.ensures.steps.0 (at ∙ was.count) in
     search rules
 
-pub outcome-requires-clause-listed : goal.outcome-requires-clause-listed
-outcome-requires-clause-listed g c κs within =
+pub outcome-requires-clause-metadata : goal.outcome-requires-clause-metadata
+outcome-requires-clause-metadata g c κs within =
     let was = c.loop-one.invariant in
     let at : c.len.result ≡ length c.loop-one.all.items = search rules in
-    let now = turn _ _ was.done was.todo c.loop-one.folders.items c.len.result _ _ c.in-Some.one was.all was.same was.opened c.in-Some.ensures.steps.0 (at ∙ was.count) c.index_mut.result.now c.index_mut.ensures.value in
+    let now = turn _ _ was.done was.todo c.loop-one.folders.items c.len.result _ _ c.in-Some.one was.all was.same was.opened c.in-Some.ensures.steps.0 (at ∙ was.count) c.index_mut-here.result.now c.index_mut-here.ensures.value in
+    part_still _ _ c.in-Some.one.metadata now.same.metadata now.opened.metadata
+
+pub outcome-requires-clause-names : goal.outcome-requires-clause-names
+outcome-requires-clause-names g c κs within =
+    let was = c.loop-one.invariant in
+    let at : c.len.result ≡ length c.loop-one.all.items = search rules in
+    let now = turn _ _ was.done was.todo c.loop-one.folders.items c.len.result _ _ c.in-Some.one was.all was.same was.opened c.in-Some.ensures.steps.0 (at ∙ was.count) c.index_mut-here.result.now c.index_mut-here.ensures.value in
     ap (λ l. l (map string_bytes c.in-Some.one.names.items)) now.same.targets.lists ∙ now.opened.names
 
 pub returns-in_err-outcome-clause-cause : goal.returns-in_err-outcome-clause-cause
@@ -42,15 +49,14 @@ returns-in_err-outcome-clause-cause g c =
     let at : c.len.result ≡ length c.loop-one.all.items = search rules in
     let below : c.len.result < length c.loop-one.folders.items = turn_below _ _ was.done was.todo c.loop-one.folders.items c.len.result _ _ c.in-Some.one was.all was.same was.opened c.in-Some.ensures.steps.0 (at ∙ was.count) in
     carried _ c.from_residual.result c.in_err-outcome.field-0.0 (search rules)
-    (ending_one _ _ (g.T.Folder.gives c.index_mut.result.now.targets) (g.T.Folder.gives c.outcome.new.targets) c.in_err-outcome.field-0.0
-    (λ failed. same_failed _ _ _ was.same (set_failed _ c.loop-one.folders.items c.len.result c.index_mut.result.now _ below c.index_mut.ensures.value (inl (inr failed))))
-    c.in_err-outcome.ensures.cause)
+    (same_read _ _ _ c.in_err-outcome.field-0.0 was.same
+    (set_cause _ c.loop-one.folders.items c.len.result c.index_mut-here.result.now _ c.in_err-outcome.field-0.0 below c.index_mut-here.ensures.value c.in_err-outcome.ensures.cause))
 
 pub loop-one-preserved : goal.loop-one-preserved
 loop-one-preserved g c =
     let was = c.loop-one.invariant in
     let at : c.len.result ≡ length c.loop-one.all.items = search rules in
-    let now = turn _ _ was.done was.todo c.loop-one.folders.items c.len.result _ _ c.in-Some.one was.all was.same was.opened c.in-Some.ensures.steps.0 (at ∙ was.count) c.index_mut.result.now c.index_mut.ensures.value in
+    let now = turn _ _ was.done was.todo c.loop-one.folders.items c.len.result _ _ c.in-Some.one was.all was.same was.opened c.in-Some.ensures.steps.0 (at ∙ was.count) c.index_mut-here.result.now c.index_mut-here.ensures.value in
     record {
       can = search rules;
       ends = search rules;
@@ -60,11 +66,10 @@ loop-one-preserved g c =
       all = now.is;
       count = ap length c.in_ok-push.ensures.items ∙ counted_more c.loop-one.all.items was.done c.in_ok-outcome.field-0 now.next was.count;
       opened = now.others;
-      outcomes = cycle_more (first_of c.args.begun.now.start.now c.args.begun.now.wanted.now) was.done now.next c.loop-one.all.items _ c.in_ok-outcome.field-0 c.loop-one.keeper c.in-Some.one.repo.metadata
-          was.outcomes was.state now.opened.metadata (outcome_on _ _ _ _ _ _ _ now.same.targets.lists now.same.targets.holds c.in_ok-outcome.ensures.outcome) c.in_ok-push.ensures.items;
+      outcomes = cycle_more (first_of c.args.begun.now.start.now c.args.begun.now.wanted.now) was.done now.next c.loop-one.all.items _ c.in_ok-outcome.field-0 c.loop-one.keeper
+          was.outcomes was.state (outcome_before _ _ _ _ now.same c.in_ok-outcome.ensures.outcome) c.in_ok-push.ensures.items;
       state = state_more (first_of c.args.begun.now.start.now c.args.begun.now.wanted.now) c.loop-one.all.items _ c.in_ok-outcome.field-0 _ c.in_ok-outcome.ensures.state c.in_ok-push.ensures.items;
-      same = same_then _ _ _ was.same (set_same _ c.loop-one.folders.items c.len.result c.index_mut.result.now _ c.index_mut.ensures.value
-          (same_targets _ _ refl c.in_ok-outcome.ensures.same));
+      same = same_then _ _ _ was.same (set_same _ c.loop-one.folders.items c.len.result c.index_mut-here.result.now _ c.index_mut-here.ensures.value c.in_ok-outcome.ensures.same);
     }
 
 pub returns-clause-outcomes : goal.returns-clause-outcomes

@@ -1,0 +1,2 @@
+pub use Rattle.cycle.specs.Workflow
+pub mod Lookups
