@@ -60,7 +60,8 @@ laid() {
         install -D -m 644 "$top/completions/tufcheck.fish" "$1/share/fish/vendor_completions.d/tufcheck.fish" &&
         install -D -m 644 -t "$doc" "$top"/docs/{USERS,SCRIPTS,OPERATING,SIGNING,FORMATS,BENCHMARKS}.md &&
         install -D -m 644 -t "$doc/examples" "$top"/examples/*.script &&
-        sed -i 's,](\.\./examples),](examples),' "$doc/SCRIPTS.md" &&
+        install -m 755 -t "$doc/examples" "$top"/examples/*.sh &&
+        sed -i 's,](\.\./examples,](examples,g; s,\[man page\](tufcheck\.1),man page,g' "$doc"/{SCRIPTS,USERS,OPERATING}.md &&
         sed -i -E 's,\[([A-Z]+)\]\((\.\./)?(ATTACKS|DECISIONS|PROOFS|SECURITY)\.md\),\1,g' "$doc"/{BENCHMARKS,FORMATS}.md &&
         cat "$top/dist/notices" "$top/LICENSE" > "$doc/copyright" &&
         mkdir -p "$1/share/man/man1" &&
