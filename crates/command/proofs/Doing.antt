@@ -15,7 +15,7 @@ use Rattle.update.specs.declared.fetching.Wants.{Wants}
 use Rattle.replay.specs.declared.replaying.Cycles.{Cycles}
 use Rattle.update.specs.declared.start.Terms.{Terms}
 use Rattle.command.specs.declared.subcommand.FolderPaths.{FolderPaths}
-use Rattle.command.specs.Done.{AreAt, IsFirst, IsNextOf, IsReplayedOf, IsVerifiedIntoOf, IsVerifiedOf, Held, IsCauseOf, OfHeld, system_of, system_with}
+use Rattle.command.specs.Done.{AreAt, IsFirst, IsNextOf, IsReplayedOf, IsVerifiedIntoOf, IsVerifiedOf, Held, IsCauseOf, OfHeld, site_at, system_of, system_with}
 
 -- ---- what is held by a run on the files of the system
 
@@ -46,7 +46,7 @@ verified_of (Ok status) terms folders h k m ns old new at is = record { before =
 verified_of (Err f) terms folders h k m ns old new at is = tt
 
 pub verified_into_of : (r : Result ℕ Failure) (terms : Terms) (folders : FolderPaths) (into : List ℕ) (h k : Held) (m : Mirror) (ns : List Mirror) (old new : Option (List ℕ)) → AreAt folders m
-    → IfOk r (IsVerifiedInto terms into (λ _. true) (system_of h (m ∷ []) old) (system_of k ns new)) → IfOk r (IsVerifiedIntoOf terms folders into old new)
+    → IfOk r (IsVerifiedInto terms (site_at into) (system_of h (m ∷ []) old) (system_of k ns new)) → IfOk r (IsVerifiedIntoOf terms folders into old new)
 verified_into_of (Ok status) terms folders into h k m ns old new at is = record { before = h; afterwards = k; then = record { mirror = m; at = at; then = is } }
 verified_into_of (Err f) terms folders into h k m ns old new at is = tt
 
@@ -67,14 +67,14 @@ pub quiet_of : (r : Result ℕ Failure) (old new : World) → IfErr r (λ f. f �
 quiet_of (Ok status) old new is = tt
 quiet_of (Err f) old new is = λ memory output. (is memory output).1
 
-pub cause_of : (r : Result ℕ Failure) (cause : World → World → Failure → Type 0) (h k : Held) (ms ns : List Mirror) (old : Option (List ℕ))
-    → IfErr r (cause (system_of h ms old) (system_of k ns old)) → IfErr r (λ f. IsCauseOf (λ w v. cause w v f) old)
-cause_of (Ok status) cause h k ms ns old is = tt
-cause_of (Err f) cause h k ms ns old is = record { before = h; afterwards = k; then = record { before = ms; afterwards = ns; then = is } }
+pub cause_of : (r : Result ℕ Failure) (cause : World → World → Failure → Type 0) (h k : Held) (ms ns : List Mirror) (old new : Option (List ℕ))
+    → IfErr r (cause (system_of h ms old) (system_of k ns new)) → IfErr r (λ f. IsCauseOf (λ w v. cause w v f) old new)
+cause_of (Ok status) cause h k ms ns old new is = tt
+cause_of (Err f) cause h k ms ns old new is = record { before = h; afterwards = k; then = record { before = ms; afterwards = ns; then = is } }
 
 -- out of memory before anything is begun
-pub out_of_memory : (f : Failure) (cause : World → World → Failure → Type 0) (old : Option (List ℕ)) → f ≡ Memory → ((w v : World) → cause w v Memory) → IsCauseOf (λ w v. cause w v f) old
-out_of_memory f cause old is of = subst (λ f. IsCauseOf (λ w v. cause w v f) old) (sym is)
+pub out_of_memory : (f : Failure) (cause : World → World → Failure → Type 0) (old new : Option (List ℕ)) → f ≡ Memory → ((w v : World) → cause w v Memory) → IsCauseOf (λ w v. cause w v f) old new
+out_of_memory f cause old new is of = subst (λ f. IsCauseOf (λ w v. cause w v f) old new) (sym is)
     (record { before = none; afterwards = none; then = record { before = []; afterwards = []; then = of _ _ } })
   where
     none : Held

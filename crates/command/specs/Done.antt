@@ -2,13 +2,14 @@
 use Rattle.std.specs.Bool.{⊤}
 use Rattle.std.specs.Prelude.{◌≡◌, ◌⊎◌, ℕ, List, Bool, true, false, Option, Some, length, option_map, [], ◌∷◌}
 use Rattle.failure.specs.declared.failure.Failure.{Failure}
-use Rattle.update.specs.Causes.{IsCauseOfFirst}
+use Rattle.copies.specs.Paths.{Site}
 use Rattle.update.specs.Causes as run
 use Rattle.update.specs.Copies.{IsCauseToVerifyInto, IsVerifiedInto}
+use Rattle.replay.specs.Cycles as replay
 use Rattle.replay.specs.Cycles.{IsReplayed}
 use Rattle.update.specs.Fetching.{IsCauseOfNext, IsNext}
 use Rattle.update.specs.declared.fetching.Wants.{Wants}
-use Rattle.update.specs.First.{IsRefused, IsTrusted}
+use Rattle.update.specs.First.{IsCauseOfFirst, IsRefused, IsTrusted}
 use Rattle.update.specs.Runs.{IsVerified}
 use Rattle.update.specs.Shown.{IsCauseToShow, IsShown}
 use Rattle.update.specs.World.{Mirror, World}
@@ -25,8 +26,8 @@ pub record Held : Type 0 where
   pub locks : List ℕ → Bool
   pub keeps : List ℕ → List ℕ → Bool
 
--- The file system and the clock, of which any file may give any bytes, with what is held, the
--- folders of repositories, and what was printed.
+-- The file system and the clock, of which any file may give any bytes and no file may be put at
+-- any path, with what is held, the folders of repositories, and what was printed.
 abbrev pub system_of : Held → List Mirror → Option (List ℕ) → World
 system_of held mirrors printed = record {
   gives = λ _ _. true;
@@ -35,6 +36,7 @@ system_of held mirrors printed = record {
   locks = held.locks;
   shows = λ _. true;
   keeps = held.keeps;
+  obstacles = record { blocks = λ _. true; fails = λ _. true };
   mirrors = mirrors;
   printed = printed;
 }
@@ -79,12 +81,15 @@ IsVerifiedOf terms folders old new status =
     OfHeld (λ h k. OfOne folders (λ ms. IsVerified terms (system_of h ms old)
     (system_of k ms new) status))
 
--- the repository is verified, and copies of its good targets are stored below the folder `into`, in
--- which any path may be blocked
+-- a folder for copies, in which any path may be blocked, and of which any call may fail
+abbrev pub site_at : List ℕ → Site
+site_at path = record { path = path; blocks = λ _. true; fails = true }
+
+-- the repository is verified, and copies of its good targets are stored below the folder `into`
 abbrev pub IsVerifiedIntoOf : Terms → FolderPaths → List ℕ → Option (List ℕ) → Option (List ℕ)
     → ℕ → Type 0
 IsVerifiedIntoOf terms folders into old new status =
-    OfHeld (λ h k. OfOne folders (λ ms. IsVerifiedInto terms into (λ _. true)
+    OfHeld (λ h k. OfOne folders (λ ms. IsVerifiedInto terms (site_at into)
     (system_of h ms old) (system_of k ms new) status))
 
 -- so many repositories are verified, one after another
@@ -121,29 +126,20 @@ pub record OfBoth (follows : List Mirror → List Mirror → Type 0) : Type 0 wh
   pub then : follows before afterwards
 
 -- a run fails for such a cause, whatever is held
-abbrev pub IsCauseOf : (World → World → Type 0) → Option (List ℕ) → Type 0
-IsCauseOf cause old =
-    OfHeld (λ h k. OfBoth (λ ms ns. cause (system_of h ms old) (system_of k ns old)))
-
-abbrev pub IsCauseOfVerify : Terms → Option (List ℕ) → Failure → Type 0
-IsCauseOfVerify terms old f = IsCauseOf (λ w v. run.IsCause terms.settings w v f) old
-
-abbrev pub IsCauseOfVerifyInto : Terms → Option (List ℕ) → Failure → Type 0
-IsCauseOfVerifyInto terms old f = IsCauseOf (λ w v. IsCauseToVerifyInto terms w v f) old
-
-abbrev pub IsCauseOfReplay : Cycles → Option (List ℕ) → Failure → Type 0
-IsCauseOfReplay cycles old f = IsCauseOf (λ w v. run.IsCause cycles.settings w v f) old
-
-abbrev pub IsCauseOfFetching : Wants → Option (List ℕ) → Failure → Type 0
-IsCauseOfFetching wants old f = IsCauseOf (λ w v. IsCauseOfNext wants w v f) old
+abbrev pub IsCauseOf : (World → World → Type 0) → Option (List ℕ) → Option (List ℕ) → Type 0
+IsCauseOf cause old new =
+    OfHeld (λ h k. OfBoth (λ ms ns. cause (system_of h ms old) (system_of k ns new)))
 
 -- the cause by the run's own definition; of `make` none is known
-abbrev pub IsCause : Subcommand → Option (List ℕ) → Failure → Type 0
-IsCause (Init root state) old f = IsCauseOfFirst root.now (system_with [] old) f
-IsCause (Verify terms folders) old f = IsCauseOfVerify terms old f
-IsCause (VerifyInto terms folders into) old f = IsCauseOfVerifyInto terms old f
-IsCause (Replay cycles repositories) old f = IsCauseOfReplay cycles old f
-IsCause (Next wants folders) old f = IsCauseOfFetching wants old f
-IsCause (Show state before) old f =
+abbrev pub IsCause : Subcommand → Option (List ℕ) → Option (List ℕ) → Failure → Type 0
+IsCause (Init root state) old new f =
+    IsCauseOf (λ w v. IsCauseOfFirst root.now state.now w v f) old new
+IsCause (Verify terms folders) old new f = IsCauseOf (λ w v. run.IsCause terms w v f) old new
+IsCause (VerifyInto terms folders into) old new f =
+    IsCauseOf (λ w v. IsCauseToVerifyInto terms (site_at into.now) w v f) old new
+IsCause (Replay cycles repositories) old new f =
+    IsCauseOf (λ w v. replay.IsCause cycles w v f) old new
+IsCause (Next wants folders) old new f = IsCauseOf (λ w v. IsCauseOfNext wants w v f) old new
+IsCause (Show state before) old new f =
     IsCauseToShow state.now (option_map (λ t. t.now) before) (system_with [] old) f
-IsCause (Make script folder) old f = ⊤
+IsCause (Make script folder) old new f = ⊤

@@ -12,7 +12,8 @@ use std::rt::Files;
 const STEPS: u32 = 4096;
 
 /// Returns whether neither path leads to what the other one leads to, nor below it. Links are
-/// followed, and what isn't there may be made later. Fails with `Words` if a path can't be followed.
+/// followed, and what isn't there may be made later. Fails with `Words` if a path can't be
+/// followed.
 pub fn are_apart<R: Files>(rt: &R, alloc: Global, one: &str, other: &str) -> Result<bool, Failure> {
     let one = real_path(rt, alloc, one).map_err(|error| of_io(&error, Failure::Words))?;
     let other = real_path(rt, alloc, other).map_err(|error| of_io(&error, Failure::Words))?;
@@ -20,7 +21,8 @@ pub fn are_apart<R: Files>(rt: &R, alloc: Global, one: &str, other: &str) -> Res
     Ok(!is_within(rt, one, other) && !is_within(rt, other, one))
 }
 
-/// Returns the path with its links followed. The names at its end may be of files that aren't there.
+/// Returns the path with its links followed. The names at its end may be of files that aren't
+/// there.
 fn real_path<R: Files>(rt: &R, alloc: Global, path: &str) -> io::Result<String> {
     let mut path = String::from_str(alloc, path)?;
     let mut absent = String::new(alloc);

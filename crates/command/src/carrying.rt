@@ -1,8 +1,9 @@
 //! Carrying out a subcommand.
 
 ghost use Rattle.std.specs.Prelude.{◌≡◌, ◌≢◌, ◌≤◌, [], IfErr, IfOk, option_map};
-ghost use Rattle.command.specs.Done.{IsCause, IsDone, IsFirst, OfHeld, system_of, system_with};
-ghost use Rattle.update.specs.Causes.{IsCauseOfFirst};
+ghost use Rattle.command.specs.Done.{IsCause, IsCauseOf, IsDone, IsFirst, OfHeld};
+ghost use Rattle.command.specs.Done.{system_of, system_with};
+ghost use Rattle.update.specs.First.{IsCauseOfFirst};
 ghost use Rattle.update.specs.Shown.{IsCauseToShow, IsShown};
 
 use crate::folders::{next_in, replay_in, verify_in};
@@ -32,7 +33,8 @@ pub fn carry_out<T: Threads + Wait + Sync, W: Write>(
         (W.contents out) (W.contents result.1)) }
     ensures quiet { IfErr result.0 (λ f. f ≢ Failure.Memory → f ≢ Failure.Output
         → W.contents result.1 ≡ W.contents out) }
-    ensures cause { IfErr result.0 (IsCause subcommand.now (W.contents out)) }
+    ensures cause { IfErr result.0 (IsCause subcommand.now
+        (W.contents out) (W.contents result.1)) }
 {
     let (rt, alloc) = (run.host, run.alloc);
     match subcommand {
@@ -67,8 +69,9 @@ fn init<W: Write>(
         (system_of h [] (W.contents out)) (system_of k [] (W.contents result.1)) status)) }
     ensures quiet { IfErr result.0 (λ f. f ≢ Failure.Memory → f ≢ Failure.Output
         → W.contents result.1 ≡ W.contents out) }
-    ensures cause { IfErr result.0
-        (IsCauseOfFirst root.now (system_with [] (W.contents out))) }
+    ensures cause { IfErr result.0 (λ f. IsCauseOf
+        (λ w v. IsCauseOfFirst root.now state.now w v f)
+        (W.contents out) (W.contents result.1)) }
 {
     let mut host = Host {
         system: Machine::new(rt),

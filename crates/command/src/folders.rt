@@ -1,8 +1,10 @@
 //! Repositories in folders of the file system.
 
 ghost use Rattle.std.specs.Prelude.{◌≡◌, ◌≢◌, ◌≤◌, IfErr, IfOk, length, string_bytes};
-ghost use Rattle.command.specs.Done.{IsCauseOfFetching, IsCauseOfReplay, IsCauseOfVerify};
-ghost use Rattle.command.specs.Done.{IsNextOf, IsReplayedOf, IsVerifiedOf};
+ghost use Rattle.command.specs.Done.{IsCauseOf, IsNextOf, IsReplayedOf, IsVerifiedOf};
+ghost use Rattle.replay.specs.Cycles as replay;
+ghost use Rattle.update.specs.Causes as causes;
+ghost use Rattle.update.specs.Fetching.{IsCauseOfNext};
 
 use crate::runtime::{CountedFolders, Runtime};
 use crate::subcommand::FolderPaths;
@@ -30,7 +32,8 @@ pub fn verify_in<T: Threads + Wait + Sync, W: Write>(
         (W.contents out) (W.contents result.1)) }
     ensures quiet { IfErr result.0 (λ f. f ≢ Failure.Memory → f ≢ Failure.Output
         → W.contents result.1 ≡ W.contents out) }
-    ensures cause { IfErr result.0 (IsCauseOfVerify terms.now (W.contents out)) }
+    ensures cause { IfErr result.0 (λ f. IsCauseOf (λ w v. causes.IsCause terms.now w v f)
+        (W.contents out) (W.contents result.1)) }
 {
     let folders = match two_folders(run, folders) {
         Ok(folders) => folders,
@@ -58,7 +61,8 @@ pub fn next_in<T: Threads + Wait + Sync, W: Write>(
         (W.contents out) (W.contents result.1)) }
     ensures quiet { IfErr result.0 (λ f. f ≢ Failure.Memory → f ≢ Failure.Output
         → W.contents result.1 ≡ W.contents out) }
-    ensures cause { IfErr result.0 (IsCauseOfFetching wants.now (W.contents out)) }
+    ensures cause { IfErr result.0 (λ f. IsCauseOf (λ w v. IsCauseOfNext wants.now w v f)
+        (W.contents out) (W.contents result.1)) }
 {
     let folders = match two_folders(run, folders) {
         Ok(folders) => folders,
@@ -99,7 +103,8 @@ pub fn replay_in<T: Threads + Wait + Sync, W: Write>(
         (W.contents out) (W.contents result.1)) }
     ensures quiet { IfErr result.0 (λ f. f ≢ Failure.Memory → f ≢ Failure.Output
         → W.contents result.1 ≡ W.contents out) }
-    ensures cause { IfErr result.0 (IsCauseOfReplay cycles.now (W.contents out)) }
+    ensures cause { IfErr result.0 (λ f. IsCauseOf (λ w v. replay.IsCause cycles.now w v f)
+        (W.contents out) (W.contents result.1)) }
 {
     let folders = match all_folders(run, repositories) {
         Ok(folders) => folders,

@@ -1,7 +1,8 @@
 //! Repositories in folders of the file system, with copies of their good targets.
 
 ghost use Rattle.std.specs.Prelude.{◌≡◌, ◌≢◌, ◌≤◌, IfErr, IfOk, string_bytes};
-ghost use Rattle.command.specs.Done.{IsCauseOfVerifyInto, IsVerifiedIntoOf};
+ghost use Rattle.command.specs.Done.{IsCauseOf, IsVerifiedIntoOf, site_at};
+ghost use Rattle.update.specs.Copies.{IsCauseToVerifyInto};
 
 use crate::folders::two_folders;
 use crate::runtime::{CountedFolders, Runtime};
@@ -29,7 +30,8 @@ pub fn verify_into_in<T: Threads + Wait + Sync, W: Write>(
         (W.contents out) (W.contents result.1)) }
     ensures quiet { IfErr result.0 (λ f. f ≢ Failure.Memory → f ≢ Failure.Output
         → W.contents result.1 ≡ W.contents out) }
-    ensures cause { IfErr result.0 (IsCauseOfVerifyInto terms.now (W.contents out)) }
+    ensures cause { IfErr result.0 (λ f. IsCauseOf (λ w v. IsCauseToVerifyInto terms.now
+        (site_at into.now) w v f) (W.contents out) (W.contents result.1)) }
 {
     let (folders, mut to) = match three_folders(run, folders, into) {
         Ok(all) => all,

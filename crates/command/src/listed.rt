@@ -13,8 +13,8 @@ use update::read_file;
 pub const MOST_GIVEN: u64 = 67_108_864;
 
 /// Returns the paths that are arguments, and then those of the file that `--paths-from` names, in
-/// order. Fails with `Input` if the file can't be read or is too long, and with `Words` if a path in it is empty
-/// or isn't UTF-8.
+/// order. Fails with `Input` if the file can't be read or is too long, and with `Words` if a path
+/// in it is empty or isn't UTF-8.
 pub fn given_paths(
     rt: &HostRuntime,
     alloc: Global,
@@ -33,8 +33,8 @@ pub fn given_paths(
     Ok(paths)
 }
 
-/// Returns the bytes of the file; `-` is standard input, up to its end. Fails if there are more than
-/// [`MOST_GIVEN`].
+/// Returns the bytes of the file; `-` is standard input, up to its end. Fails if there are more
+/// than [`MOST_GIVEN`].
 fn bytes_of(rt: &HostRuntime, alloc: Global, file: &str) -> Result<Vec<u8>, Failure> {
     if file != "-" {
         return read_file(&Machine::new(rt), file, MOST_GIVEN, Failure::Input);

@@ -132,8 +132,8 @@ fn folder_paths<'a>(words: &ArgMatches<'a>) -> Result<FolderPaths<'a>, Failure> 
 /// The arguments that name what a run reads and stores.
 const NAMED: [&str; 5] = ["state", "out", "metadata", "targets", "paths-from"];
 
-/// Returns the folder for copies, if there is one. Fails with `Words` if its path is empty, or if it
-/// isn't apart from what the other arguments name.
+/// Returns the folder for copies, if there is one. Fails with `Words` if its path is empty, or if
+/// it isn't apart from what the other arguments name.
 fn into_of<'a>(
     rt: &HostRuntime,
     alloc: Global,

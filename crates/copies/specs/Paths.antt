@@ -1,4 +1,4 @@
--- The paths at which a copy may be stored.
+-- The paths at which a copy may be stored, and the folder for copies.
 use Rattle.std.specs.Prelude.{ℕ, Bool, true, not, ◌&&◌, ◌==◌, ◌≡◌, List, [], codes, bytes_eq, take}
 use Rattle.std.specs.List.{list_all, slice_split}
 use Rattle.std.specs.Str.{str_eq_ignore_ascii_case}
@@ -21,3 +21,10 @@ is_below path = list_all is_part (slice_split (λ c. c == 47) path) && not (is_r
 -- the same bytes may have been stored for the path
 abbrev pub IsSameAt : List ℕ → (List ℕ → List ℕ → Bool) → (List ℕ → List ℕ → Bool) → Type 0
 IsSameAt path before after = (bytes : List ℕ) → after path bytes ≡ before path bytes
+
+-- The path of a folder for copies, the paths below it at which no file can be put, and whether a
+-- call may fail, whatever the cause but that it is out of memory.
+pub record Site : Type 0 where
+  pub path : List ℕ
+  pub blocks : List ℕ → Bool
+  pub fails : Bool

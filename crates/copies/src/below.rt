@@ -1,6 +1,6 @@
 //! A folder of the file system for copies.
 
-ghost use Rattle.std.specs.Prelude.{◌≡◌, is_none, is_some, string_bytes, true};
+ghost use Rattle.std.specs.Prelude.{◌≡◌, false, is_none, is_some, string_bytes, true};
 ghost use Rattle.std.specs.Option.{option_map_or};
 
 use crate::destination::Destination;
@@ -11,7 +11,7 @@ use std::collections::BTreeSet;
 use std::fs::{self, OpenOptions};
 use std::io::{self, ErrorKind};
 use std::rt::Files;
-use system::{OwnFile, Temporary, flush_folder};
+use system::{Closed, OwnFile, Temporary, flush_folder, folder_of};
 
 /// A folder of the file system, which is made if it isn't there. The temporary files are in a new
 /// folder directly below it, which only its owner may use: `.tufcheck.N.new`, with the first N from
@@ -20,6 +20,8 @@ use system::{OwnFile, Temporary, flush_folder};
 pub struct Below<'a, R: Files> {
     rt: &'a R,
     folder: String,
+    /// The lowest folder of its path that was there before its first temporary file.
+    top: Option<String>,
     /// The folder of the temporary files, once it was made.
     own: Option<Own<R::File>>,
     /// How many temporary files were made.
@@ -30,11 +32,12 @@ pub struct Below<'a, R: Files> {
 
 /// A temporary file of the file system.
 #[derive(Drop)]
-pub struct NewFile<F> {
+pub struct NewFile<F: OwnFile> {
     path: String,
     /// The open file, until it was written or a piece of it couldn't be.
     file: Option<F>,
-    is_ended: bool,
+    /// What is left of it once it was written.
+    closed: Option<F::Closed>,
 }
 
 impl<F: OwnFile + Drop> Sink for NewFile<F> {
@@ -52,7 +55,7 @@ impl<F: OwnFile + Drop> Sink for NewFile<F> {
 impl<F: OwnFile + Drop> Temporary for NewFile<F> {
     ghost is_lost = { λ f. is_none f.file };
 
-    ghost wrote = { λ f _. f.is_ended };
+    ghost wrote = { λ f bytes. option_map_or (λ c. F.Closed.has c bytes) f.closed false };
 
     fn path(&self) -> &str {
         self.path.as_str()
@@ -67,6 +70,7 @@ impl<'a, R: Files> Below<'a, R> {
         Below {
             rt,
             folder,
+            top: None,
             own: None,
             count: 0,
             is_flushed: false,
@@ -74,35 +78,33 @@ impl<'a, R: Files> Below<'a, R> {
     }
 }
 
-/// Returns the folders of the paths below `top` whose copy was stored, and those above them up to
-/// `top`.
+/// Returns the folders of the stored copies, and those above them up to `top`.
 fn folders_of(
     alloc: Global,
+    folder: &str,
     top: &str,
     paths: &[String],
     stored: &[bool],
 ) -> Result<BTreeSet<String>, AllocError> {
     let mut folders = BTreeSet::new(alloc);
     for (path, is_stored) in paths.iter().zip(stored.iter()) {
-        let place = path_below(alloc, top, path.as_str())?;
-        if let Some((folder, _)) = place.rsplit_once('/') {
-            if *is_stored {
-                add_folder(alloc, &mut folders, top, folder)?;
-            }
+        if *is_stored {
+            let place = path_below(alloc, folder, path.as_str())?;
+            add_folders(alloc, &mut folders, folder_of(place.as_str()), top)?;
         }
     }
     Ok(folders)
 }
 
 /// Adds the folder, and those above it up to `top`.
-fn add_folder(
+fn add_folders(
     alloc: Global,
     folders: &mut BTreeSet<String>,
-    top: &str,
     folder: &str,
+    top: &str,
 ) -> Result<(), AllocError> {
     let mut folder = folder;
-    for _ in 0..folder.len() {
+    for _ in 0..=folder.len() {
         if folders.contains(folder) {
             return Ok(());
         }
@@ -110,11 +112,21 @@ fn add_folder(
         if folder == top {
             return Ok(());
         }
-        if let Some((above, _)) = folder.rsplit_once('/') {
-            folder = above;
-        }
+        folder = folder_of(folder);
     }
     Ok(())
+}
+
+/// Returns the lowest folder of the path that is there; it is empty for the current one.
+fn lowest_there<R: Files>(rt: &R, alloc: Global, path: &str) -> Result<String, AllocError> {
+    let mut folder = path;
+    for _ in 0..path.len() {
+        if fs::metadata(rt, folder).is_ok() {
+            return String::from_str(alloc, folder);
+        }
+        folder = folder_of(folder);
+    }
+    String::from_str(alloc, folder)
 }
 
 impl<'a, R: Files> Destination for Below<'a, R>
@@ -123,17 +135,21 @@ where
 {
     type Temporary = NewFile<R::File>;
 
-    ghost place = { λ b. string_bytes b.folder };
+    ghost site = { λ b. record {
+      path = string_bytes b.folder;
+      blocks = λ _. true;
+      fails = true;
+    } };
 
     ghost is_left = { λ b. is_some b.own };
 
     ghost is_flushed = { λ b. b.is_flushed };
 
-    ghost blocks = { λ _ _. true };
-
     fn begin(&mut self, alloc: Global) -> io::Result<NewFile<R::File>> {
         if self.own.is_none() {
-            self.own = Some(own_folder(self.rt, alloc, self.folder.as_str())?);
+            let folder = self.folder.as_str();
+            self.top = Some(lowest_there(self.rt, alloc, folder)?);
+            self.own = Some(own_folder(self.rt, alloc, folder)?);
         }
         let Some(folder) = &self.own else {
             return Err(io::Error::from(ErrorKind::NotFound));
@@ -148,29 +164,28 @@ where
         Ok(NewFile {
             path,
             file: Some(file),
-            is_ended: false,
+            closed: None,
         })
     }
 
     fn finish(&mut self, file: &mut NewFile<R::File>) -> io::Result<()> {
-        let Some(mut open) = file.file.take() else {
+        let Some(open) = file.file.take() else {
             return Err(io::Error::from(ErrorKind::Other));
         };
-        open.flush_all()?;
-        file.is_ended = true;
+        file.closed = Some(open.close()?);
         Ok(())
     }
 
     fn place_for(&self, alloc: Global, path: &str) -> io::Result<String> {
         let place = path_below(alloc, self.folder.as_str(), path)?;
-        if let Some((folder, _)) = place.rsplit_once('/') {
-            fs::create_dir_all(self.rt, folder)?;
-        }
+        fs::create_dir_all(self.rt, folder_of(place.as_str()))?;
         Ok(place)
     }
 
     fn flush(&mut self, alloc: Global, paths: &[String], stored: &[bool]) -> io::Result<()> {
-        let folders = folders_of(alloc, self.folder.as_str(), paths, stored)?;
+        let folder = self.folder.as_str();
+        let top = self.top.as_ref().map_or(folder, |top| top.as_str());
+        let folders = folders_of(alloc, folder, top, paths, stored)?;
         for folder in &folders {
             flush_folder(self.rt, folder.as_str())?;
         }

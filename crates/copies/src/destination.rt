@@ -1,14 +1,14 @@
 //! The interface of a folder for copies.
 
-ghost use Rattle.std.specs.Prelude.{◌≡◌, List, [], ℕ, Bool, true, false, IfErr, IfOk, OnOk};
+ghost use Rattle.std.specs.Prelude.{◌≡◌, ◌≢◌, List, [], ℕ, Bool, true, false, IfErr, IfOk, OnOk};
 ghost use Rattle.std.specs.Prelude.{string_bytes};
 ghost use Rattle.std.specs.IoError.{error_kind};
-ghost use Rattle.copies.specs.Paths.{is_below};
+ghost use Rattle.copies.specs.Paths.{Site, is_below};
 ghost use Rattle.folder.specs.Folders.{path_below};
 ghost use Rattle.system.specs.Blocked.{is_of_path};
 
 use std::alloc::Global;
-use std::io;
+use std::io::{self, ErrorKind};
 use system::Temporary;
 
 /// A folder for copies of files. Each copy is written to a temporary file, a piece at a time, and
@@ -18,11 +18,9 @@ pub trait Destination {
     /// A temporary file.
     type Temporary: Temporary + Drop;
 
-    /// The path of the folder.
-    ghost place: { Self → List ℕ };
-
-    /// Whether `place_for` may fail for the path since no file can be put there.
-    ghost blocks: { Self → List ℕ → Bool };
+    /// The path of the folder, and what may keep copies from being put below it. No call changes
+    /// these.
+    ghost site: { Self → Site };
 
     /// Whether a temporary file may be left.
     ghost is_left: { Self → Bool };
@@ -33,7 +31,9 @@ pub trait Destination {
     /// Makes a temporary file, which is empty.
     fn begin(&mut self, alloc: Global) -> io::Result<Self::Temporary>
         ensures empty { IfOk result (λ file. Self.Temporary.took file [] ≡ true) }
-        ensures same_place { place self.new ≡ place self.old };
+        ensures failed { IfErr result (λ e. error_kind e ≢ ErrorKind.OutOfMemory
+            → (site self.old).fails ≡ true) }
+        ensures same_site { site self.new ≡ site self.old };
 
     /// Ends the writing of a temporary file: flushes it to the device. Fails also if a piece
     /// couldn't be written.
@@ -41,31 +41,36 @@ pub trait Destination {
         ensures whole { OnOk result (Self.Temporary.is_lost file.old ≡ false) }
         ensures wrote { OnOk result ((bytes : List ℕ) → Self.Temporary.took file.old bytes ≡ true
             → Self.Temporary.wrote file.new bytes ≡ true) }
-        ensures same_place { place self.new ≡ place self.old };
+        ensures failed { IfErr result (λ e. error_kind e ≢ ErrorKind.OutOfMemory
+            → (site self.old).fails ≡ true) }
+        ensures same_site { site self.new ≡ site self.old };
 
     /// Returns the place of the copy for a path, and makes the folders of the path.
     fn place_for(&self, alloc: Global, path: &str) -> io::Result<String>
         requires below { is_below path.now ≡ true }
         ensures place { IfOk result (λ text.
-            string_bytes text ≡ path_below (place self.now) path.now) }
+            string_bytes text ≡ path_below (site self.now).path path.now) }
         ensures blocked { IfErr result (λ e. is_of_path (error_kind e) ≡ true
-            → blocks self.now path.now ≡ true) };
+            → (site self.now).blocks path.now ≡ true) }
+        ensures failed { IfErr result (λ e. error_kind e ≢ ErrorKind.OutOfMemory
+            → (site self.now).fails ≡ true) };
 
     /// Flushes the folders of the paths whose copy was stored to the device, and those above them
-    /// up to this one. `stored` has by position whether it was.
+    /// up to this one; if this one was made, also the one that it is in. `stored` has by position
+    /// whether the copy was.
     fn flush(&mut self, alloc: Global, paths: &[String], stored: &[bool]) -> io::Result<()>
         ensures flushed { OnOk result (is_flushed self.new ≡ true) }
-        ensures same_blocks { blocks self.new ≡ blocks self.old }
-        ensures same_place { place self.new ≡ place self.old };
+        ensures failed { IfErr result (λ e. error_kind e ≢ ErrorKind.OutOfMemory
+            → (site self.old).fails ≡ true) }
+        ensures same_site { site self.new ≡ site self.old };
 
     /// Removes a temporary file.
     fn discard(&mut self, file: Self::Temporary)
-        ensures same_place { place self.new ≡ place self.old };
+        ensures same_site { site self.new ≡ site self.old };
 
     /// Removes all temporary files.
     fn clear(&mut self, alloc: Global)
         ensures gone { is_left self.new ≡ false }
         ensures flushed { is_flushed self.new ≡ is_flushed self.old }
-        ensures same_blocks { blocks self.new ≡ blocks self.old }
-        ensures same_place { place self.new ≡ place self.old };
+        ensures same_site { site self.new ≡ site self.old };
 }

@@ -5,13 +5,16 @@
 //! - [`is_below`] is whether a copy may have a path, and [`are_below`] whether copies may have all
 //!   of a list.
 //! - [`Below`] is a folder of the file system.
+//! - [`CopyFault`] is why a copy can't be made.
 #![tactic(auto)]
 
 mod below;
 mod destination;
+mod fault;
 mod path;
 mod temporary;
 
 pub use below::{Below, NewFile};
 pub use destination::Destination;
+pub use fault::{CopyFault, copy_fault};
 pub use path::{are_below, is_below};

@@ -1,7 +1,7 @@
 //! The folder of the temporary files of a run.
 //!
-//! A file `lock` in it is locked as long as the run lasts. So a folder whose file isn't locked is of
-//! a run that has ended, and is removed. Where files can't be locked, none is removed.
+//! A file `lock` in it is locked as long as the run lasts. So a folder whose file isn't locked is
+//! of a run that has ended, and is removed. Where files can't be locked, none is removed.
 
 use folder::path_below;
 use std::alloc::Global;

@@ -5,11 +5,13 @@ ghost use Rattle.std.specs.Io.KnownBytes.{Appends};
 ghost use Rattle.failure.specs.Failures.{is_callers, failure_text, failure_word};
 ghost use Rattle.std.specs.IoError.{error_kind};
 ghost use Rattle.failure.specs.declared.failure.Failure.TheVariants as failure;
+ghost use Rattle.copies.specs.declared.fault.CopyFault.TheVariants as copy;
 ghost use Rattle.folder.specs.declared.files.LoadFault.TheVariants as fault;
 ghost use Rattle.rolechain.specs.declared.fault.StateFault.TheVariants as state;
 ghost use Rattle.seals.specs.declared.fault.MakeFault.TheVariants as made;
 
 use cjson::NoMemory;
+use copies::CopyFault;
 use folder::LoadFault;
 use rolechain::StateFault;
 use seals::MakeFault;
@@ -121,6 +123,19 @@ impl From<LoadFault> for Failure {
         match error {
             LoadFault::Folder => Failure::Folder,
             LoadFault::NoMemory => Failure::Memory,
+        }
+    }
+}
+
+impl From<CopyFault> for Failure {
+    ghost from_gives = { λ e f. (e ≡ copy.Folder → f ≡ failure.Folder)
+        × (e ≡ copy.Output → f ≡ failure.Output) × (e ≡ copy.NoMemory → f ≡ failure.Memory) };
+
+    fn from(error: CopyFault) -> Failure {
+        match error {
+            CopyFault::Folder => Failure::Folder,
+            CopyFault::Output => Failure::Output,
+            CopyFault::NoMemory => Failure::Memory,
         }
     }
 }

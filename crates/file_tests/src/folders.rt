@@ -1,7 +1,7 @@
 //! Folders on the disk and in memory.
 
 use crate::stored::Memory;
-use folder::{Depth, Disk, Folder, LoadFault, load, load_starts, path_below};
+use folder::{Depth, Disk, Folder, LoadFault, load, path_below};
 use std::collections::BTreeMap;
 use std::fs;
 use std::os::unix::fs::symlink;
@@ -118,48 +118,18 @@ fn a_folder_in_memory_is_loaded(rt: HostRuntime) {
     assert_eq!(rt; folder.failed(), 0);
 }
 
-/// Files, two of which have the ending `.json`.
-const STARTS: [(&str, &str); 4] = [
-    ("a.json", "1234"),
-    ("b.txt", "56"),
-    ("c.json", "7"),
-    ("json", "8"),
-];
-
-/// The list and the two files take all calls that succeed, so no other file is read.
 #[test]
-fn starts_of_files_with_an_ending_are_loaded(rt: HostRuntime) {
-    let mut folder = Memory::of(rt.alloc(), &STARTS, 3).expect(&rt, "memory");
-    let loaded = load_starts(rt.alloc(), &mut folder, ".json", 3).expect(&rt, "files");
-    assert_eq!(rt; loaded.len(), 2);
-    assert!(rt; has(&loaded, "a.json", "123"));
-    assert!(rt; has(&loaded, "c.json", "7"));
-    assert_eq!(rt; folder.failed(), 0);
-}
-
-#[test]
-fn a_load_of_starts_fails_at_each_call(rt: HostRuntime) {
-    let alloc = rt.alloc();
-    for calls in 0..3 {
-        let mut folder = Memory::of(alloc, &STARTS, calls).expect(&rt, "memory");
-        assert!(rt;
-            matches!(
-                load_starts(alloc, &mut folder, ".json", 3),
-                Err(LoadFault::Folder)
-            ),
-            "{calls}"
-        );
-        assert_eq!(rt; folder.failed(), 1);
-    }
-}
-
-#[test]
-fn starts_are_loaded_from_disk(rt: HostRuntime) {
-    tree(&rt, "starts_are_loaded_from_disk");
-    let path = string(&rt, "starts_are_loaded_from_disk/top");
+fn the_start_of_a_file_is_read_from_disk(rt: HostRuntime) {
+    tree(&rt, "the_start_of_a_file_is_read_from_disk");
+    let path = string(&rt, "the_start_of_a_file_is_read_from_disk/top");
     let mut below = Disk::new(&rt, path, Depth::Below);
-    let starts = load_starts(rt.alloc(), &mut below, "e/f", 1).expect(&rt, "files");
-    assert_eq!(rt; starts.len(), 1);
-    assert!(rt; has(&starts, "d/e/f", "2"));
-    fs::remove_dir_all(&rt, "starts_are_loaded_from_disk").expect(&rt, "a folder");
+    let start = below
+        .read_start(rt.alloc(), "d/e/f", 0)
+        .expect(&rt, "a file");
+    assert_eq!(rt; start.len(), 0);
+    let start = below
+        .read_start(rt.alloc(), "d/e/f", 9)
+        .expect(&rt, "a file");
+    assert_eq!(rt; start.as_slice(), b"2");
+    fs::remove_dir_all(&rt, "the_start_of_a_file_is_read_from_disk").expect(&rt, "a folder");
 }

@@ -150,8 +150,8 @@ impl<'a, R: Files> Opener for Disk<'a, R> {
     }
 }
 
-/// Opens the plain file of that path for reading. Fails if there is a link or no plain file, also if
-/// it took the place of one only just now.
+/// Opens the plain file of that path for reading. Fails if there is a link or no plain file, also
+/// if it took the place of one only just now.
 fn open_plain<R: Files>(rt: &R, path: &str) -> io::Result<R::File> {
     let there = fs::symlink_metadata(rt, path)?;
     if !there.is_file() {

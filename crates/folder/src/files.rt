@@ -6,7 +6,6 @@ ghost use Rattle.folder.specs.Folders.{AddsFile, Giving, HasFailed, IsLoaded, Is
 ghost use Rattle.folder.specs.Measures.{IsMeasureOf, IsMeasuredIn};
 ghost use Rattle.folder.specs.Passing.{IsPassedOn};
 ghost use Rattle.folder.specs.Seen.{IsStartOf};
-ghost use Rattle.folder.specs.Starts.{AddsStart, AreStarts};
 ghost use Rattle.folder.specs.declared.files.LoadFault.TheVariants as fault;
 
 use crate::job::{Done, Job};
@@ -235,51 +234,6 @@ fn add_file<F: Folder>(
     ensures same { IsSameFolder (F.gives folder.old) (F.gives folder.new) }
 {
     let bytes = folder.read(alloc, name.as_str())?;
-    files.insert(name, bytes)?;
-    Ok(())
-}
-
-/// Reads the first `up_to` bytes of each file whose name has this ending. Other files aren't
-/// opened. Fails with `Folder` only if a call of the folder failed, or with `NoMemory`.
-#[tactic(auto, using(crate::proofs::Starting::one_more_name, crate::proofs::Sameness::sameness))]
-pub fn load_starts<F: Folder>(
-    alloc: Global,
-    folder: &mut F,
-    ending: &str,
-    up_to: u64,
-) -> Result<BTreeMap<String, Vec<u8>>, LoadFault>
-    ensures files { IfOk result
-        (AreStarts ending.now up_to (F.gives folder.old).lists (F.gives folder.old).holds) }
-    ensures failed { IfErr result (λ e. e ≡ fault.Folder
-        → HasFailed (F.gives folder.old) (F.gives folder.new)) }
-    ensures same { IsSameFolder (F.gives folder.old) (F.gives folder.new) }
-{
-    let listed = folder.names(alloc)?;
-    let mut files = BTreeMap::new(alloc);
-    for name in listed {
-        if name.as_str().ends_with(ending) {
-            add_start(alloc, folder, name, up_to, &mut files)?;
-        }
-    }
-    Ok(files)
-}
-
-/// Reads the first `up_to` bytes of the file of that name, and stores them under the name.
-#[tactic(auto, using(std::proofs::lemmas::Map::Text::text_keys))]
-fn add_start<F: Folder>(
-    alloc: Global,
-    folder: &mut F,
-    name: String,
-    up_to: u64,
-    files: &mut BTreeMap<String, Vec<u8>>,
-) -> Result<(), LoadFault>
-    ensures added { OnOk result
-        (AddsStart up_to (F.gives folder.old).holds (string_bytes name) files.old files.new) }
-    ensures failed { IfErr result (λ e. e ≡ fault.Folder
-        → HasFailed (F.gives folder.old) (F.gives folder.new)) }
-    ensures same { IsSameFolder (F.gives folder.old) (F.gives folder.new) }
-{
-    let bytes = folder.read_start(alloc, name.as_str(), up_to)?;
     files.insert(name, bytes)?;
     Ok(())
 }

@@ -1,7 +1,6 @@
 //! Folders of files, and the maps of bytes by name that are read from them.
 //!
-//! - [`Folder`] is what may be listed and read. [`load`] reads all of it, and [`load_starts`] the
-//!   first bytes of the files whose names have one ending.
+//! - [`Folder`] is what may be listed and read. [`load`] reads all of it.
 //! - [`Measure`] is the length and the digests of a file that isn't read into memory. A [`Sink`]
 //!   may take its bytes meanwhile.
 //! - [`Disk`] is a folder of the file system.
@@ -17,7 +16,7 @@ mod stream;
 mod together;
 
 pub use disk::{Depth, Disk, path_below};
-pub use files::{Folder, LoadFault, load, load_starts};
+pub use files::{Folder, LoadFault, load};
 pub use job::{Done, Job};
 pub use measure::{Measure, Measuring, Need};
 pub use sink::Sink;

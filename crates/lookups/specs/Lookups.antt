@@ -32,7 +32,8 @@ pub record IsReadOf (g : Giving) (m : Metadata) (name bytes : List ℕ) : Type 0
 -- a list of the folder, and the metadata files of it that were read
 pub record IsPart (g : Giving) (m : Metadata) : Type 0 where
   pub names : g.lists (map string_bytes m.names.items) ≡ true
-  pub listed : (name : List ℕ) → is_in m.listed name ≡ is_named (map string_bytes m.names.items) name
+  pub listed : (name : List ℕ)
+      → is_in m.listed name ≡ is_named (map string_bytes m.names.items) name
   pub read : (name : List ℕ)
       → IfSome (get_by_text m.repo.metadata name) (λ v. IsReadOf g m name v.items)
 
@@ -112,8 +113,8 @@ pub record HasNoneOf (all : List Need) (old new : Metadata) : Type 0 where
   pub done : All (λ n. IsDone old n.name) all
 
 -- the name has these bytes, and every other name has what it had
-pub record Puts (name : List ℕ) (bytes : Vec ℕ Global) (old new : BTreeMap (String Global) (Vec ℕ Global))
-    : Type 0 where
+pub record Puts (name : List ℕ) (bytes : Vec ℕ Global)
+    (old new : BTreeMap (String Global) (Vec ℕ Global)) : Type 0 where
   pub there : get_by_text new name ≡ Some bytes
   pub others : (other : List ℕ)
       → bytes_eq name other ≡ false → get_by_text new other ≡ get_by_text old other

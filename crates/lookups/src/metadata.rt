@@ -1,6 +1,6 @@
 //! The metadata files of a folder, as far as they were looked up.
 
-ghost use Rattle.std.specs.Prelude.{◌≡◌, ◌≤◌, ◌⊎◌, ◌&&◌, false, not, IfErr, IfOk, IfSome, OnOk, map};
+ghost use Rattle.std.specs.Prelude.{◌≡◌, ◌≤◌, ◌&&◌, false, not, IfErr, IfOk, IfSome, OnOk, map};
 ghost use Rattle.std.specs.Prelude.{string_bytes};
 ghost use Rattle.cycle.specs.Looked.{is_metadata_name as is_json};
 ghost use Rattle.cycle.specs.Workflow.{course};
@@ -13,7 +13,6 @@ ghost use Rattle.lookups.specs.Lookups.{Grows, IsPart, IsSettledOn};
 use crate::asked::Asked;
 use cjson::NoMemory;
 use cycle::{Course, Gate, Keeper, Repo, Round, Threading, Watch};
-use failure::Failure;
 use folder::{Folder, LoadFault};
 use needs::{Need, missing_metadata, names_of};
 use std::alloc::{AllocError, Global};
@@ -84,7 +83,7 @@ impl Metadata {
         threading: &Threading<'_, R, N>,
         keeper: &mut Keeper,
         asked: &Asked<'_>,
-    ) -> Result<Course, Failure>
+    ) -> Result<Course, LoadFault>
         requires part { IsPart (F.gives folder.old) self.old }
         requires workers { asked.now.workers ≤ 64 }
         ensures part { OnOk result (IsPart (F.gives folder.old) self.new) }
@@ -92,9 +91,8 @@ impl Metadata {
         ensures settled { IfOk result
             (IsSettledOn (spec.request_of keeper.old asked.now) self.new) }
         ensures state { keeper.new ≡ keeper.old }
-        ensures failed { IfErr result (λ f. f ≡ Failure.Folder
+        ensures failed { IfErr result (λ e. e ≡ fault.Folder
             → HasFailed (F.gives folder.old) (F.gives folder.new)) }
-        ensures refused { IfErr result (λ f. (f ≡ Failure.Memory) ⊎ (f ≡ Failure.Folder)) }
         ensures same { IsSameFolder (F.gives folder.old) (F.gives folder.new) }
     {
         let mut left = MOST_AGAIN;
@@ -117,7 +115,7 @@ impl Metadata {
         threading: &Threading<'_, R, N>,
         keeper: &mut Keeper,
         asked: &Asked<'_>,
-    ) -> Result<Option<Course>, Failure>
+    ) -> Result<Option<Course>, LoadFault>
         requires part { IsPart (F.gives folder.old) self.old }
         requires workers { asked.now.workers ≤ 64 }
         ensures part { OnOk result (IsPart (F.gives folder.old) self.new) }
@@ -125,14 +123,15 @@ impl Metadata {
         ensures settled { IfOk result (λ o. IfSome o
             (IsSettledOn (spec.request_of keeper.old asked.now) self.new)) }
         ensures state { keeper.new ≡ keeper.old }
-        ensures failed { IfErr result (λ f. f ≡ Failure.Folder
+        ensures failed { IfErr result (λ e. e ≡ fault.Folder
             → HasFailed (F.gives folder.old) (F.gives folder.new)) }
-        ensures refused { IfErr result (λ f. (f ≡ Failure.Memory) ⊎ (f ≡ Failure.Folder)) }
         ensures same { IsSameFolder (F.gives folder.old) (F.gives folder.new) }
     {
         let course = self.follow_on(threading, keeper, asked)?;
         let before = keeper.trusted();
-        let all = missing_metadata(asked.alloc, before, &course, &self.repo.metadata)?;
+        let Ok(all) = missing_metadata(asked.alloc, before, &course, &self.repo.metadata) else {
+            return Err(LoadFault::NoMemory);
+        };
         if self.read_needed(asked.alloc, folder, all.as_slice())? {
             Ok(None)
         } else {
@@ -146,18 +145,22 @@ impl Metadata {
         threading: &Threading<'_, R, N>,
         keeper: &mut Keeper,
         asked: &Asked<'_>,
-    ) -> Result<Course, NoMemory>
+    ) -> Result<Course, LoadFault>
         requires workers { asked.now.workers ≤ 64 }
         ensures course { IfOk result (λ c. c ≡ course (spec.request_of keeper.old asked.now)
             (file_in self.now.repo.metadata)) }
         ensures state { keeper.new ≡ keeper.old }
+        ensures memory { IfErr result (λ e. e ≡ fault.NoMemory) }
     {
         let round = Round {
             repo: &self.repo,
             now: asked.moment,
             wanted: asked.wanted,
         };
-        keeper.follow(&round, &asked.limits, threading, asked.workers)
+        match keeper.follow(&round, &asked.limits, threading, asked.workers) {
+            Ok(course) => Ok(course),
+            Err(NoMemory) => Err(LoadFault::NoMemory),
+        }
     }
 
     /// Reads those of the needed files that the folder lists. Returns whether there was one.
@@ -231,7 +234,8 @@ impl Metadata {
     /// Returns whether the name is that of a metadata file that the folder lists and that wasn't
     /// read.
     fn is_due(&self, name: &str) -> bool
-        ensures { result ≡ (spec.is_listed self.now name.now && not (spec.is_read self.now name.now)) }
+        ensures { result
+            ≡ (spec.is_listed self.now name.now && not (spec.is_read self.now name.now)) }
     {
         if !self.is_listed(name) {
             return false;

@@ -2,6 +2,7 @@
 
 ghost use Rattle.std.specs.Prelude.{◌≡◌, ◌≤◌, ◌⊎◌, true, All, IfErr, IfOk, map, string_bytes};
 ghost use Rattle.folder.specs.Folders.{HasFailed, IsSameFolder};
+ghost use Rattle.folder.specs.declared.files.LoadFault.TheVariants as fault;
 ghost use Rattle.measured.specs.Closed.{IsClosed, is_found};
 ghost use Rattle.measured.specs.Known.{IsCovered, IsKnown};
 
@@ -9,9 +10,9 @@ use crate::early::read_early;
 use crate::known::{Known, named};
 use crate::reading::{note_all, read_all};
 use crate::store::Measured;
+use cjson::NoMemory;
 use cycle::{Course, Outcome};
-use failure::Failure;
-use folder::Folder;
+use folder::{Folder, LoadFault};
 use std::alloc::{AllocError, Global};
 use std::thread::Threads;
 
@@ -37,14 +38,13 @@ pub fn close<R: Threads + Sync, F: Folder + Sync>(
     course: Course,
     folder: &mut F,
     names: Vec<String>,
-) -> Result<Outcome, Failure>
+) -> Result<Outcome, LoadFault>
     requires listed { (F.gives folder.old).lists (map string_bytes names.items) ≡ true }
     ensures outcome { IfOk result
         (IsClosed (F.gives folder.old).lists (F.gives folder.old).holds course) }
     ensures state { IfOk result (λ o. o.trusted ≡ course.trusted) }
-    ensures failed { IfErr result (λ f. f ≡ Failure.Folder
+    ensures failed { IfErr result (λ e. e ≡ fault.Folder
         → HasFailed (F.gives folder.old) (F.gives folder.new)) }
-    ensures refused { IfErr result (λ f. (f ≡ Failure.Memory) ⊎ (f ≡ Failure.Folder)) }
     ensures same { IsSameFolder (F.gives folder.old) (F.gives folder.new) }
 {
     let known = measured(readers, alloc, &course, folder, names)?;
@@ -52,7 +52,10 @@ pub fn close<R: Threads + Sync, F: Folder + Sync>(
         alloc,
         known: &known,
     };
-    Ok(course.close(alloc, &store)?)
+    match course.close(alloc, &store) {
+        Ok(outcome) => Ok(outcome),
+        Err(NoMemory) => Err(LoadFault::NoMemory),
+    }
 }
 
 /// Measures the files that the searches of the course found.
@@ -63,14 +66,13 @@ fn measured<R: Threads + Sync, F: Folder + Sync>(
     course: &Course,
     folder: &mut F,
     names: Vec<String>,
-) -> Result<Known, Failure>
+) -> Result<Known, LoadFault>
     ensures known { IfOk result (IsKnown (map string_bytes names.items) (F.gives folder.old).holds
         (is_found course.now.trusted.root.reading.consistent course.now.searches)) }
     ensures covered { IfOk result (λ k. All
         (IsCovered k course.now.trusted.root.reading.consistent) course.now.searches) }
-    ensures failed { IfErr result (λ f. f ≡ Failure.Folder
+    ensures failed { IfErr result (λ e. e ≡ fault.Folder
         → HasFailed (F.gives folder.old) (F.gives folder.new)) }
-    ensures refused { IfErr result (λ f. (f ≡ Failure.Memory) ⊎ (f ≡ Failure.Folder)) }
     ensures same { IsSameFolder (F.gives folder.old) (F.gives folder.new) }
 {
     let consistent = course.has_consistent_names();

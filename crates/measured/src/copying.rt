@@ -1,9 +1,10 @@
 //! The end of a course, with copies of the files that its searches found.
 
-ghost use Rattle.std.specs.Prelude.{◌≡◌, ◌≤◌, ◌⊎◌, true, List, ℕ, Bool, All, IfErr, IfOk, IfSome};
-ghost use Rattle.std.specs.Prelude.{OnOk, is_some, map, string_bytes};
+ghost use Rattle.std.specs.Prelude.{◌≡◌, ◌≢◌, ◌≤◌, true, List, ℕ, Bool, All, Err, IfErr, IfOk};
+ghost use Rattle.std.specs.Prelude.{IfSome, OnOk, is_some, map, string_bytes};
 ghost use Rattle.std.specs.BTreeMap.{get_by_text};
 ghost use Rattle.folder.specs.Folders.{HasFailed, IsSameFolder};
+ghost use Rattle.copies.specs.declared.fault.CopyFault.TheVariants as fault;
 ghost use Rattle.measured.specs.Closed.{HasNamesOf, IsClosed, is_found};
 ghost use Rattle.measured.specs.Copied.{AreCopiesFor, HasContentOf, IsCopyFor, IsMeasuredInto};
 ghost use Rattle.measured.specs.Known.{IsCovered, IsKnown, StaysKnown};
@@ -13,9 +14,9 @@ use crate::known::{Known, Wanted, entry_of, named, place, put};
 use crate::need::widened;
 use crate::reading::{is_measured, need_of, note_all, read_all, target_of};
 use crate::store::Measured;
-use copies::Destination;
+use cjson::NoMemory;
+use copies::{CopyFault, Destination, copy_fault};
 use cycle::{Course, Outcome, Search, Target};
-use failure::{Failure, of_io};
 use folder::{Folder, Measure, Need};
 use std::alloc::Global;
 
@@ -31,7 +32,8 @@ pub struct Copied<K> {
 /// found to a temporary file of `to` while it is read. A copy is left only if it has the length and
 /// the digests of the target that the search found.
 ///
-/// Fails if the folder fails, with `Output` if a copy can't be written, or if out of memory.
+/// Fails with `Folder` if a call of the folder failed, with `Output` if a copy can't be written, or
+/// with `NoMemory`.
 #[tactic(auto, using(folder::proofs::Sameness::sameness))]
 pub fn close_into<F: Folder, D: Destination>(
     alloc: Global,
@@ -39,27 +41,28 @@ pub fn close_into<F: Folder, D: Destination>(
     folder: &mut F,
     names: Vec<String>,
     to: &mut D,
-) -> Result<Copied<D::Temporary>, Failure>
+) -> Result<Copied<D::Temporary>, CopyFault>
     requires listed { (F.gives folder.old).lists (map string_bytes names.items) ≡ true }
     ensures outcome { IfOk result
         (λ c. IsClosed (F.gives folder.old).lists (F.gives folder.old).holds course c.outcome) }
     ensures state { IfOk result (λ c. c.outcome.trusted ≡ course.trusted) }
     ensures copies { IfOk result
         (λ c. AreCopiesFor D.Temporary.wrote c.copies.items course.searches) }
-    ensures failed { IfErr result (λ f. f ≡ Failure.Folder
+    ensures failed { IfErr result (λ e. e ≡ fault.Folder
         → HasFailed (F.gives folder.old) (F.gives folder.new)) }
-    ensures refused { IfErr result
-        (λ f. (f ≡ Failure.Memory) ⊎ (f ≡ Failure.Folder) ⊎ (f ≡ Failure.Output)) }
+    ensures output { IfErr result (λ e. e ≡ fault.Output → (D.site to.old).fails ≡ true) }
     ensures same { IsSameFolder (F.gives folder.old) (F.gives folder.new) }
-    ensures same_place { D.place to.new ≡ D.place to.old }
+    ensures same_site { D.site to.new ≡ D.site to.old }
 {
     let (known, copies) = measured_into(alloc, &course, folder, names, to)?;
     let store = Measured {
         alloc,
         known: &known,
     };
-    let outcome = course.close(alloc, &store)?;
-    Ok(Copied { outcome, copies })
+    match course.close(alloc, &store) {
+        Ok(outcome) => Ok(Copied { outcome, copies }),
+        Err(NoMemory) => Err(CopyFault::NoMemory),
+    }
 }
 
 /// Measures and copies the files that the searches of the course found.
@@ -70,7 +73,7 @@ fn measured_into<F: Folder, D: Destination>(
     folder: &mut F,
     names: Vec<String>,
     to: &mut D,
-) -> Result<(Known, Vec<Option<D::Temporary>>), Failure>
+) -> Result<(Known, Vec<Option<D::Temporary>>), CopyFault>
     ensures known { IfOk result (λ x. IsKnown (map string_bytes names.items)
         (F.gives folder.old).holds
         (is_found course.now.trusted.root.reading.consistent course.now.searches) x.0) }
@@ -78,12 +81,11 @@ fn measured_into<F: Folder, D: Destination>(
         (IsCovered x.0 course.now.trusted.root.reading.consistent) course.now.searches) }
     ensures copies { IfOk result
         (λ x. AreCopiesFor D.Temporary.wrote x.1.items course.now.searches) }
-    ensures failed { IfErr result (λ f. f ≡ Failure.Folder
+    ensures failed { IfErr result (λ e. e ≡ fault.Folder
         → HasFailed (F.gives folder.old) (F.gives folder.new)) }
-    ensures refused { IfErr result
-        (λ f. (f ≡ Failure.Memory) ⊎ (f ≡ Failure.Folder) ⊎ (f ≡ Failure.Output)) }
+    ensures output { IfErr result (λ e. e ≡ fault.Output → (D.site to.old).fails ≡ true) }
     ensures same { IsSameFolder (F.gives folder.old) (F.gives folder.new) }
-    ensures same_place { D.place to.new ≡ D.place to.old }
+    ensures same_site { D.site to.new ≡ D.site to.old }
 {
     let consistent = course.has_consistent_names();
     let searches = course.searches();
@@ -104,18 +106,17 @@ fn copy_all<F: Folder, D: Destination>(
     folder: &mut F,
     known: &mut Known,
     to: &mut D,
-) -> Result<Vec<Option<D::Temporary>>, Failure>
+) -> Result<Vec<Option<D::Temporary>>, CopyFault>
     ensures known { OnOk result ((names : List (List ℕ))
         → StaysKnown names (F.gives folder.old).holds (is_found
         course.now.trusted.root.reading.consistent course.now.searches) known.old known.new) }
     ensures copies { IfOk result
         (λ copies. AreCopiesFor D.Temporary.wrote copies.items course.now.searches) }
-    ensures failed { IfErr result (λ f. f ≡ Failure.Folder
+    ensures failed { IfErr result (λ e. e ≡ fault.Folder
         → HasFailed (F.gives folder.old) (F.gives folder.new)) }
-    ensures refused { IfErr result
-        (λ f. (f ≡ Failure.Memory) ⊎ (f ≡ Failure.Folder) ⊎ (f ≡ Failure.Output)) }
+    ensures output { IfErr result (λ e. e ≡ fault.Output → (D.site to.old).fails ≡ true) }
     ensures same { IsSameFolder (F.gives folder.old) (F.gives folder.new) }
-    ensures same_place { D.place to.new ≡ D.place to.old }
+    ensures same_site { D.site to.new ≡ D.site to.old }
 {
     let consistent = course.has_consistent_names();
     let mut copies = Vec::new(alloc);
@@ -142,17 +143,16 @@ fn copy_one<F: Folder, D: Destination>(
     sought: &Sought,
     known: &mut Known,
     to: &mut D,
-) -> Result<Option<D::Temporary>, Failure>
+) -> Result<Option<D::Temporary>, CopyFault>
     ensures known { (names : List (List ℕ)) (found : List ℕ → Bool)
         → HasNamesOf sought.now.consistent sought.now.search.now found
         → StaysKnown names (F.gives folder.old).holds found known.old known.new }
     ensures copy { IfOk result (λ copy. IsCopyFor D.Temporary.wrote copy sought.now.search.now) }
-    ensures failed { IfErr result (λ f. f ≡ Failure.Folder
+    ensures failed { IfErr result (λ e. e ≡ fault.Folder
         → HasFailed (F.gives folder.old) (F.gives folder.new)) }
-    ensures refused { IfErr result
-        (λ f. (f ≡ Failure.Memory) ⊎ (f ≡ Failure.Folder) ⊎ (f ≡ Failure.Output)) }
+    ensures output { IfErr result (λ e. e ≡ fault.Output → (D.site to.old).fails ≡ true) }
     ensures same { IsSameFolder (F.gives folder.old) (F.gives folder.new) }
-    ensures same_place { D.place to.new ≡ D.place to.old }
+    ensures same_site { D.site to.new ≡ D.site to.old }
 {
     let Some(target) = target_of(sought.search) else {
         return Ok(None);
@@ -178,19 +178,18 @@ fn copy_file<F: Folder, D: Destination>(
     placed: Placed<'_>,
     known: &mut Known,
     to: &mut D,
-) -> Result<Option<D::Temporary>, Failure>
+) -> Result<Option<D::Temporary>, CopyFault>
     requires there { is_some (get_by_text known.old.files (string_bytes placed.name)) ≡ true }
     ensures known { (names : List (List ℕ)) (found : List ℕ → Bool)
         → found (string_bytes placed.entry.name) ≡ true
         → StaysKnown names (F.gives folder.old).holds found known.old known.new }
     ensures copy { IfOk result (λ copy. IfSome copy
         (λ file. HasContentOf (D.Temporary.wrote file) placed.entry.target.now)) }
-    ensures failed { IfErr result (λ f. f ≡ Failure.Folder
+    ensures failed { IfErr result (λ e. e ≡ fault.Folder
         → HasFailed (F.gives folder.old) (F.gives folder.new)) }
-    ensures refused { IfErr result
-        (λ f. (f ≡ Failure.Memory) ⊎ (f ≡ Failure.Folder) ⊎ (f ≡ Failure.Output)) }
+    ensures output { IfErr result (λ e. e ≡ fault.Output → (D.site to.old).fails ≡ true) }
     ensures same { IsSameFolder (F.gives folder.old) (F.gives folder.new) }
-    ensures same_place { D.place to.new ≡ D.place to.old }
+    ensures same_site { D.site to.new ≡ D.site to.old }
 {
     let Placed { name, target } = placed;
     let entry = entry_of(known, name.as_str());
@@ -215,19 +214,18 @@ fn measure_file<F: Folder, D: Destination>(
     name: &str,
     need: Need,
     to: &mut D,
-) -> Result<(Measure, D::Temporary), Failure>
+) -> Result<(Measure, D::Temporary), CopyFault>
     ensures given { IfOk result (λ x.
         IsMeasuredInto need ((F.gives folder.old).holds name.now) (D.Temporary.took x.1) x.0) }
-    ensures failed { IfErr result (λ f. f ≡ Failure.Folder
+    ensures failed { IfErr result (λ e. e ≡ fault.Folder
         → HasFailed (F.gives folder.old) (F.gives folder.new)) }
-    ensures refused { IfErr result
-        (λ f. (f ≡ Failure.Memory) ⊎ (f ≡ Failure.Folder) ⊎ (f ≡ Failure.Output)) }
+    ensures output { IfErr result (λ e. e ≡ fault.Output → (D.site to.old).fails ≡ true) }
     ensures same { IsSameFolder (F.gives folder.old) (F.gives folder.new) }
-    ensures same_place { D.place to.new ≡ D.place to.old }
+    ensures same_site { D.site to.new ≡ D.site to.old }
 {
     let mut file = match to.begin(alloc) {
         Ok(file) => file,
-        Err(error) => return Err(of_io(&error, Failure::Output)),
+        Err(error) => return Err(copy_fault(&error)),
     };
     let measure = folder.measure_into(alloc, name, need, &mut file)?;
     Ok((measure, file))
@@ -238,12 +236,13 @@ fn kept_if<D: Destination>(
     is_kept: bool,
     to: &mut D,
     mut file: D::Temporary,
-) -> Result<Option<D::Temporary>, Failure>
+) -> Result<Option<D::Temporary>, CopyFault>
     ensures file { IfOk result (λ copy. IfSome copy (λ left. (is_kept ≡ true)
         × ((bytes : List ℕ) → D.Temporary.took file bytes ≡ true
         → D.Temporary.wrote left bytes ≡ true))) }
-    ensures refused { IfErr result (λ f. (f ≡ Failure.Memory) ⊎ (f ≡ Failure.Output)) }
-    ensures same_place { D.place to.new ≡ D.place to.old }
+    ensures output { IfErr result (λ e. e ≡ fault.Output → (D.site to.old).fails ≡ true) }
+    ensures written { result ≢ Err fault.Folder }
+    ensures same_site { D.site to.new ≡ D.site to.old }
 {
     if !is_kept {
         to.discard(file);
@@ -251,6 +250,6 @@ fn kept_if<D: Destination>(
     }
     match to.finish(&mut file) {
         Ok(()) => Ok(Some(file)),
-        Err(error) => Err(of_io(&error, Failure::Output)),
+        Err(error) => Err(copy_fault(&error)),
     }
 }

@@ -5,6 +5,7 @@ ghost use Rattle.std.specs.Prelude.{is_some, option_map, string_bytes};
 ghost use Rattle.std.specs.BTreeMap.{get_by_text};
 ghost use Rattle.std.specs.Option.{option_map_or};
 ghost use Rattle.folder.specs.Folders.{HasFailed, IsSameFolder};
+ghost use Rattle.folder.specs.declared.files.LoadFault.TheVariants as fault;
 ghost use Rattle.cycle.specs.Workflow.{Target, target_of};
 ghost use Rattle.measured.specs.Closed.{HasNamesOf, is_found};
 ghost use Rattle.measured.specs.Known as spec;
@@ -13,8 +14,7 @@ ghost use Rattle.measured.specs.Known.{Grows, IsCovered, StaysKnown};
 use crate::known::{Known, Wanted, entry_of, place, put};
 use crate::need::{NOTHING, covers, widened};
 use cycle::{Found, Search, Target};
-use failure::Failure;
-use folder::{Folder, Need};
+use folder::{Folder, LoadFault, Need};
 use std::alloc::{AllocError, Global};
 
 /// Returns the target that the search found.
@@ -92,14 +92,13 @@ pub(crate) fn read_all<F: Folder>(
     searches: &[Option<Search>],
     consistent: bool,
     known: &mut Known,
-) -> Result<(), Failure>
+) -> Result<(), LoadFault>
     ensures known { (names : List (List ℕ))
         → StaysKnown names (F.gives folder.old).holds (is_found consistent searches.now)
         known.old known.new }
     ensures covered { OnOk result (All (IsCovered known.new consistent) searches.now) }
-    ensures failed { IfErr result (λ f. f ≡ Failure.Folder
+    ensures failed { IfErr result (λ e. e ≡ fault.Folder
         → HasFailed (F.gives folder.old) (F.gives folder.new)) }
-    ensures refused { IfErr result (λ f. (f ≡ Failure.Memory) ⊎ (f ≡ Failure.Folder)) }
     ensures same { IsSameFolder (F.gives folder.old) (F.gives folder.new) }
 {
     for search in searches {
@@ -116,15 +115,14 @@ fn read<F: Folder>(
     search: &Option<Search>,
     consistent: bool,
     known: &mut Known,
-) -> Result<(), Failure>
+) -> Result<(), LoadFault>
     ensures known { (names : List (List ℕ)) (found : List ℕ → Bool)
         → HasNamesOf consistent search.now found
         → StaysKnown names (F.gives folder.old).holds found known.old known.new }
     ensures covered { OnOk result (IsCovered known.new consistent search.now) }
     ensures grows { Grows known.old known.new }
-    ensures failed { IfErr result (λ f. f ≡ Failure.Folder
+    ensures failed { IfErr result (λ e. e ≡ fault.Folder
         → HasFailed (F.gives folder.old) (F.gives folder.new)) }
-    ensures refused { IfErr result (λ f. (f ≡ Failure.Memory) ⊎ (f ≡ Failure.Folder)) }
     ensures same { IsSameFolder (F.gives folder.old) (F.gives folder.new) }
 {
     let Some(target) = target_of(search) else {
@@ -144,7 +142,7 @@ fn read_file<F: Folder>(
     name: String,
     target: &Target,
     known: &mut Known,
-) -> Result<(), Failure>
+) -> Result<(), LoadFault>
     requires there { is_some (get_by_text known.old.files (string_bytes name)) ≡ true }
     ensures known { (names : List (List ℕ)) (found : List ℕ → Bool)
         → found (string_bytes name) ≡ true
@@ -152,9 +150,8 @@ fn read_file<F: Folder>(
     ensures measured { OnOk result (option_map_or (λ o. spec.is_measured o target.now)
         (get_by_text known.new.files (string_bytes name)) false ≡ true) }
     ensures grows { Grows known.old known.new }
-    ensures failed { IfErr result (λ f. f ≡ Failure.Folder
+    ensures failed { IfErr result (λ e. e ≡ fault.Folder
         → HasFailed (F.gives folder.old) (F.gives folder.new)) }
-    ensures refused { IfErr result (λ f. (f ≡ Failure.Memory) ⊎ (f ≡ Failure.Folder)) }
     ensures same { IsSameFolder (F.gives folder.old) (F.gives folder.new) }
 {
     let entry = entry_of(known, name.as_str());

@@ -5,7 +5,7 @@ use Rattle.failure.specs.declared.failure.Failure.{Failure}
 use Rattle.failure.specs.declared.failure.Failure.TheVariants as failure
 use Rattle.folder.specs.Folders.{Giving, HasFailed}
 use Rattle.folder.proofs.Sameness.{failed_since}
-use Rattle.update.specs.Causes.{IsCauseFrom, IsCauseToRead, SomeFailed}
+use Rattle.update.specs.Causes.{IsCauseToRead, SomeFailed}
 use Rattle.update.specs.Same.{IsCauseToEnd, IsSame}
 use Rattle.update.specs.World.{Mirror}
 
@@ -31,20 +31,21 @@ same_read a b c failure.Clock h is = absurd is
 same_read a b c failure.Output h is = absurd is
 same_read a b c failure.Memory h is = tt
 
-pub read_from : (old new : List Mirror) (f : Failure) → IsCauseToRead old new f → IsCauseFrom old new f
-read_from old new failure.Words is = absurd is
-read_from old new failure.Now is = is
-read_from old new failure.State is = is
-read_from old new (failure.Script line) is = is
-read_from old new failure.Input is = is
-read_from old new failure.Folder is = is
-read_from old new failure.Clock is = is
-read_from old new failure.Output is = absurd is
-read_from old new failure.Memory is = is
-
--- what holds of an error holds of a result that is this error
-pub carried : {A : Type 0} (P : Failure → Type 0) (r : Result A Failure) (e : Failure) → r ≡ Err e → P e → IfErr r P
-carried P r e is p = subst (λ r. IfErr r P) (sym is) p
+-- of a result that is this failure to read folders
+pub read_err : {A : Type 0} (P : Failure → Type 0) (r : Result A Failure) (f : Failure) (a b : List Mirror) → r ≡ Err f → IsCauseToRead a b f
+    → (SomeFailed a b → P failure.Folder) → P failure.Memory → IfErr r P
+read_err P r f a b is why folder memory = subst (λ r. IfErr r P) (sym is) (by f why)
+  where
+    by : (f : Failure) → IsCauseToRead a b f → P f
+    by failure.Words h = absurd h
+    by failure.Now h = absurd h
+    by failure.State h = absurd h
+    by (failure.Script line) h = absurd h
+    by failure.Input h = absurd h
+    by failure.Folder h = folder h
+    by failure.Clock h = absurd h
+    by failure.Output h = absurd h
+    by failure.Memory h = memory
 
 -- ---- target files
 

@@ -3,8 +3,12 @@ use Rattle.std.specs.Bool.{⊤}
 use Rattle.std.specs.Io.KnownBytes.{Appends}
 use Rattle.std.specs.Prelude.{◌≡◌, ◌⊎◌, ℕ, List, Bool, true, Option, String, map, string_bytes, [], ◌∷◌}
 use Rattle.std.specs.declared.alloc.Global.{Global}
+use Rattle.failure.specs.declared.failure.Failure.{Failure}
+use Rattle.failure.specs.declared.failure.Failure.TheVariants.{Output}
 use Rattle.folder.specs.Folders.{Giving}
 use Rattle.report.specs.Lines.{last_status, cycles_text}
+use Rattle.system.specs.Blocked.{Obstacles}
+use Rattle.update.specs.Causes.{IsCauseOf, IsCauseToRead}
 use Rattle.update.specs.Runs.{Begins, IsOutcomeOn, IsUntouched, Mirror, Outcome, Request, State, World, start_of, state_text}
 use Rattle.replay.specs.declared.replaying.Cycles.{Cycles}
 use Rattle.update.specs.declared.start.Start as program
@@ -66,3 +70,18 @@ IsReplayed c old new status = CyclesStore c old new
 -- nothing was stored or printed, or the last state was stored
 abbrev pub IsUntouchedOrCycled : Cycles → World → World → Type 0
 IsUntouchedOrCycled c old new = IsUntouched old new ⊎ CyclesStore c old new (λ _. ⊤)
+
+-- # Why it fails.
+
+-- from a start on these folders: the state couldn't be stored, or it was, and the lines weren't
+-- written
+abbrev pub IsCauseBy : Cycles → program.Start → Obstacles → List Mirror → World → Failure → Type 0
+IsCauseBy c s obstacles mirrors new Output =
+    (obstacles.fails s.state.now ≡ true)
+    ⊎ AreStored mirrors (first_of s c.wanted.items) (new.keeps s.state.now) (λ _. ⊤)
+IsCauseBy c s obstacles mirrors new f = IsCauseToRead mirrors new.mirrors f
+
+-- of what the words name
+abbrev pub IsCause : Cycles → World → World → Failure → Type 0
+IsCause c old new f =
+    IsCauseOf c.settings old (λ s. IsCauseBy c s old.obstacles old.mirrors new f) f

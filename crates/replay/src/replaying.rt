@@ -4,8 +4,8 @@ ghost use Rattle.std.specs.Prelude.{◌≡◌, ◌≢◌, ◌≤◌, ◌<◌, tr
 ghost use Rattle.std.specs.Prelude.{OnOk, length, map, slice_get, string_bytes};
 ghost use Rattle.std.specs.List.{AllZip};
 ghost use Rattle.folder.specs.Folders.{IsSameFolder};
-ghost use Rattle.update.specs.Causes.{IsCause, IsCauseToRead};
-ghost use Rattle.replay.specs.Cycles.{AreOutcomesOn, IsReplayed, IsUntouchedOrCycled};
+ghost use Rattle.update.specs.Causes.{IsCauseToRead};
+ghost use Rattle.replay.specs.Cycles.{AreOutcomesOn, IsCause, IsReplayed, IsUntouchedOrCycled};
 ghost use Rattle.replay.specs.Cycles.{first_of, from_state, last_state, mirror_of};
 ghost use Rattle.lookups.specs.Lookups.{IsCourseOn, IsPart};
 ghost use Rattle.update.specs.Opened.{IsOpened};
@@ -48,7 +48,8 @@ pub struct Cycles<'a> {
 /// have no influence on any of it.
 ///
 /// All folders are listed before the first cycle. A target file that a cycle's searches found is
-/// read in that cycle, and no other is. Otherwise all is as for [`verify`](Host::verify), with the last state.
+/// read in that cycle, and no other is. Otherwise all is as for [`verify`](Host::verify), with the
+/// last state.
 pub fn replay<
     S: System,
     M: Folder,
@@ -78,7 +79,7 @@ pub fn replay<
     ensures quiet { IfErr result (λ f. f ≢ Failure.Memory → f ≢ Failure.Output → IsUntouched
         (⟦<Host<S, Vec<Folders<M, T>>, W> as HasWorld>⟧.world host.old)
         (⟦<Host<S, Vec<Folders<M, T>>, W> as HasWorld>⟧.world host.new)) }
-    ensures cause { IfErr result (IsCause cycles.now.settings
+    ensures cause { IfErr result (IsCause cycles.now
         (⟦<Host<S, Vec<Folders<M, T>>, W> as HasWorld>⟧.world host.old)
         (⟦<Host<S, Vec<Folders<M, T>>, W> as HasWorld>⟧.world host.new)) }
 {
@@ -208,7 +209,7 @@ fn outcome<R: Threads + Wait + Sync, N: Gate + Watch + Sync, M: Folder, T: Folde
         rt: threading.rt,
         threads: start.threads(),
     };
-    close(&readers, start.alloc, course, &mut here.targets, names)
+    Ok(close(&readers, start.alloc, course, &mut here.targets, names)?)
 }
 
 /// Returns the course from the keeper's state, for which metadata files are read when they are
@@ -235,5 +236,5 @@ fn course<R: Threads + Wait + Sync, N: Gate + Watch + Sync, M: Folder>(
         limits: start.limits,
         workers: start.threads(),
     };
-    metadata.follow(folder, threading, keeper, &asked)
+    Ok(metadata.follow(folder, threading, keeper, &asked)?)
 }

@@ -1,5 +1,5 @@
--- Errors that say that no file can be put at a path.
-use Rattle.std.specs.Prelude.{Bool, true, false}
+-- What keeps a file from being put at a path.
+use Rattle.std.specs.Prelude.{ℕ, List, Bool, true, false}
 use Rattle.std.specs.declared.io.ErrorKind.{ErrorKind}
 use Rattle.std.specs.declared.io.ErrorKind.TheVariants.{AlreadyExists, CrossesDevices, DirectoryNotEmpty, FilesystemLoop, InvalidFilename, InvalidInput, IsADirectory, NotADirectory, TooManyLinks}
 
@@ -16,3 +16,9 @@ is_of_path IsADirectory = true
 is_of_path NotADirectory = true
 is_of_path TooManyLinks = true
 is_of_path _ = false
+
+-- Which path no file can be put at, and for which path a call may fail, whatever the cause but that
+-- it is out of memory.
+pub record Obstacles : Type 0 where
+  pub blocks : List ℕ → Bool
+  pub fails : List ℕ → Bool

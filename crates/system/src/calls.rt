@@ -3,7 +3,7 @@
 ghost use Rattle.std.specs.Prelude.{◌≡◌, ◌≢◌, ◌≤◌, List, ℕ, Bool, true};
 ghost use Rattle.std.specs.Prelude.{IfErr, IfOk, OnErr, OnOk, Option, length};
 ghost use Rattle.std.specs.IoError.{error_kind};
-ghost use Rattle.system.specs.Blocked.{is_of_path};
+ghost use Rattle.system.specs.Blocked.{Obstacles, is_of_path};
 ghost use Rattle.system.specs.Bounds.{IsLonger};
 ghost use Rattle.system.specs.Locks.{StaysLocked};
 
@@ -40,8 +40,8 @@ pub trait System {
     /// Whether the file at the path was stored with the bytes.
     ghost keeps: { Self → List ℕ → List ℕ → Bool };
 
-    /// Whether `install` may fail for the path since no file can be put there.
-    ghost blocks: { Self → List ℕ → Bool };
+    /// What may keep a file from being put at a path.
+    ghost obstacles: { Self → Obstacles };
 
     /// Whether the clock may show that number of whole seconds since 1970, or nothing.
     ghost shows: { Self → Option ℕ → Bool };
@@ -64,21 +64,25 @@ pub trait System {
         ensures locked { OnOk result (locks self.new path.now ≡ true) }
         ensures refused { IfErr result (λ e. error_kind e ≢ ErrorKind.OutOfMemory
             → refuses self.old path.now ≡ true) }
-        ensures kept { keeps self.new ≡ keeps self.old };
+        ensures kept { keeps self.new ≡ keeps self.old }
+        ensures same_obstacles { obstacles self.new ≡ obstacles self.old };
 
     /// Stores the bytes as the file at `path`, in place of what it held. On error nothing that was
-    /// stored changes, and nothing at other paths ever does. What is locked stays so: if the file at
-    /// `path` is, so is the one that takes its place, from before it does.
+    /// stored changes, and nothing at other paths ever does. What is locked stays so: if the file
+    /// at `path` is, so is the one that takes its place, from before it does.
     fn store(&mut self, path: &str, bytes: &[u8]) -> io::Result<()>
         ensures kept { OnOk result (keeps self.new path.now bytes.now ≡ true) }
         ensures others { OnOk result ((other held : List ℕ) → other ≢ path.now
             → keeps self.new other held ≡ keeps self.old other held) }
         ensures refused { OnErr result (keeps self.new ≡ keeps self.old) }
+        ensures failed { IfErr result (λ e. error_kind e ≢ ErrorKind.OutOfMemory
+            → (obstacles self.old).fails path.now ≡ true) }
+        ensures same_obstacles { obstacles self.new ≡ obstacles self.old }
         ensures locked { StaysLocked (locks self.old) (locks self.new) };
 
     /// Moves a temporary file to `path`, in one step, in place of what the path had. On error
-    /// nothing that was stored changes, and nothing at other paths ever does. So it fails if what is
-    /// at `path` is the file that is locked, or the one that was stored by `store`.
+    /// nothing that was stored changes, and nothing at other paths ever does. So it fails if what
+    /// is at `path` is the file that is locked, or the one that was stored by `store`.
     fn install<K: Temporary>(&mut self, file: &K, path: &str) -> io::Result<()>
         ensures kept { OnOk result ((bytes : List ℕ)
             → K.wrote file.now bytes ≡ true → keeps self.new path.now bytes ≡ true) }
@@ -86,8 +90,10 @@ pub trait System {
             → keeps self.new other held ≡ keeps self.old other held }
         ensures refused { OnErr result (keeps self.new ≡ keeps self.old) }
         ensures blocked { IfErr result (λ e. is_of_path (error_kind e) ≡ true
-            → blocks self.old path.now ≡ true) }
-        ensures same_blocks { blocks self.new ≡ blocks self.old }
+            → (obstacles self.old).blocks path.now ≡ true) }
+        ensures failed { IfErr result (λ e. error_kind e ≢ ErrorKind.OutOfMemory
+            → (obstacles self.old).fails path.now ≡ true) }
+        ensures same_obstacles { obstacles self.new ≡ obstacles self.old }
         ensures locked { StaysLocked (locks self.old) (locks self.new) };
 
     /// Returns the whole seconds since 1970-01-01T00:00:00Z, or None if the clock can't be read or

@@ -56,7 +56,8 @@ pub(crate) fn is_at_path<F>(held: &Option<Held<F>>, path: &str) -> bool
 
 /// Returns whether a file was opened at another path.
 pub(crate) fn is_elsewhere<F>(held: &Option<Held<F>>, path: &str) -> bool
-    ensures { result ≡ option_map_or (λ h. not (bytes_eq (string_bytes h.path) path.now)) held.now false }
+    ensures { result
+        ≡ option_map_or (λ h. not (bytes_eq (string_bytes h.path) path.now)) held.now false }
 {
     match held {
         Some(held) => held.path.as_str() != path,

@@ -25,6 +25,6 @@ pub use calls::{System, Temporary};
 pub use files::store;
 pub use locks::{is_at, take_hold};
 pub use machine::{Machine, whole_seconds};
-pub use own::OwnFile;
+pub use own::{Closed, Flushed, OwnFile};
 pub use place::{Place, replace};
-pub use plain::flush_folder;
+pub use plain::{flush_folder, folder_of};

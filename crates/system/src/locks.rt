@@ -28,9 +28,9 @@ where
     Err(io::Error::from(ErrorKind::WouldBlock))
 }
 
-/// Opens the file for reading and writing, which some file systems want for a lock. If it may not be
-/// written or isn't a plain file, opens it for reading alone: a pipe that its reader may write never
-/// ends.
+/// Opens the file for reading and writing, which some file systems want for a lock. If it may not
+/// be written or isn't a plain file, opens it for reading alone: a pipe that its reader may write
+/// never ends.
 fn open_to_lock<R: Files>(rt: &R, path: &str) -> io::Result<R::File> {
     if !fs::metadata(rt, path)?.is_file() {
         return fs::open(rt, path);
@@ -54,8 +54,8 @@ pub fn is_at<R: Files>(rt: &R, path: &str, file: &R::File) -> io::Result<bool> {
     Ok(there.dev() == open.dev() && there.ino() == open.ino())
 }
 
-/// Locks a file and returns true if it is still the one at `path`, so that this run owns it. Returns
-/// false if another run has locked it, if it was removed, or if it can't be locked.
+/// Locks a file and returns true if it is still the one at `path`, so that this run owns it.
+/// Returns false if another run has locked it, if it was removed, or if it can't be locked.
 pub fn take_hold<R: Files>(rt: &R, path: &str, file: &mut R::File) -> bool
 where
     R::File: OwnFile,

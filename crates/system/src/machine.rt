@@ -66,7 +66,7 @@ where
 
     ghost keeps = { λ m. spec.keeps R.File.has m.stored };
 
-    ghost blocks = { λ _ _. true };
+    ghost obstacles = { λ _. record { blocks = λ _. true; fails = λ _. true } };
 
     ghost shows = { λ _ _. true };
 

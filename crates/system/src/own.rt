@@ -7,8 +7,17 @@ use std::alloc::Global;
 use std::fs::{File, TryLockError};
 use std::io::{self, Write};
 
+/// A file that was closed, once all that was written to it was flushed to the device.
+pub trait Closed {
+    /// Whether the bytes are those that the file had.
+    ghost has: { Self → List ℕ → Bool };
+}
+
 /// An open file whose lock and bytes contracts follow. What is done to it leaves it locked.
 pub trait OwnFile {
+    /// What is left of the file once it was closed.
+    type Closed: Closed + Drop;
+
     /// Whether the file is locked, until it is closed.
     ghost is_locked: { Self → Bool };
 
@@ -49,11 +58,26 @@ pub trait OwnFile {
         ensures flushed { OnOk result (is_flushed self.new ≡ true) }
         ensures same { has self.new ≡ has self.old }
         ensures locked { is_locked self.new ≡ is_locked self.old };
+
+    /// Flushes the file to the device, and closes it.
+    fn close(self) -> io::Result<Self::Closed>
+        ensures has { IfOk result (λ closed. (bytes : List ℕ) → has self bytes ≡ true
+            → Self.Closed.has closed bytes ≡ true) };
+}
+
+/// A file of the operating system that was flushed and closed.
+#[derive(Drop)]
+pub struct Flushed;
+
+impl Closed for Flushed {
+    ghost has = { λ _ _. true };
 }
 
 /// Other programs may write to the file too. That the operating system keeps others away from a
 /// locked file, and keeps what was flushed, is not proved.
 impl OwnFile for File {
+    type Closed = Flushed;
+
     ghost is_locked = { λ _. true };
 
     ghost has = { λ _ _. true };
@@ -90,5 +114,10 @@ impl OwnFile for File {
 
     fn flush_all(&mut self) -> io::Result<()> {
         self.sync_all()
+    }
+
+    fn close(self) -> io::Result<Flushed> {
+        self.sync_all()?;
+        Ok(Flushed)
     }
 }

@@ -179,7 +179,7 @@ pub fn flush_folder<R: Files>(rt: &R, folder: &str) -> io::Result<()> {
 }
 
 /// Returns the path of the folder that has the file; it is empty for the current folder.
-fn folder_of(path: &str) -> &str {
+pub fn folder_of(path: &str) -> &str {
     match path.rsplit_once('/') {
         None => "",
         Some(("", _)) => "/",

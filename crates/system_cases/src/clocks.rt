@@ -49,7 +49,7 @@ impl<'a> System for Stopped<'a> {
 
     ghost keeps = { λ _ _ _. true };
 
-    ghost blocks = { λ _ _. true };
+    ghost obstacles = { λ _. record { blocks = λ _. true; fails = λ _. true } };
 
     ghost shows = { λ _ _. true };
 

@@ -17,8 +17,7 @@ use Rattle.measured.specs.Copied as course
 use Rattle.cycle.specs.declared.verdict.Verdict.{Verdict}
 use Rattle.folder.specs.Seen.{is_named}
 use Rattle.measured.specs.Copied.{HasContentOf}
-use Rattle.report.specs.Lines.{is_good}
-use Rattle.update.specs.Copies.{AreCopied, AreFlags, AreStored, IsCopied, IsFlag, IsOfNone, Kept, OutsideKept, chosen, good_paths, has_place, is_folder_of_one, is_free, is_good_at, may_have_copy, target_for}
+use Rattle.update.specs.Copies.{AreCopied, AreFlags, AreStored, IsCopied, IsFlag, IsOfNone, Kept, OutsideKept, Placing, chosen, good_paths, has_place, is_blocked, is_folder_of_one, is_free, is_good_at, may_have_copy, target_for}
 use Rattle.update.specs.Stored.{AreCandidates, AreDecided, AreInstalled, AreSomeInstalled, DecidesOne, HasPaths, IsCopyFor, with_stored}
 use Rattle.update.specs.declared.installing.Decided.{Decided}
 
@@ -284,31 +283,31 @@ pub below_of : (paths : List (List ℕ)) (p : List ℕ) (good : Bool) → (good 
 below_of paths p good h = left_of (is_below p) (not (is_folder_of_one paths p)) (right_of good (may_have_copy paths p) h)
 
 -- What is done at an index: the flags before it say which copies were stored, and those from it on which paths are candidates.
-pub record IsDone {K : Type 0} (into state : List ℕ) (blocked : List ℕ → Bool) (took : K → List ℕ → Bool) (w : List (List ℕ)) (v : List Verdict) (copies : List (Option K)) (i : ℕ) (flags : List Bool)
+pub record IsDone {K : Type 0} (pl : Placing) (took : K → List ℕ → Bool) (w : List (List ℕ)) (v : List Verdict) (copies : List (Option K)) (i : ℕ) (flags : List Bool)
     (d : Decided) (before now : Kept) : Type 0 where
   pub candidates : List Bool
   pub are_candidates : AreCandidates w v candidates
   pub stored : List Bool
   pub at : length stored ≡ i
   pub all : flags ≡ stored ++ drop i candidates
-  pub are_flags : AreFlags (has_place into state (good_paths w v)) blocked w v stored
-  pub decided : AreDecided (is_free into state) blocked d (chosen w stored)
-  pub copied : (found : List ℕ → Option Target) → AllZip (IsCopyFor took) copies (map found w) → AreCopied into state found (chosen w stored) before now
-  pub spared : IsSameAt state before now
-  pub outside : OutsideKept into state before now
+  pub are_flags : AreFlags (has_place pl.site.path pl.state (good_paths w v)) (is_blocked pl) w v stored
+  pub decided : AreDecided (is_free pl.site.path pl.state) (is_blocked pl) d (chosen w stored)
+  pub copied : (found : List ℕ → Option Target) → AllZip (IsCopyFor took) copies (map found w) → AreCopied pl.site.path pl.state found (chosen w stored) before now
+  pub spared : IsSameAt pl.state before now
+  pub outside : OutsideKept pl.site.path pl.state before now
 
-module _ {K : Type 0} (into state : List ℕ) (blocked : List ℕ → Bool) (took : K → List ℕ → Bool) (w : List (List ℕ)) (v : List Verdict) (copies : List (Option K)) where
-  no_flags : AreFlags (has_place into state (good_paths w v)) blocked w v []
+module _ {K : Type 0} (pl : Placing) (took : K → List ℕ → Bool) (w : List (List ℕ)) (v : List Verdict) (copies : List (Option K)) where
+  no_flags : AreFlags (has_place pl.site.path pl.state (good_paths w v)) (is_blocked pl) w v []
   no_flags = record { only_good = λ j h. absurd (cc); each = λ j q flag there h fine. absurd (cc) }
 
-  none_copied : (found : List ℕ → Option Target) (before : Kept) → AreCopied into state found (chosen w []) before before
-  none_copied found before = subst (λ l. AreCopied into state found l before before) (sym (none_chosen w)) (record { each = λ q named. absurd (cc); others = λ place spared none bytes. refl })
+  none_copied : (found : List ℕ → Option Target) (before : Kept) → AreCopied pl.site.path pl.state found (chosen w []) before before
+  none_copied found before = subst (λ l. AreCopied pl.site.path pl.state found l before before) (sym (none_chosen w)) (record { each = λ q named. absurd (cc); others = λ place spared none bytes. refl })
 
-  pub none_installed : (before : Kept) → AreSomeInstalled took copies into state blocked w v before before
+  pub none_installed : (before : Kept) → AreSomeInstalled took copies pl w v before before
   none_installed before found h = ([], record { flags = no_flags; copied = none_copied found before })
 
   pub none_done : (flags : List Bool) (d : Decided) (before : Kept) → AreCandidates w v flags → ((q : List ℕ) → contains_text d.stored q ≡ false) → ((q : List ℕ) → contains_text d.refused q ≡ false)
-      → IsDone into state blocked took w v copies 0 flags d before before
+      → IsDone pl took w v copies 0 flags d before before
   none_done flags d before are stored refused = record {
     candidates = flags;
     are_candidates = are;
@@ -326,7 +325,7 @@ module _ {K : Type 0} (into state : List ℕ) (blocked : List ℕ → Bool) (too
     outside = λ place isnt none bytes. refl;
   }
 
-  module _ (i : ℕ) (flags : List Bool) (d : Decided) (before now : Kept) (p : List ℕ) (at : slice_get w i ≡ Some p) (inside : i < length w) (done : IsDone into state blocked took w v copies i flags d before now) where
+  module _ (i : ℕ) (flags : List Bool) (d : Decided) (before now : Kept) (p : List ℕ) (at : slice_get w i ≡ Some p) (inside : i < length w) (done : IsDone pl took w v copies i flags d before now) where
     within : i < length done.candidates
     within = subst (λ n. i < n) (sym done.are_candidates.by_position) inside
 
@@ -357,59 +356,59 @@ module _ {K : Type 0} (into state : List ℕ) (blocked : List ℕ → Bool) (too
 
     -- one flag more
     more_done : (flag : Bool) (new : List Bool) (e : Decided) (later : Kept) → new ≡ done.stored ++ flag ∷ rest → (flag ≡ true → is_good_at v i ≡ true)
-        → (is_good_at v i ≡ true → IsFlag (has_place into state (good_paths w v)) blocked p flag)
-        → AreDecided (is_free into state) blocked e (with_stored (chosen w done.stored) p flag)
-        → ((found : List ℕ → Option Target) → AllZip (IsCopyFor took) copies (map found w) → AreCopied into state found (with_stored (chosen w done.stored) p flag) before later)
-        → IsSameAt state now later → OutsideKept into state now later → IsDone into state blocked took w v copies (i + 1) new e before later
-    more_done flag new e later is good flagged decided copied spared outside = subst (λ j. IsDone into state blocked took w v copies j new e before later) (sym (add-one i)) (record {
+        → (is_good_at v i ≡ true → IsFlag (has_place pl.site.path pl.state (good_paths w v)) (is_blocked pl) p flag)
+        → AreDecided (is_free pl.site.path pl.state) (is_blocked pl) e (with_stored (chosen w done.stored) p flag)
+        → ((found : List ℕ → Option Target) → AllZip (IsCopyFor took) copies (map found w) → AreCopied pl.site.path pl.state found (with_stored (chosen w done.stored) p flag) before later)
+        → IsSameAt pl.state now later → OutsideKept pl.site.path pl.state now later → IsDone pl took w v copies (i + 1) new e before later
+    more_done flag new e later is good flagged decided copied spared outside = subst (λ j. IsDone pl took w v copies j new e before later) (sym (add-one i)) (record {
       candidates = done.candidates;
       are_candidates = done.are_candidates;
       stored = done.stored ++ flag ∷ [];
       at = length-append done.stored (flag ∷ []) ∙ add-one (length done.stored) ∙ ap suc done.at;
       all = is ∙ sym (append_assoc done.stored (flag ∷ []) rest);
-      are_flags = flags_more (has_place into state (good_paths w v)) blocked w v done.stored p flag at_stored (good_at flag good)
+      are_flags = flags_more (has_place pl.site.path pl.state (good_paths w v)) (is_blocked pl) w v done.stored p flag at_stored (good_at flag good)
           (λ h. flagged (subst (λ n. is_good_at v n ≡ true) done.at h)) done.are_flags;
-      decided = subst (AreDecided (is_free into state) blocked e) (sym (chosen_more w done.stored p flag at_stored)) decided;
-      copied = λ found h. subst (λ l. AreCopied into state found l before later) (sym (chosen_more w done.stored p flag at_stored)) (copied found h);
+      decided = subst (AreDecided (is_free pl.site.path pl.state) (is_blocked pl) e) (sym (chosen_more w done.stored p flag at_stored)) decided;
+      copied = λ found h. subst (λ l. AreCopied pl.site.path pl.state found l before later) (sym (chosen_more w done.stored p flag at_stored)) (copied found h);
       spared = λ bytes. spared bytes ∙ done.spared bytes;
       outside = λ place isnt none bytes. outside place isnt none bytes ∙ done.outside place isnt none bytes;
     })
 
     -- the path is no candidate
-    pub one_skipped : slice_get flags i ≡ Some false → IsDone into state blocked took w v copies (i + 1) flags d before now
+    pub one_skipped : slice_get flags i ≡ Some false → IsDone pl took w v copies (i + 1) flags d before now
     one_skipped h =
         let is : candidate ≡ false = let same = at_candidate in cc in
         more_done false flags d now (split ∙ ap (λ b. done.stored ++ b ∷ rest) is) (λ never. absurd (cc))
-        (λ fine. flag_of_none into state blocked (good_paths w v) p (is_good_at v i) (tested false h) fine)
+        (λ fine. flag_of_none pl.site.path pl.state (is_blocked pl) (good_paths w v) p (is_good_at v i) (tested false h) fine)
         done.decided done.copied (λ bytes. refl) (λ place isnt none bytes. refl)
 
     -- it is one, and was decided
     pub one_decided : (flag : Bool) (new : List Bool) (e : Decided) (later : Kept) → slice_get flags i ≡ Some true → new ≡ set flags i flag
-        → DecidesOne (is_free into state) blocked d e p flag
-        → ((found : List ℕ → Option Target) (all : List (List ℕ)) → AllZip (IsCopyFor took) copies (map found w) → HasPaths d.stored all → AreCopied into state found all before now
-        → AreCopied into state found (with_stored all p flag) before later)
-        → IsSameAt state now later → OutsideKept into state now later → IsDone into state blocked took w v copies (i + 1) new e before later
+        → DecidesOne pl d e p flag
+        → ((found : List ℕ → Option Target) (all : List (List ℕ)) → AllZip (IsCopyFor took) copies (map found w) → HasPaths d.stored all → AreCopied pl.site.path pl.state found all before now
+        → AreCopied pl.site.path pl.state found (with_stored all p flag) before later)
+        → IsSameAt pl.state now later → OutsideKept pl.site.path pl.state now later → IsDone pl took w v copies (i + 1) new e before later
     one_decided flag new e later h is decides copied spared outside =
         let both : (is_good_at v i && may_have_copy (good_paths w v) p) ≡ true = tested true h in
         let one = decides (chosen w done.stored) done.decided in
         more_done flag new e later
         (is ∙ ap (λ l. set l i flag) split ∙ subst (λ n. set (done.stored ++ candidate ∷ rest) n flag ≡ done.stored ++ flag ∷ rest) done.at (seam_set done.stored candidate flag rest))
         (λ set. left_of (is_good_at v i) (may_have_copy (good_paths w v) p) both)
-        (λ fine. flag_of_one into state blocked (good_paths w v) p flag (right_of (is_good_at v i) (may_have_copy (good_paths w v) p) both) one.1)
+        (λ fine. flag_of_one pl.site.path pl.state (is_blocked pl) (good_paths w v) p flag (right_of (is_good_at v i) (may_have_copy (good_paths w v) p) both) one.1)
         one.0 (λ found are. copied found (chosen w done.stored) are done.decided.stored (done.copied found are)) spared outside
 
-  pub some_done : (i : ℕ) (flags : List Bool) (d : Decided) (before now later : Kept) → later ≡ now → IsDone into state blocked took w v copies i flags d before now
-      → AreSomeInstalled took copies into state blocked w v before later
-  some_done i flags d before now later same done found h = (done.stored, record { flags = done.are_flags; copied = subst (AreCopied into state found (chosen w done.stored) before) (sym same) (done.copied found h) })
+  pub some_done : (i : ℕ) (flags : List Bool) (d : Decided) (before now later : Kept) → later ≡ now → IsDone pl took w v copies i flags d before now
+      → AreSomeInstalled took copies pl w v before later
+  some_done i flags d before now later same done found h = (done.stored, record { flags = done.are_flags; copied = subst (AreCopied pl.site.path pl.state found (chosen w done.stored) before) (sym same) (done.copied found h) })
 
-  module _ (i : ℕ) (flags : List Bool) (d : Decided) (before now : Kept) (end : length w ≤ i) (done : IsDone into state blocked took w v copies i flags d before now) where
+  module _ (i : ℕ) (flags : List Bool) (d : Decided) (before now : Kept) (end : length w ≤ i) (done : IsDone pl took w v copies i flags d before now) where
     all_flags : flags ≡ done.stored
     all_flags = done.all ∙ ap (λ l. done.stored ++ l) (drop_all i done.candidates (subst (λ n. n ≤ i) (sym done.are_candidates.by_position) end)) ∙ append-nil done.stored
 
-    pub all_done : AreInstalled took copies into state blocked w v before now flags
-    all_done found h = subst (λ l. AreStored into state blocked found w v l before now) (sym all_flags) (record { flags = done.are_flags; copied = done.copied found h })
+    pub all_done : AreInstalled took copies pl w v before now flags
+    all_done found h = subst (λ l. AreStored pl found w v l before now) (sym all_flags) (record { flags = done.are_flags; copied = done.copied found h })
 
-  pub flags_count : (i : ℕ) (flags : List Bool) (d : Decided) (before now : Kept) → i ≤ length w → IsDone into state blocked took w v copies i flags d before now → length flags ≡ length w
+  pub flags_count : (i : ℕ) (flags : List Bool) (d : Decided) (before now : Kept) → i ≤ length w → IsDone pl took w v copies i flags d before now → length flags ≡ length w
   flags_count i flags d before now upto done =
       let part : length (done.stored ++ drop i done.candidates) ≡ length done.stored + length (drop i done.candidates) = length-append done.stored (drop i done.candidates) in
       let left = length-drop i done.candidates in
@@ -460,7 +459,7 @@ copied_since into state found paths before mid after only h = record {
   others = λ place spared none bytes. h.others place spared none bytes ∙ only place spared bytes;
 }
 
-pub stored_since : (into state : List ℕ) (blocked : List ℕ → Bool) (found : List ℕ → Option Target) (wanted : List (List ℕ)) (verdicts : List Verdict) (stored : List Bool) (before mid after : Kept)
-    → ((place : List ℕ) → place ≢ state → IsSameAt place before mid) → AreStored into state blocked found wanted verdicts stored mid after → AreStored into state blocked found wanted verdicts stored before after
-stored_since into state blocked found wanted verdicts stored before mid after only h =
-    record { flags = h.flags; copied = copied_since into state found (chosen wanted stored) before mid after only h.copied }
+pub stored_since : (pl : Placing) (found : List ℕ → Option Target) (wanted : List (List ℕ)) (verdicts : List Verdict) (stored : List Bool) (before mid after : Kept)
+    → ((place : List ℕ) → place ≢ pl.state → IsSameAt place before mid) → AreStored pl found wanted verdicts stored mid after → AreStored pl found wanted verdicts stored before after
+stored_since pl found wanted verdicts stored before mid after only h =
+    record { flags = h.flags; copied = copied_since pl.site.path pl.state found (chosen wanted stored) before mid after only h.copied }

@@ -1,14 +1,16 @@
 -- A verification from a start: a course that is followed, and ended by the target files.
-use Rattle.std.proofs.Common.{◌≡◌, ◌≢◌, ◌∙◌, ap, Global, Result, Ok, Err, IfOk, OnErr, OnOk, List, [], ℕ, Bool, String, Vec, Option, length, map, refl, string_bytes, true, subst, sym}
+use Rattle.std.proofs.Common.{◌≡◌, ◌≢◌, ◌∙◌, ◌⊎◌, ap, inl, inr, Global, Result, Ok, Err, IfErr, IfOk, OnErr, OnOk, List, [], ℕ, Bool, String, Vec, Option, length, map, string_bytes, true, subst, sym}
 use Rattle.std.proofs.lemmas.List.{length-map}
-use Rattle.std.specs.Bool.{⊤}
-use Rattle.copies.specs.Paths.{IsSameAt}
+use Rattle.copies.specs.Paths.{IsSameAt, Site}
 use Rattle.cycle.specs.Workflow.{Course, Files, Outcome, course}
 use Rattle.examine.specs.Checks.{file_in}
 use Rattle.measured.specs.Closed.{IsClosed}
 use Rattle.cycle.specs.declared.verdict.Verdict.{Verdict}
 use Rattle.measured.specs.Copied.{AreCopiesFor}
-use Rattle.update.specs.Copies.{AreBegun, AreSomeStored, AreStored, IsPrintedInto, IsPrintedWith, Kept, OutsideKept, is_blocked, target_for}
+use Rattle.failure.specs.declared.failure.Failure.{Failure}
+use Rattle.failure.specs.declared.failure.Failure.TheVariants as failure
+use Rattle.system.specs.Blocked.{Obstacles}
+use Rattle.update.specs.Copies.{AreBegun, AreSomeStored, AreStored, IsPrintedInto, IsPrintedWith, Kept, OutsideKept, Placing, target_for}
 use Rattle.folder.specs.Folders.{Giving, IsSameFolder}
 use Rattle.folder.proofs.Sameness.{same_trans}
 use Rattle.lookups.specs.Lookups.{Grows, IsPart, IsSettledOn, files_read}
@@ -72,6 +74,11 @@ listed_by g s o c r listed requested settled are later part grows =
     subst (λ (k : Course). ArePathsOf k.trusted.root.reading.consistent (map string_bytes o.names.items) (map string_bytes listed))
     (sym (stays g (start_of s []) o.metadata later c (subst (λ q. IsSettledOn q o.metadata c) requested settled) part grows)) are
 
+-- ---- where copies are put
+
+abbrev pub placed_in : Site → Obstacles → List ℕ → Placing
+placed_in site obstacles state = record { site = site; obstacles = obstacles; state = state }
+
 -- ---- its end
 
 module _ (m n : Mirror) (s : program.Start) (wanted : Wanted) (f : Followed) (o : Outcome) (keeps : List ℕ → Bool) (trusted : State)
@@ -101,59 +108,81 @@ module _ (m n : Mirror) (s : program.Start) (wanted : Wanted) (f : Followed) (o 
 
   -- ---- and copies were stored, of the paths by another name
 
-  module _ {K : Type 0} (place into : List ℕ) (same_place : place ≡ into) (by_folder later_folder by_system later_system : List ℕ → Bool) (same_folder : later_folder ≡ by_folder)
-      (same_blocks : later_system ≡ by_system)
-      (took : K → List ℕ → Bool) (p : List (String Global)) (copies given : List (Option K)) (verdicts : List Verdict) (mid before after : Kept)
-      (paths : p ≡ paths_from wanted f.listed.items) (copies_are : given ≡ copies) (verdicts_are : verdicts ≡ o.verdicts)
+  module _ {K : Type 0} (given p : Placing) (same_placing : given ≡ p) (placed : p.state ≡ s.state.now)
+      (took : K → List ℕ → Bool) (l : List (String Global)) (copies lent : List (Option K)) (verdicts : List Verdict) (mid before after : Kept)
+      (paths : l ≡ paths_from wanted f.listed.items) (copies_are : lent ≡ copies) (verdicts_are : verdicts ≡ o.verdicts)
       (only : (place : List ℕ) → place ≢ s.state.now → IsSameAt place before mid)
       (for_course : AreCopiesFor took copies f.course.searches) where
     abbrev request : Request
     request = start_of s (paths_of wanted f)
 
+    others : (place : List ℕ) → place ≢ p.state → IsSameAt place before mid
+    others place isnt = only place (λ is. isnt (is ∙ sym placed))
+
     -- what holds whatever the targets are holds of those of the searches
-    as_found : (P : List ℕ → (List ℕ → Bool) → (List ℕ → Bool) → Lookup → List (List ℕ) → List Verdict → Type 0)
-        → ((found : Lookup) → AreCopiesOf took found (map string_bytes p) given → P place by_folder by_system found (map string_bytes p) verdicts)
-        → P into later_folder later_system (target_for request (files_read d.of_request.seen)) (paths_of wanted f) o.verdicts
+    as_found : (P : Placing → Lookup → List (List ℕ) → List Verdict → Type 0)
+        → ((found : Lookup) → AreCopiesOf took found (map string_bytes l) lent → P given found (map string_bytes l) verdicts)
+        → P p (target_for request (files_read d.of_request.seen)) (paths_of wanted f) o.verdicts
     as_found P copied =
         let all = paths_of wanted f in
-        let same_paths : map string_bytes p ≡ all = ap (map string_bytes) paths in
+        let same_paths : map string_bytes l ≡ all = ap (map string_bytes) paths in
         let found = target_for request (files_read d.of_request.seen) in
         let are = copies_of took copies request (files_read d.of_request.seen) f.course d.of_request.on_read for_course in
-        subst (λ b. P into b later_system found all o.verdicts) (sym same_folder)
-        (subst (λ k. P into by_folder k found all o.verdicts) (sym same_blocks)
-        (subst (λ z. P z by_folder by_system found all o.verdicts) same_place
-        (subst (λ v. P place by_folder by_system found all v) verdicts_are
-        (subst (λ l. P place by_folder by_system found l verdicts) same_paths
-        (copied found (subst (λ l. AreCopiesOf took found l given) (sym same_paths) (subst (AreCopiesOf took found all) (sym copies_are) are)))))))
+        subst (λ z. P z found all o.verdicts) same_placing
+        (subst (λ v. P given found all v) verdicts_are
+        (subst (λ q. P given found q verdicts) same_paths
+        (copied found (subst (λ q. AreCopiesOf took found q lent) (sym same_paths) (subst (AreCopiesOf took found all) (sym copies_are) are)))))
 
-    all_stored : (stored : List Bool) → AreInstalled took given place s.state.now (is_blocked by_folder by_system place) (map string_bytes p) verdicts mid after stored
-        → AreStored into s.state.now (is_blocked later_folder later_system into) (target_for request (files_read d.of_request.seen)) (paths_of wanted f) o.verdicts stored before after
-    all_stored stored copied = stored_since into s.state.now _ _ (paths_of wanted f) o.verdicts stored before mid after only
-        (as_found (λ z b k found l v. AreStored z s.state.now (is_blocked b k z) found l v stored mid after) copied)
+    all_stored : (stored : List Bool) → AreInstalled took lent given (map string_bytes l) verdicts mid after stored
+        → AreStored p (target_for request (files_read d.of_request.seen)) (paths_of wanted f) o.verdicts stored before after
+    all_stored stored copied = stored_since p _ (paths_of wanted f) o.verdicts stored before mid after others
+        (as_found (λ z found q v. AreStored z found q v stored mid after) copied)
 
-    pub stored_into : {E : Type 0} (old new : Option (List ℕ)) (r : Result ℕ E) (stored told : List Bool) → told ≡ stored → length stored ≡ length p
-        → AreInstalled took given place s.state.now (is_blocked by_folder by_system place) (map string_bytes p) verdicts mid after stored
-        → IfOk r (λ status. IsPrintedWith o (map string_bytes p) told status old new)
-        → IfOk r (λ status. IsStoredOn m s wanted keeps (IsPrintedInto old new into s.state.now (is_blocked later_folder later_system into) before after status))
-    stored_into old new (Ok status) list told same count copied lines = stored (IsPrintedInto old new into s.state.now (is_blocked later_folder later_system into) before after status) (record {
+    pub stored_into : {E : Type 0} (old new : Option (List ℕ)) (r : Result ℕ E) (stored told : List Bool) → told ≡ stored → length stored ≡ length l
+        → AreInstalled took lent given (map string_bytes l) verdicts mid after stored
+        → IfOk r (λ status. IsPrintedWith o (map string_bytes l) told status old new)
+        → IfOk r (λ status. IsStoredOn m s wanted keeps (IsPrintedInto p old new before after status))
+    stored_into old new (Ok status) list told same count copied lines = stored (IsPrintedInto p old new before after status) (record {
       stored = list;
-      by_position = count ∙ sym (length-map p string_bytes) ∙ ap (λ (l : List (String Global)). length (map string_bytes l)) paths;
+      by_position = count ∙ sym (length-map l string_bytes) ∙ ap (λ (q : List (String Global)). length (map string_bytes q)) paths;
       are_stored = all_stored list copied;
-      is_printed = subst (λ l. IsPrintedWith o l list status old new) (ap (map string_bytes) paths) (subst (λ t. IsPrintedWith o (map string_bytes p) t status old new) same lines);
+      is_printed = subst (λ q. IsPrintedWith o q list status old new) (ap (map string_bytes) paths)
+          (subst (λ t. IsPrintedWith o (map string_bytes l) t status old new) same lines);
     })
     stored_into old new (Err e) list told same count copied lines = tt
 
-    pub begun_into : AreSomeInstalled took given place s.state.now (is_blocked by_folder by_system place) (map string_bytes p) verdicts mid after
-        → IsStoredOn m s wanted keeps (AreBegun into s.state.now (is_blocked later_folder later_system into) before after)
+    pub begun_into : AreSomeInstalled took lent given (map string_bytes l) verdicts mid after → IsStoredOn m s wanted keeps (AreBegun p before after)
     begun_into copied =
-        let some = as_found (λ z b k found l v. AreSomeStored z s.state.now (is_blocked b k z) found l v mid after) copied in
-        stored (AreBegun into s.state.now (is_blocked later_folder later_system into) before after)
-        (some.0, stored_since into s.state.now _ _ (paths_of wanted f) o.verdicts some.0 before mid after only some.1)
+        let some = as_found (λ z found q v. AreSomeStored z found q v mid after) copied in
+        stored (AreBegun p before after) (some.0, stored_since p _ (paths_of wanted f) o.verdicts some.0 before mid after others some.1)
 
     -- all of them, though the lines were not printed
-    pub all_begun : (list : List Bool) → AreInstalled took given place s.state.now (is_blocked by_folder by_system place) (map string_bytes p) verdicts mid after list
-        → IsStoredOn m s wanted keeps (AreBegun into s.state.now (is_blocked later_folder later_system into) before after)
-    all_begun list copied = stored (AreBegun into s.state.now (is_blocked later_folder later_system into) before after) (list, all_stored list copied)
+    pub all_begun : (list : List Bool) → AreInstalled took lent given (map string_bytes l) verdicts mid after list → IsStoredOn m s wanted keeps (AreBegun p before after)
+    all_begun list copied = stored (AreBegun p before after) (list, all_stored list copied)
+
+-- where copies are put, if neither the folder nor the obstacles changed
+pub same_placing : (site later : Site) (obstacles after : Obstacles) (state : List ℕ) → later ≡ site → after ≡ obstacles
+    → placed_in later after state ≡ placed_in site obstacles state
+same_placing site later obstacles after state same still =
+    subst (λ l. placed_in l after state ≡ placed_in site obstacles state) (sym same)
+    (ap (λ o. placed_in site o state) still)
+
+-- ---- why it fails
+
+-- a failure that is out of memory, or an output error
+pub wrote : {A : Type 0} (P : Failure → Type 0) (r : Result A Failure) → IfErr r (λ f. (f ≡ failure.Memory) ⊎ (f ≡ failure.Output)) → P failure.Memory → P failure.Output → IfErr r P
+wrote P (Ok x) either memory output = tt
+wrote P (Err f) (inl is) memory output = subst P (sym is) memory
+wrote P (Err f) (inr is) memory output = subst P (sym is) output
+
+-- the same of a result that is this error
+pub wrote_err : {A : Type 0} (P : Failure → Type 0) (r : Result A Failure) (f : Failure) → r ≡ Err f → (f ≡ failure.Memory) ⊎ (f ≡ failure.Output)
+    → P failure.Memory → P failure.Output → IfErr r P
+wrote_err P r f is either memory output = wrote P r (subst (λ r. IfErr r (λ f. (f ≡ failure.Memory) ⊎ (f ≡ failure.Output))) (sym is) either) memory output
+
+-- what holds of an error holds of a result that is this error
+pub carried : {A : Type 0} (P : Failure → Type 0) (r : Result A Failure) (e : Failure) → r ≡ Err e → P e → IfErr r P
+carried P r e is p = subst (λ r. IfErr r P) (sym is) p
 
 -- ---- what the words name
 
@@ -166,10 +195,11 @@ then_err (Ok x) f h = tt
 then_err (Err e) f h = f h
 
 -- the same, for the place of the state, the folder and what was stored by other names
-pub begun_as : (ms : List Mirror) (s : program.Start) (wanted : Wanted) (keeps : List ℕ → Bool) (into state named : List ℕ) (by_folder later by_system : List ℕ → Bool) (before first new : Kept)
-    → state ≡ named → later ≡ by_folder → before ≡ first → IsStored ms s wanted keeps (AreBegun into state (is_blocked by_folder by_system into) before new)
-    → IsStored ms s wanted keeps (AreBegun into named (is_blocked later by_system into) first new)
-begun_as ms s wanted keeps into state named by_folder later by_system before first new place blocks kept h =
-    subst (λ z. IsStored ms s wanted keeps (AreBegun into z (is_blocked later by_system into) first new)) place
-    (subst (λ k. IsStored ms s wanted keeps (AreBegun into state (is_blocked k by_system into) first new)) (sym blocks)
-    (subst (λ o. IsStored ms s wanted keeps (AreBegun into state (is_blocked by_folder by_system into) o new)) kept h))
+pub begun_as : (ms : List Mirror) (s : program.Start) (wanted : Wanted) (keeps : List ℕ → Bool) (site : Site) (began ended : Obstacles) (state : List ℕ) (before first new : Kept)
+    → s.state.now ≡ state → ended ≡ began → before ≡ first
+    → IsStored ms s wanted keeps (AreBegun (record { site = site; obstacles = ended; state = s.state.now }) before new)
+    → IsStored ms s wanted keeps (AreBegun (record { site = site; obstacles = began; state = state }) first new)
+begun_as ms s wanted keeps site began ended state before first new place obstacles kept h =
+    subst (λ z. IsStored ms s wanted keeps (AreBegun (record { site = site; obstacles = began; state = z }) first new)) place
+    (subst (λ k. IsStored ms s wanted keeps (AreBegun (record { site = site; obstacles = k; state = s.state.now }) first new)) obstacles
+    (subst (λ b. IsStored ms s wanted keeps (AreBegun (record { site = site; obstacles = ended; state = s.state.now }) b new)) kept h))

@@ -1,13 +1,12 @@
 -- The files that are absent, by the names of folders.
-use Rattle.std.proofs.Common.{◌≡◌, ℕ, List, Bool, true, Option, Some, None, is_some, option_map, Vec, Global, refl, sym, ap, ◌∙◌}
+use Rattle.std.proofs.Common.{◌≡◌, ℕ, List, Bool, true, is_some, Global, ap, ◌∙◌}
 use Rattle.std.specs.Bool.{⊤}
 use Rattle.std.specs.Prelude.{String}
-use Rattle.std.specs.BTreeMap.{BTreeMap, get_by_text}
+use Rattle.std.specs.BTreeMap.{BTreeMap}
 use Rattle.std.specs.List.{list_any}
 use Rattle.std.specs.Str.{bytes_eq}
 use Rattle.std.proofs.Math.Path.{fun_ext}
-use Rattle.cycle.specs.Workflow.{Course, Files, course}
-use Rattle.folder.specs.Seen.{is_named}
+use Rattle.cycle.specs.Workflow.{Course, course}
 use Rattle.lookups.specs.Lookups.{IsPart, IsSettledOn, files_read}
 use Rattle.lookups.specs.declared.metadata.Metadata.{Metadata}
 use Rattle.lookups.proofs.Settling.{course_on, read_names}

@@ -1,5 +1,5 @@
 -- A root file that is longer than its kind may be.
-use Rattle.std.proofs.Common.{◌≡◌, ◌<◌, ℕ, List, Bool, Err, length, nat_lt, refl, true}
+use Rattle.std.proofs.Common.{◌≡◌, ℕ, List, Bool, Err, length, nat_lt, refl, true}
 use Rattle.std.proofs.lemmas.Bool.{lt-ltb}
 use Rattle.rolechain.specs.Text.{root_state}
 use Rattle.rolechain.specs.declared.fault.StateFault.TheVariants.{TooLong}

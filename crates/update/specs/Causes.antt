@@ -2,14 +2,18 @@
 use Rattle.std.specs.Bool.{⊤}
 use Rattle.std.specs.Prelude.{◌≡◌, ◌⊎◌, ℕ, List, Bool, true, Option, Err, ◌∷◌}
 use Rattle.failure.specs.declared.failure.Failure.{Failure}
-use Rattle.failure.specs.declared.failure.Failure.TheVariants.{Now, State, Input, Folder, Clock, Output, Memory}
+use Rattle.failure.specs.declared.failure.Failure.TheVariants.{Now, State, Folder, Clock, Output, Memory}
 use Rattle.folder.specs.Folders.{HasFailed}
 use Rattle.rolechain.specs.Text.{state_of}
 use Rattle.rolechain.specs.declared.fault.StateFault.{StateFault}
 use Rattle.update.specs.Moments.{IsMomentOf, IsNoMoment, Moment}
-use Rattle.update.specs.Runs.{Begins, given_by, moment_text}
+use Rattle.system.specs.Blocked.{Obstacles}
+use Rattle.update.specs.Runs.{Begins, IsStored, given_by, moment_text}
 pub use Rattle.update.specs.World.{Mirror, World}
 use Rattle.update.specs.declared.start.Settings.{Settings}
+use Rattle.update.specs.declared.start.Start as program
+use Rattle.update.specs.declared.start.Terms.{Terms}
+use Rattle.update.specs.declared.start.Wanted.{Wanted}
 
 -- # What can be at fault.
 
@@ -34,10 +38,11 @@ pub record HasNoState (text : Option (List ℕ)) (shows : Option ℕ → Bool) (
   pub of_moment : IsMomentOf shows text moment
   pub no_state : IsNoState gives is_refused
 
--- # The cause of each failure. Any run may run out of memory, or not be able to write.
+-- # The cause of each failure. Any run may run out of memory.
 
 -- of reading the moment, and then the state
-abbrev pub IsCauseToBegin : Option (List ℕ) → (Option ℕ → Bool) → (List ℕ → Bool) → Bool → Failure → Type 0
+abbrev pub IsCauseToBegin : Option (List ℕ) → (Option ℕ → Bool) → (List ℕ → Bool) → Bool
+    → Failure → Type 0
 IsCauseToBegin text shows gives is_refused Now = IsNoMoment shows text Now
 IsCauseToBegin text shows gives is_refused Clock = IsNoMoment shows text Clock
 IsCauseToBegin text shows gives is_refused State = HasNoState text shows gives is_refused
@@ -50,22 +55,31 @@ IsCauseToRead old new Folder = SomeFailed old new
 IsCauseToRead old new Memory = ⊤
 IsCauseToRead old new _ = ⊥
 
--- of a run from a start
-abbrev pub IsCauseFrom : List Mirror → List Mirror → Failure → Type 0
-IsCauseFrom old new Output = ⊤
-IsCauseFrom old new f = IsCauseToRead old new f
+-- the same of what the words name
+abbrev pub IsCauseToStart : Settings → (Option ℕ → Bool) → (List ℕ → List ℕ → Bool)
+    → (List ℕ → Bool) → Failure → Type 0
+IsCauseToStart settings shows gives refuses f = IsCauseToBegin (moment_text settings) shows
+    (gives settings.state.now) (refuses settings.state.now) f
+
+-- of a run from a start on these folders: the state couldn't be stored, or it was, and the lines
+-- weren't written
+abbrev pub IsCauseBy : program.Start → Wanted → Obstacles → List Mirror → World → Failure → Type 0
+IsCauseBy s wanted obstacles mirrors new Output =
+    (obstacles.fails s.state.now ≡ true)
+    ⊎ IsStored mirrors s wanted (new.keeps s.state.now) (λ _ _ _. ⊤)
+IsCauseBy s wanted obstacles mirrors new f = IsCauseToRead mirrors new.mirrors f
+
+abbrev pub IsCauseFrom : program.Start → Wanted → World → World → Failure → Type 0
+IsCauseFrom s wanted old new f = IsCauseBy s wanted old.obstacles old.mirrors new f
+
+-- of reading what the words name, or from such a start
+abbrev pub IsCauseOf : Settings → World → (program.Start → Type 0) → Failure → Type 0
+IsCauseOf settings old from f =
+    IsCauseToStart settings old.shows (given_by settings.locking old.gives_locked old.gives)
+    old.refuses f
+    ⊎ Begins settings old from
 
 -- of a run from the state and the moment that the words name, which are read first
-abbrev pub IsCause : Settings → World → World → Failure → Type 0
-IsCause settings old new f =
-    IsCauseToBegin (moment_text settings) old.shows
-    (given_by settings.locking old.gives_locked old.gives settings.state.now) (old.refuses settings.state.now) f
-    ⊎ Begins settings old (λ _. IsCauseFrom old.mirrors new.mirrors f)
-
--- ---- a first root
-
-abbrev pub IsCauseOfFirst : List ℕ → World → Failure → Type 0
-IsCauseOfFirst root old Input = old.refuses root ≡ true
-IsCauseOfFirst root old Output = ⊤
-IsCauseOfFirst root old Memory = ⊤
-IsCauseOfFirst root old _ = ⊥
+abbrev pub IsCause : Terms → World → World → Failure → Type 0
+IsCause terms old new f =
+    IsCauseOf terms.settings old (λ s. IsCauseFrom s terms.wanted old new f) f

@@ -3,16 +3,17 @@ use Rattle.std.specs.Io.KnownBytes.{Appends}
 use Rattle.std.specs.List.{list_all, list_any, slice_get, starts_with}
 use Rattle.std.specs.Option.{option_map_or}
 use Rattle.std.specs.Prelude.{◌≡◌, ◌≢◌, ◌⊎◌, ℕ, Bool, true, false, not, ◌&&◌, ◌||◌, if◌then◌else◌, List, [], ◌∷◌, ◌++◌, length, Option, Some, IsSomeAnd, map, string_bytes, bytes_eq, nat_eq}
-use Rattle.copies.specs.Paths.{IsSameAt, is_below}
+use Rattle.copies.specs.Paths.{IsSameAt, Site, is_below}
 use Rattle.cycle.specs.Workflow.{Target, searched, target_of}
 use Rattle.cycle.specs.declared.verdict.Verdict.{Verdict}
 use Rattle.failure.specs.declared.failure.Failure.{Failure}
-use Rattle.failure.specs.declared.failure.Failure.TheVariants.{Words}
+use Rattle.failure.specs.declared.failure.Failure.TheVariants.{Output, Words}
 use Rattle.folder.specs.Folders.{path_below}
 use Rattle.folder.specs.Seen.{is_named}
 use Rattle.measured.specs.Copied.{IsContentOf}
 use Rattle.report.specs.Lines.{is_good, stored_outcome_status, stored_outcome_text}
-use Rattle.update.specs.Causes.{IsCause}
+use Rattle.system.specs.Blocked.{Obstacles}
+use Rattle.update.specs.Causes.{IsCauseBy, IsCauseOf, IsCauseToRead, Mirror}
 use Rattle.update.specs.Runs.{Files, IsUntouched, Outcome, Request, Stores, StoresFrom, World, course}
 use Rattle.update.specs.declared.start.Start as program
 use Rattle.update.specs.declared.start.Terms.{Terms}
@@ -53,9 +54,15 @@ is_free into state path = not (bytes_eq (path_below into path) state)
 abbrev pub has_place : List ℕ → List ℕ → List (List ℕ) → List ℕ → Bool
 has_place into state paths path = may_have_copy paths path && is_free into state path
 
+-- the folder for copies, what may keep a file from being put at a path, and the state's place
+pub record Placing : Type 0 where
+  pub site : Site
+  pub obstacles : Obstacles
+  pub state : List ℕ
+
 -- the folder or the system puts no file at the place of the path
-abbrev pub is_blocked : (List ℕ → Bool) → (List ℕ → Bool) → List ℕ → List ℕ → Bool
-is_blocked by_folder by_system into path = by_folder path || by_system (path_below into path)
+abbrev pub is_blocked : Placing → List ℕ → Bool
+is_blocked p path = p.site.blocks path || p.obstacles.blocks (path_below p.site.path path)
 
 -- if it was stored, the path has a place; else it has none, or it is blocked
 abbrev pub IsFlag : (List ℕ → Bool) → (List ℕ → Bool) → List ℕ → Bool → Type 0
@@ -102,18 +109,17 @@ pub record AreCopied (into state : List ℕ) (found : List ℕ → Option Target
       → IsSameAt place old new
 
 -- the copies of the paths whose flags are set were stored, and each flag has its cause
-pub record AreStored (into state : List ℕ) (blocked : List ℕ → Bool)
-    (found : List ℕ → Option Target) (wanted : List (List ℕ)) (verdicts : List Verdict)
-    (stored : List Bool) (old new : Kept) : Type 0 where
-  pub flags : AreFlags (has_place into state (good_paths wanted verdicts)) blocked wanted verdicts
-      stored
-  pub copied : AreCopied into state found (chosen wanted stored) old new
+pub record AreStored (p : Placing) (found : List ℕ → Option Target) (wanted : List (List ℕ))
+    (verdicts : List Verdict) (stored : List Bool) (old new : Kept) : Type 0 where
+  pub flags : AreFlags (has_place p.site.path p.state (good_paths wanted verdicts)) (is_blocked p)
+      wanted verdicts stored
+  pub copied : AreCopied p.site.path p.state found (chosen wanted stored) old new
 
 -- so were those of some of the first wanted paths
-abbrev pub AreSomeStored : List ℕ → List ℕ → (List ℕ → Bool) → (List ℕ → Option Target)
-    → List (List ℕ) → List Verdict → Kept → Kept → Type 0
-AreSomeStored into state blocked found wanted verdicts old new =
-    (stored : List Bool) × AreStored into state blocked found wanted verdicts stored old new
+abbrev pub AreSomeStored : Placing → (List ℕ → Option Target) → List (List ℕ) → List Verdict
+    → Kept → Kept → Type 0
+AreSomeStored p found wanted verdicts old new =
+    (stored : List Bool) × AreStored p found wanted verdicts stored old new
 
 -- what is stored outside of the folder, and not as the state, is as it was
 abbrev pub OutsideKept : List ℕ → List ℕ → Kept → Kept → Type 0
@@ -130,46 +136,48 @@ pub record IsPrintedWith (o : Outcome) (wanted : List (List ℕ)) (stored : List
   pub answered : status ≡ stored_outcome_status o stored
 
 -- for each wanted path it was decided whether its copy is stored, and that was printed
-pub record IsPrintedInto (old new : Option (List ℕ)) (into state : List ℕ)
-    (blocked : List ℕ → Bool) (before after : Kept) (status : ℕ) (start : Request)
-    (metadata : Files) (o : Outcome) : Type 0 where
+pub record IsPrintedInto (p : Placing) (old new : Option (List ℕ)) (before after : Kept)
+    (status : ℕ) (start : Request) (metadata : Files) (o : Outcome) : Type 0 where
   pub stored : List Bool
   pub by_position : length stored ≡ length start.wanted
-  pub are_stored : AreStored into state blocked (target_for start metadata) start.wanted
-      o.verdicts stored before after
+  pub are_stored : AreStored p (target_for start metadata) start.wanted o.verdicts stored before
+      after
   pub is_printed : IsPrintedWith o start.wanted stored status old new
 
 -- copies of some of the first wanted paths were stored
-abbrev pub AreBegun : List ℕ → List ℕ → (List ℕ → Bool) → Kept → Kept → Request → Files → Outcome
-    → Type 0
-AreBegun into state blocked before after start metadata o = AreSomeStored into state blocked
-    (target_for start metadata) start.wanted o.verdicts before after
+abbrev pub AreBegun : Placing → Kept → Kept → Request → Files → Outcome → Type 0
+AreBegun p old new start metadata o =
+    AreSomeStored p (target_for start metadata) start.wanted o.verdicts old new
 
 -- # A verification of the only repository, with copies of its good targets.
 
 -- ---- from a state and a moment that were read
 
-abbrev pub IsVerifiedIntoFrom : program.Start → Wanted → List ℕ → (List ℕ → Bool) → World → World
-    → ℕ → Type 0
-IsVerifiedIntoFrom s wanted into blocked old new status = StoresFrom s wanted old new
-    (IsPrintedInto old.printed new.printed into s.state.now blocked old.keeps new.keeps status)
+-- where copies are put
+abbrev pub placing : Site → World → List ℕ → Placing
+placing site old state = record { site = site; obstacles = old.obstacles; state = state }
+
+abbrev pub IsVerifiedIntoFrom : program.Start → Wanted → Site → World → World → ℕ → Type 0
+IsVerifiedIntoFrom s wanted site old new status = StoresFrom s wanted old new
+    (IsPrintedInto (placing site old s.state.now) old.printed new.printed old.keeps new.keeps
+    status)
 
 -- nothing was stored, copied or printed, or the new state was stored, and the copies of some of the
 -- first wanted paths
-abbrev pub IsUntouchedOrBegunFrom : program.Start → Wanted → List ℕ → (List ℕ → Bool) → World
-    → World → Type 0
-IsUntouchedOrBegunFrom s wanted into blocked old new = IsUntouched old new
-    ⊎ StoresFrom s wanted old new (AreBegun into s.state.now blocked old.keeps new.keeps)
+abbrev pub IsUntouchedOrBegunFrom : program.Start → Wanted → Site → World → World → Type 0
+IsUntouchedOrBegunFrom s wanted site old new = IsUntouched old new
+    ⊎ StoresFrom s wanted old new (AreBegun (placing site old s.state.now) old.keeps new.keeps)
 
 -- ---- from those that the words name
 
-abbrev pub IsVerifiedInto : Terms → List ℕ → (List ℕ → Bool) → World → World → ℕ → Type 0
-IsVerifiedInto terms into blocked old new status = Stores terms old new (IsPrintedInto old.printed
-    new.printed into terms.settings.out.now blocked old.keeps new.keeps status)
+abbrev pub IsVerifiedInto : Terms → Site → World → World → ℕ → Type 0
+IsVerifiedInto terms site old new status = Stores terms old new
+    (IsPrintedInto (placing site old terms.settings.out.now) old.printed new.printed old.keeps
+    new.keeps status)
 
-abbrev pub IsUntouchedOrBegun : Terms → List ℕ → (List ℕ → Bool) → World → World → Type 0
-IsUntouchedOrBegun terms into blocked old new = IsUntouched old new
-    ⊎ Stores terms old new (AreBegun into terms.settings.out.now blocked old.keeps new.keeps)
+abbrev pub IsUntouchedOrBegun : Terms → Site → World → World → Type 0
+IsUntouchedOrBegun terms site old new = IsUntouched old new
+    ⊎ Stores terms old new (AreBegun (placing site old terms.settings.out.now) old.keeps new.keeps)
 
 -- # Why it fails.
 
@@ -178,7 +186,19 @@ abbrev pub may_be_copied : Wanted → Bool
 may_be_copied (Paths given) = list_all is_below (map string_bytes given.items)
 may_be_copied Every = true
 
--- a given path that no copy may have, before anything else; or as without copies
-abbrev pub IsCauseToVerifyInto : Terms → World → World → Failure → Type 0
-IsCauseToVerifyInto terms old new f =
-    ((f ≡ Words) × (may_be_copied terms.wanted ≡ false)) ⊎ IsCause terms.settings old new f
+-- of a run from a start: a copy couldn't be written, or as without copies
+abbrev pub IsCauseIntoBy : program.Start → Wanted → Site → Obstacles → List Mirror → World
+    → Failure → Type 0
+IsCauseIntoBy s wanted site obstacles mirrors new Output =
+    (site.fails ≡ true) ⊎ IsCauseBy s wanted obstacles mirrors new Output
+IsCauseIntoBy s wanted site obstacles mirrors new f = IsCauseToRead mirrors new.mirrors f
+
+abbrev pub IsCauseIntoFrom : program.Start → Wanted → Site → World → World → Failure → Type 0
+IsCauseIntoFrom s wanted site old new f =
+    IsCauseIntoBy s wanted site old.obstacles old.mirrors new f
+
+-- a given path that no copy may have, before anything else; or of what the words name
+abbrev pub IsCauseToVerifyInto : Terms → Site → World → World → Failure → Type 0
+IsCauseToVerifyInto terms site old new f =
+    ((f ≡ Words) × (may_be_copied terms.wanted ≡ false))
+    ⊎ IsCauseOf terms.settings old (λ s. IsCauseIntoFrom s terms.wanted site old new f) f

@@ -1,8 +1,10 @@
 -- The files that have to be fetched next, printed.
+use Rattle.std.specs.Bool.{⊤}
 use Rattle.std.specs.Io.KnownBytes.{Appends}
 use Rattle.std.specs.Prelude.{◌≡◌, ◌⊎◌, ℕ, List, [], ◌∷◌, true, Option, is_some, option_map}
 use Rattle.cycle.specs.Workflow.{Course}
 use Rattle.failure.specs.declared.failure.Failure.{Failure}
+use Rattle.failure.specs.declared.failure.Failure.TheVariants.{Output}
 use Rattle.folder.specs.Seen.{is_named}
 use Rattle.lookups.specs.Lookups.{IsCourseOn, files_read}
 use Rattle.needs.specs.Needs.{needs}
@@ -10,7 +12,7 @@ use Rattle.needs.specs.declared.need.Need.{Need}
 use Rattle.needs.specs.declared.need.Place.{Place}
 use Rattle.report.specs.Fetching.{needs_text}
 use Rattle.rolechain.specs.Advance as chain
-use Rattle.update.specs.Causes.{IsCauseFrom, IsCauseToBegin}
+use Rattle.update.specs.Causes.{IsCauseToBegin, IsCauseToRead}
 use Rattle.update.specs.Moments.{IsMomentOf, Moment}
 use Rattle.update.specs.Runs.{Files, IsRead, Request, course, request}
 pub use Rattle.update.specs.World.{Mirror, World}
@@ -78,7 +80,11 @@ abbrev pub IsCauseToStart : Wants → World → Failure → Type 0
 IsCauseToStart w old =
     IsCauseToBegin (text_of w) old.shows (old.gives w.state.now) (old.refuses w.state.now)
 
+-- of reading the folders, or of writing the lines
+abbrev pub IsCauseToList : World → World → Failure → Type 0
+IsCauseToList old new Output = ⊤
+IsCauseToList old new f = IsCauseToRead old.mirrors new.mirrors f
+
 abbrev pub IsCauseOfNext : Wants → World → World → Failure → Type 0
 IsCauseOfNext w old new f =
-    IsCauseToStart w old f
-    ⊎ Starts w old (λ _ _. IsCauseFrom old.mirrors new.mirrors f)
+    IsCauseToStart w old f ⊎ Starts w old (λ _ _. IsCauseToList old new f)

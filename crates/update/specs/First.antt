@@ -2,6 +2,8 @@
 use Rattle.std.specs.Bool.{⊤}
 use Rattle.std.specs.Io.KnownBytes.{Appends}
 use Rattle.std.specs.Prelude.{◌≡◌, ◌⊎◌, ℕ, List, Bool, true, Result, Ok, Err}
+use Rattle.failure.specs.declared.failure.Failure.{Failure}
+use Rattle.failure.specs.declared.failure.Failure.TheVariants.{Input, Memory, Output}
 use Rattle.meta.specs.declared.fault.Fault.{Fault}
 use Rattle.meta.specs.declared.fault.Fault.TheVariants as fault
 use Rattle.report.specs.Lines.{end_text, root_text}
@@ -59,3 +61,13 @@ abbrev pub IsBrokenOff : List ℕ → List ℕ → World → World → Type 0
 IsBrokenOff root state old new =
     ((new.keeps ≡ old.keeps) × ((new.printed ≡ old.printed) ⊎ Refuses root old (λ _. ⊤)))
     ⊎ Trusts root state old new (λ _. ⊤)
+
+-- why it fails: the root can't be read; the state couldn't be stored, or it was, or the root is
+-- refused, and the line wasn't written
+abbrev pub IsCauseOfFirst : List ℕ → List ℕ → World → World → Failure → Type 0
+IsCauseOfFirst root state old new Input = old.refuses root ≡ true
+IsCauseOfFirst root state old new Output =
+    (old.obstacles.fails state ≡ true)
+    ⊎ (Refuses root old (λ _. ⊤) ⊎ Trusts root state old new (λ _. ⊤))
+IsCauseOfFirst root state old new Memory = ⊤
+IsCauseOfFirst root state old new _ = ⊥

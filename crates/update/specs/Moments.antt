@@ -19,8 +19,8 @@ abbrev pub HasNoClock : (Option ℕ → Bool) → Type 0
 HasNoClock shows = (shows None ≡ true)
     ⊎ ((seconds : ℕ) × ((shows (Some seconds) ≡ true) × (2932896 < seconds / 86400)))
 
--- the failure where no moment is read: `Now` of a text that spells none, and without a text `Clock`,
--- of a clock that has none
+-- the failure where no moment is read: `Now` of a text that spells none, and without a text
+-- `Clock`, of a clock that has none
 abbrev pub IsNoMoment : (Option ℕ → Bool) → Option (List ℕ) → Failure → Type 0
 IsNoMoment shows (Some text) f = (f ≡ failure.Now) × (moment_of text ≡ None)
 IsNoMoment shows None f = (f ≡ failure.Clock) × HasNoClock shows

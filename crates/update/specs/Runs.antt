@@ -1,8 +1,7 @@
 -- A verification: what it begins with, its outcome, and what it stores and prints.
 use Rattle.std.specs.Bool.{⊤}
 use Rattle.std.specs.Io.KnownBytes.{Appends}
-use Rattle.std.specs.Prelude.{codes, IfSome, ◌≡◌, ◌⊎◌, ℕ, List, Bool, true, Option, String, Vec, Ok, map, option_map, string_bytes, [], ◌∷◌}
-use Rattle.std.specs.declared.alloc.Global.{Global}
+use Rattle.std.specs.Prelude.{IfSome, ◌≡◌, ◌⊎◌, ℕ, List, Bool, true, Option, Ok, map, option_map, string_bytes, [], ◌∷◌}
 use Rattle.rolechain.specs.Text.{state_of}
 use Rattle.rolechain.specs.Kept.{kept_of, kept_text}
 pub use Rattle.rolechain.specs.Advance.{State}
@@ -59,7 +58,8 @@ given_by Without locked free = free
 pub record Begins (settings : Settings) (old : World) (follows : program.Start → Type 0)
     : Type 0 where
   pub start : program.Start
-  pub is_start : IsStart settings (given_by settings.locking old.gives_locked old.gives) old.shows start
+  pub is_start : IsStart settings (given_by settings.locking old.gives_locked old.gives) old.shows
+      start
   pub then : follows start
 
 -- the paths that are given; or for every file, those of the names that the targets folder lists

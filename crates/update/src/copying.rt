@@ -2,8 +2,7 @@
 
 ghost use Rattle.std.specs.Prelude.{◌≡◌, ◌≢◌, ◌≤◌, ◌⊎◌, Err, IfErr, IfOk, OnErr, OnOk, false, true};
 ghost use Rattle.system.specs.Locks.{StaysLocked};
-ghost use Rattle.update.specs.Causes.{IsCauseFrom};
-ghost use Rattle.update.specs.Copies.{IsCauseToVerifyInto, is_blocked, may_be_copied};
+ghost use Rattle.update.specs.Copies.{IsCauseIntoFrom, IsCauseToVerifyInto, may_be_copied};
 ghost use Rattle.update.specs.Copies.{IsUntouchedOrBegun, IsUntouchedOrBegunFrom, OutsideKept};
 ghost use Rattle.update.specs.Copies.{IsVerifiedInto, IsVerifiedIntoFrom};
 ghost use Rattle.update.specs.World.{IsUntouched};
@@ -11,7 +10,7 @@ ghost use Rattle.update.specs.World.{IsUntouched};
 use crate::answer::tell_copied;
 use crate::following::Followed;
 use crate::host::{Folders, HasWorld, Host};
-use crate::installing::store_copies;
+use crate::installing::{Places, store_copies};
 use crate::start::{Locking, Start, Terms, Wanted, begin};
 use crate::state::keep_state;
 use copies::Destination;
@@ -52,19 +51,17 @@ impl<S: System, M: Folder, T: Folder, W: Write> Host<S, Folders<M, T>, W> {
         ensures paths { may_be_copied terms.now.wanted ≡ false → result ≡ Err Failure.Words }
         ensures locked { OnOk result (terms.now.settings.locking ≡ Locking.Needed
             → (⟦<Self as HasWorld>⟧.world self.new).locks terms.now.settings.state.now ≡ true) }
-        ensures verified { let into = D.place to.old in IfOk result (IsVerifiedInto terms.now into
-            (is_blocked (D.blocks to.new) (S.blocks self.new.system) into)
+        ensures verified { IfOk result (IsVerifiedInto terms.now (D.site to.old)
             (⟦<Self as HasWorld>⟧.world self.old) (⟦<Self as HasWorld>⟧.world self.new)) }
-        ensures order { let into = D.place to.old in OnErr result (IsUntouchedOrBegun terms.now into
-            (is_blocked (D.blocks to.new) (S.blocks self.new.system) into)
+        ensures order { OnErr result (IsUntouchedOrBegun terms.now (D.site to.old)
             (⟦<Self as HasWorld>⟧.world self.old) (⟦<Self as HasWorld>⟧.world self.new)) }
-        ensures others { OutsideKept (D.place to.old) terms.now.settings.out.now
+        ensures others { OutsideKept (D.site to.old).path terms.now.settings.out.now
             (⟦<Self as HasWorld>⟧.world self.old).keeps
             (⟦<Self as HasWorld>⟧.world self.new).keeps }
         ensures quiet { IfErr result (λ f. f ≢ Failure.Memory → f ≢ Failure.Output
             → IsUntouched
             (⟦<Self as HasWorld>⟧.world self.old) (⟦<Self as HasWorld>⟧.world self.new)) }
-        ensures cause { IfErr result (IsCauseToVerifyInto terms.now
+        ensures cause { IfErr result (IsCauseToVerifyInto terms.now (D.site to.old)
             (⟦<Self as HasWorld>⟧.world self.old) (⟦<Self as HasWorld>⟧.world self.new)) }
     {
         if !terms.wanted.may_be_copied() {
@@ -89,20 +86,18 @@ impl<S: System, M: Folder, T: Folder, W: Write> Host<S, Folders<M, T>, W> {
         ensures flushed { OnOk result (D.is_flushed to.new ≡ true) }
         ensures locked { StaysLocked (⟦<Self as HasWorld>⟧.world self.old).locks
             (⟦<Self as HasWorld>⟧.world self.new).locks }
-        ensures verified { let into = D.place to.old in IfOk result (IsVerifiedIntoFrom start.now
-            wanted.now into (is_blocked (D.blocks to.new) (S.blocks self.new.system) into)
+        ensures verified { IfOk result (IsVerifiedIntoFrom start.now wanted.now (D.site to.old)
             (⟦<Self as HasWorld>⟧.world self.old) (⟦<Self as HasWorld>⟧.world self.new)) }
-        ensures order { let into = D.place to.old in OnErr result (IsUntouchedOrBegunFrom start.now
-            wanted.now into (is_blocked (D.blocks to.new) (S.blocks self.new.system) into)
+        ensures order { OnErr result (IsUntouchedOrBegunFrom start.now wanted.now (D.site to.old)
             (⟦<Self as HasWorld>⟧.world self.old) (⟦<Self as HasWorld>⟧.world self.new)) }
-        ensures others { OutsideKept (D.place to.old) start.now.state.now
+        ensures others { OutsideKept (D.site to.old).path start.now.state.now
             (⟦<Self as HasWorld>⟧.world self.old).keeps
             (⟦<Self as HasWorld>⟧.world self.new).keeps }
         ensures quiet { IfErr result (λ f. f ≢ Failure.Memory → f ≢ Failure.Output
             → IsUntouched
             (⟦<Self as HasWorld>⟧.world self.old) (⟦<Self as HasWorld>⟧.world self.new)) }
-        ensures cause { IfErr result (IsCauseFrom (⟦<Self as HasWorld>⟧.world self.old).mirrors
-            (⟦<Self as HasWorld>⟧.world self.new).mirrors) }
+        ensures cause { IfErr result (IsCauseIntoFrom start.now wanted.now (D.site to.old)
+            (⟦<Self as HasWorld>⟧.world self.old) (⟦<Self as HasWorld>⟧.world self.new)) }
     {
         let alloc = start.alloc;
         let followed = self.folders.follow(threading, start, wanted)?;
@@ -115,15 +110,13 @@ impl<S: System, M: Folder, T: Folder, W: Write> Host<S, Folders<M, T>, W> {
         let Copied { outcome, copies } = copied;
         let paths = wanted.paths(listed.as_slice());
         keep_state(alloc, &mut self.system, start.state, outcome.trusted())?;
-        let stored = store_copies(
+        let (verdicts, copies) = (outcome.verdicts(), copies.as_slice());
+        let places = Places {
             alloc,
-            paths,
-            outcome.verdicts(),
-            copies.as_slice(),
-            &mut self.system,
-            start.state,
-            &*to,
-        )?;
+            to: &*to,
+            state: start.state,
+        };
+        let stored = store_copies(&places, paths, verdicts, copies, &mut self.system)?;
         flush(alloc, paths, stored.as_slice(), to)?;
         tell_copied(alloc, &outcome, paths, stored.as_slice(), &mut self.out)
     }
@@ -137,7 +130,7 @@ fn flush<D: Destination>(
     to: &mut D,
 ) -> Result<(), Failure>
     ensures flushed { OnOk result (D.is_flushed to.new ≡ true) }
-    ensures same_blocks { D.blocks to.new ≡ D.blocks to.old }
+    ensures same_site { D.site to.new ≡ D.site to.old }
     ensures refused { IfErr result (λ f. (f ≡ Failure.Memory) ⊎ (f ≡ Failure.Output)) }
 {
     match to.flush(alloc, paths, stored) {

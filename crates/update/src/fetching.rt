@@ -1,15 +1,16 @@
 //! The files that have to be fetched next.
 
 ghost use Rattle.std.specs.Prelude.{◌≡◌, ◌≢◌, ◌≤◌, IfErr, IfOk, OnOk};
-ghost use Rattle.update.specs.Causes.{IsCauseFrom, IsCauseToRead};
+ghost use Rattle.update.specs.Causes.{IsCauseToRead};
 ghost use Rattle.update.specs.Fetching as spec;
 ghost use Rattle.lookups.specs.Lookups.{request_of};
-ghost use Rattle.update.specs.Fetching.{AreAbsentIn};
+ghost use Rattle.update.specs.Fetching.{AreAbsentIn, IsCauseToList};
 ghost use Rattle.update.specs.Moments.{IsMomentOf};
 ghost use Rattle.update.specs.Runs.{IsRead};
 ghost use Rattle.update.specs.World.{IsUntouched};
 
 use crate::clock::moment;
+use crate::following::CACHED;
 use crate::host::{Folders, HasMirrors, HasWorld, Host};
 use crate::start::Opened;
 use crate::state::read_state;
@@ -80,11 +81,11 @@ impl<S: System, M: Folder, T: Folder, W: Write> Host<S, Folders<M, T>, W> {
             ≡ (⟦<Self as HasWorld>⟧.world self.old).keeps }
         ensures quiet { IfErr result (λ f. f ≢ Failure.Memory → f ≢ Failure.Output → IsUntouched
             (⟦<Self as HasWorld>⟧.world self.old) (⟦<Self as HasWorld>⟧.world self.new)) }
-        ensures cause { IfErr result (IsCauseFrom (⟦<Self as HasWorld>⟧.world self.old).mirrors
-            (⟦<Self as HasWorld>⟧.world self.new).mirrors) }
+        ensures cause { IfErr result (IsCauseToList
+            (⟦<Self as HasWorld>⟧.world self.old) (⟦<Self as HasWorld>⟧.world self.new)) }
     {
         let (trusted, moment) = started;
-        let mut keeper = Keeper::without_cache(alloc, trusted);
+        let mut keeper = Keeper::new(alloc, trusted, CACHED)?;
         let asked = Asked {
             alloc,
             moment,

@@ -20,6 +20,9 @@ use std::alloc::Global;
 use std::sync::Wait;
 use std::thread::Threads;
 
+/// Number of files of which the verdicts on signatures are cached from one course to the next.
+pub(crate) const CACHED: usize = 4096;
+
 /// A course, and the names of the target files; with the paths of these names, if every file is
 /// wanted.
 #[derive(Drop)]
@@ -27,6 +30,13 @@ pub struct Followed {
     pub(crate) course: Course,
     pub(crate) names: Vec<String>,
     pub(crate) listed: Vec<String>,
+}
+
+/// What was seen of the folders so far, and the keeper of the state that a course begins with.
+#[derive(Drop)]
+struct Begun {
+    opened: Opened,
+    keeper: Keeper,
 }
 
 impl<M: Folder, T: Folder> Folders<M, T> {
@@ -45,11 +55,16 @@ impl<M: Folder, T: Folder> Folders<M, T> {
         ensures cause { IfErr result (IsCauseToRead (⟦<Self as HasMirrors>⟧.mirrors self.old)
             (⟦<Self as HasMirrors>⟧.mirrors self.new)) }
     {
-        let mut opened = self.open(start.alloc)?;
-        let mut keeper = Keeper::without_cache(start.alloc, start.trusted.copy()?);
+        let opened = self.open(start.alloc)?;
+        let keeper = Keeper::new(start.alloc, start.trusted.copy()?, CACHED)?;
+        let mut begun = Begun { opened, keeper };
         let folder = &mut self.metadata;
-        let listed = listed_paths(start, wanted, folder, threading, &mut keeper, &mut opened)?;
+        let listed = listed_paths(start, wanted, folder, threading, &mut begun)?;
         let asked = asked_of(start, wanted.paths(listed.as_slice()));
+        let Begun {
+            mut opened,
+            mut keeper,
+        } = begun;
         let course = (opened.metadata).follow(folder, threading, &mut keeper, &asked)?;
         let Opened { names, .. } = opened;
         Ok(Followed {
@@ -83,16 +98,15 @@ fn listed_paths<F: Folder, R: Threads + Wait + Sync, N: Gate + Watch + Sync>(
     wanted: &Wanted,
     folder: &mut F,
     threading: &Threading<'_, R, N>,
-    keeper: &mut Keeper,
-    opened: &mut Opened,
+    begun: &mut Begun,
 ) -> Result<Vec<String>, Failure>
-    requires part { IsPart (F.gives folder.old) opened.old.metadata }
-    requires state { keeper.old ≡ start.now.trusted }
-    ensures part { OnOk result (IsPart (F.gives folder.old) opened.new.metadata) }
-    ensures names { opened.new.names ≡ opened.old.names }
-    ensures state { keeper.new ≡ keeper.old }
+    requires part { IsPart (F.gives folder.old) begun.old.opened.metadata }
+    requires state { begun.old.keeper ≡ start.now.trusted }
+    ensures part { OnOk result (IsPart (F.gives folder.old) begun.new.opened.metadata) }
+    ensures names { begun.new.opened.names ≡ begun.old.opened.names }
+    ensures state { begun.new.keeper ≡ begun.old.keeper }
     ensures paths { IfOk result (λ listed. AreListed (F.gives folder.old) start.now wanted.now
-        opened.new listed.items) }
+        begun.new.opened listed.items) }
     ensures same { IsSameFolder (F.gives folder.old) (F.gives folder.new) }
     ensures cause { IfErr result (IsCauseToEnd (F.gives folder.old) (F.gives folder.new)) }
 {
@@ -100,6 +114,7 @@ fn listed_paths<F: Folder, R: Threads + Wait + Sync, N: Gate + Watch + Sync>(
         Wanted::Paths(_) => Ok(Vec::new(start.alloc)),
         Wanted::Every => {
             let asked = asked_of(start, &[]);
+            let Begun { opened, keeper } = begun;
             let course = (opened.metadata).follow(folder, threading, keeper, &asked)?;
             let is_consistent = course.has_consistent_names();
             let names = opened.names.as_slice();

@@ -62,6 +62,7 @@ impl<S: System, F: HasMirrors, W: Write> HasWorld for Host<S, F, W> {
       locks = S.locks h.system;
       shows = S.shows h.system;
       keeps = S.keeps h.system;
+      obstacles = S.obstacles h.system;
       mirrors = F.mirrors h.folders;
       printed = W.contents h.out;
     } };

@@ -1,7 +1,7 @@
 //! The copies of good targets, stored for their paths.
 
 ghost use Rattle.std.specs.Prelude.{◌≡◌, ◌≢◌, ◌⊎◌, List, ℕ, Option, Some, false, true};
-ghost use Rattle.std.specs.Prelude.{IfErr, IfOk, IfSome, IsSomeAnd, OnErr, OnOk, length, map};
+ghost use Rattle.std.specs.Prelude.{IfErr, IfOk, IfSome, OnErr, OnOk, length, map};
 ghost use Rattle.std.specs.Prelude.{bytes_eq, if◌then◌else◌, string_bytes};
 ghost use Rattle.std.specs.BTreeSet.{contains_text};
 ghost use Rattle.std.specs.IoError.{error_kind};
@@ -12,8 +12,9 @@ ghost use Rattle.cycle.specs.Workflow.{Target};
 ghost use Rattle.folder.specs.Folders.{path_below};
 ghost use Rattle.system.specs.Blocked as blocked;
 ghost use Rattle.system.specs.Locks.{StaysLocked};
-ghost use Rattle.update.specs.Copies.{IsCopied, IsFlag, OutsideKept, is_blocked, is_free};
+ghost use Rattle.update.specs.Copies.{IsFlag, OutsideKept, is_blocked, is_free};
 ghost use Rattle.update.specs.Stored.{AreInstalled, AreSomeInstalled, DecidesOne, IsLentFor};
+ghost use Rattle.update.specs.Stored.{IsStoredAs, placing_of};
 
 use crate::placing::candidates;
 use copies::Destination;
@@ -31,6 +32,14 @@ struct Decided {
     refused: BTreeSet<String>,
 }
 
+/// Where copies are put: a folder for them, and the place of the state, which no copy takes.
+#[derive(Drop)]
+pub struct Places<'a, D> {
+    pub alloc: Global,
+    pub to: &'a D,
+    pub state: &'a str,
+}
+
 /// Stores the copies of the wanted paths whose verdict is good, in order, and returns for each
 /// wanted path, by position, whether its copy was stored; a path that is wanted twice is stored
 /// once. None is stored for a path that isn't one below the folder, that is a folder of another one
@@ -39,40 +48,36 @@ struct Decided {
 /// Fails with `Output` if a copy can't be written for another cause, or if out of memory; then the
 /// copies before it were stored.
 pub(crate) fn store_copies<S: System, D: Destination>(
-    alloc: Global,
+    places: &Places<'_, D>,
     wanted: &[String],
     verdicts: &[Verdict],
     copies: &[Option<D::Temporary>],
     system: &mut S,
-    state: &str,
-    to: &D,
 ) -> Result<Vec<bool>, Failure>
     ensures by_position { IfOk result (λ stored. length stored.items ≡ length wanted.now) }
-    ensures stored { let into = D.place to.now in IfOk result (λ stored.
-        AreInstalled D.Temporary.wrote copies.now into state.now
-        (is_blocked (D.blocks to.now) (S.blocks system.old) into) (map string_bytes wanted.now)
+    ensures stored { IfOk result (λ stored. AreInstalled D.Temporary.wrote copies.now
+        (placing_of D.site places.now (S.obstacles system.old)) (map string_bytes wanted.now)
         verdicts.now (S.keeps system.old) (S.keeps system.new) stored.items) }
-    ensures begun { let into = D.place to.now in OnErr result
-        (AreSomeInstalled D.Temporary.wrote copies.now into state.now
-        (is_blocked (D.blocks to.now) (S.blocks system.old) into) (map string_bytes wanted.now)
+    ensures begun { OnErr result (AreSomeInstalled D.Temporary.wrote copies.now
+        (placing_of D.site places.now (S.obstacles system.old)) (map string_bytes wanted.now)
         verdicts.now (S.keeps system.old) (S.keeps system.new)) }
-    ensures spared { IsSameAt state.now (S.keeps system.old) (S.keeps system.new) }
-    ensures outside { OutsideKept (D.place to.now) state.now
+    ensures spared { IsSameAt places.now.state.now (S.keeps system.old) (S.keeps system.new) }
+    ensures outside { OutsideKept (D.site places.now.to.now).path places.now.state.now
         (S.keeps system.old) (S.keeps system.new) }
-    ensures same_blocks { S.blocks system.new ≡ S.blocks system.old }
+    ensures same_obstacles { S.obstacles system.new ≡ S.obstacles system.old }
     ensures locked { StaysLocked (S.locks system.old) (S.locks system.new) }
     ensures refused { IfErr result (λ f. (f ≡ Failure.Memory) ⊎ (f ≡ Failure.Output)) }
 {
-    let mut flags = candidates(alloc, wanted, verdicts)?;
+    let mut flags = candidates(places.alloc, wanted, verdicts)?;
     let mut decided = Decided {
-        stored: BTreeSet::new(alloc),
-        refused: BTreeSet::new(alloc),
+        stored: BTreeSet::new(places.alloc),
+        refused: BTreeSet::new(places.alloc),
     };
     for i in 0..wanted.len() {
         if flags[i] {
             let copy = copy_at(copies, i);
             let path = wanted[i].as_str();
-            flags[i] = store_copy(alloc, path, copy, &mut decided, system, state, to)?;
+            flags[i] = store_copy(places, path, copy, &mut decided, system)?;
         }
     }
     Ok(flags)
@@ -88,32 +93,30 @@ fn copy_at<K>(copies: &[Option<K>], i: usize) -> Option<&K>
 /// Stores the copy for the path, unless that was decided before, and returns whether it was stored.
 /// Fails with `Output` if there is none.
 fn store_copy<S: System, D: Destination>(
-    alloc: Global,
+    places: &Places<'_, D>,
     path: &str,
     copy: Option<&D::Temporary>,
     decided: &mut Decided,
     system: &mut S,
-    state: &str,
-    to: &D,
 ) -> Result<bool, Failure>
     requires below { spec.is_below path.now ≡ true }
-    ensures decided { let into = D.place to.now in IfOk result (DecidesOne
-        (is_free into state.now) (is_blocked (D.blocks to.now) (S.blocks system.old) into)
+    ensures decided { IfOk result (DecidesOne
+        (placing_of D.site places.now (S.obstacles system.old))
         decided.old decided.new path.now) }
     ensures copied { (t : Option Target) → IsLentFor D.Temporary.wrote copy.entry t
-        → contains_text decided.old.stored path.now ≡ false
-        → IfOk result (λ is_stored. is_stored ≡ true
-        → IsSomeAnd t (IsCopied (D.place to.now) (S.keeps system.new) path.now)) }
+        → contains_text decided.old.stored path.now ≡ false → IfOk result
+        (IsStoredAs (D.site places.now.to.now).path (S.keeps system.new) path.now t) }
     ensures again { contains_text decided.old.stored path.now ≡ true
         → OnOk result (S.keeps system.new ≡ S.keeps system.old) }
     ensures not_stored { IfOk result (λ is_stored. is_stored ≡ false
         → S.keeps system.new ≡ S.keeps system.old) }
-    ensures others { OnOk result ((other : List ℕ) → other ≢ path_below (D.place to.now) path.now
+    ensures others { OnOk result ((other : List ℕ)
+        → other ≢ path_below (D.site places.now.to.now).path path.now
         → IsSameAt other (S.keeps system.old) (S.keeps system.new)) }
-    ensures spared { IsSameAt state.now (S.keeps system.old) (S.keeps system.new) }
-    ensures outside { OutsideKept (D.place to.now) state.now
+    ensures spared { IsSameAt places.now.state.now (S.keeps system.old) (S.keeps system.new) }
+    ensures outside { OutsideKept (D.site places.now.to.now).path places.now.state.now
         (S.keeps system.old) (S.keeps system.new) }
-    ensures same_blocks { S.blocks system.new ≡ S.blocks system.old }
+    ensures same_obstacles { S.obstacles system.new ≡ S.obstacles system.old }
     ensures locked { StaysLocked (S.locks system.old) (S.locks system.new) }
     ensures unchanged { OnErr result (S.keeps system.new ≡ S.keeps system.old) }
     ensures refused { IfErr result (λ f. (f ≡ Failure.Memory) ⊎ (f ≡ Failure.Output)) }
@@ -127,46 +130,44 @@ fn store_copy<S: System, D: Destination>(
     let Some(file) = copy else {
         return Err(Failure::Output);
     };
-    add_path(alloc, &mut decided.stored, path)?;
-    if install(alloc, path, file, system, state, to)? {
+    add_path(places.alloc, &mut decided.stored, path)?;
+    if install(places, path, file, system)? {
         return Ok(true);
     }
     drop_path(&mut decided.stored, path);
-    add_path(alloc, &mut decided.refused, path)?;
+    add_path(places.alloc, &mut decided.refused, path)?;
     Ok(false)
 }
 
 /// Stores the copy at the place of its path, and returns whether it could: the place isn't the
 /// state's, and the system puts a file there.
 fn install<S: System, D: Destination>(
-    alloc: Global,
+    places: &Places<'_, D>,
     path: &str,
     file: &D::Temporary,
     system: &mut S,
-    state: &str,
-    to: &D,
 ) -> Result<bool, Failure>
     requires below { spec.is_below path.now ≡ true }
-    ensures decided { let into = D.place to.now in IfOk result (IsFlag (is_free into state.now)
-        (is_blocked (D.blocks to.now) (S.blocks system.old) into) path.now) }
+    ensures decided { let p = placing_of D.site places.now (S.obstacles system.old) in
+        IfOk result (IsFlag (is_free p.site.path p.state) (is_blocked p) path.now) }
     ensures stored { IfOk result (λ is_stored. is_stored ≡ true
         → (bytes : List ℕ) → D.Temporary.wrote file.now bytes ≡ true
-        → S.keeps system.new (path_below (D.place to.now) path.now) bytes ≡ true) }
+        → S.keeps system.new (path_below (D.site places.now.to.now).path path.now) bytes ≡ true) }
     ensures not_stored { IfOk result (λ is_stored. is_stored ≡ false
         → S.keeps system.new ≡ S.keeps system.old) }
-    ensures others { (other : List ℕ) → other ≢ path_below (D.place to.now) path.now
+    ensures others { (other : List ℕ) → other ≢ path_below (D.site places.now.to.now).path path.now
         → IsSameAt other (S.keeps system.old) (S.keeps system.new) }
-    ensures spared { IsSameAt state.now (S.keeps system.old) (S.keeps system.new) }
-    ensures same_blocks { S.blocks system.new ≡ S.blocks system.old }
+    ensures spared { IsSameAt places.now.state.now (S.keeps system.old) (S.keeps system.new) }
+    ensures same_obstacles { S.obstacles system.new ≡ S.obstacles system.old }
     ensures unchanged { OnErr result (S.keeps system.new ≡ S.keeps system.old) }
     ensures locked { StaysLocked (S.locks system.old) (S.locks system.new) }
     ensures refused { IfErr result (λ f. (f ≡ Failure.Memory) ⊎ (f ≡ Failure.Output)) }
 {
-    let place = match to.place_for(alloc, path) {
+    let place = match places.to.place_for(places.alloc, path) {
         Ok(place) => place,
         Err(error) => return refused_by(&error),
     };
-    if place.as_str() == state {
+    if place.as_str() == places.state {
         return Ok(false);
     }
     match system.install(file, place.as_str()) {

@@ -3,11 +3,11 @@
 ghost use Rattle.std.specs.Prelude.{◌≡◌, ◌≢◌, ◌≤◌, ◌⊎◌, true, IfErr, IfOk, OnOk, map};
 ghost use Rattle.std.specs.Prelude.{string_bytes};
 ghost use Rattle.std.specs.List.{AllZip};
-ghost use Rattle.update.specs.Causes.{IsCauseToBegin, IsCauseToRead, IsNoState};
+ghost use Rattle.update.specs.Causes.{IsCauseToRead, IsCauseToStart, IsNoState};
 ghost use Rattle.update.specs.Copies as spec;
 ghost use Rattle.update.specs.Opened.{paths_from};
 ghost use Rattle.lookups.specs.Lookups.{IsPart};
-ghost use Rattle.update.specs.Runs.{IsRead, IsStart, given_by, moment_text};
+ghost use Rattle.update.specs.Runs.{IsRead, IsStart, given_by};
 ghost use Rattle.update.specs.Same.{IsSame};
 
 use crate::clock::moment;
@@ -120,10 +120,10 @@ pub fn begin<'a, S: System>(
     ensures locked { OnOk result (settings.now.locking ≡ Locking.Needed
         → S.locks system.new settings.now.state.now ≡ true) }
     ensures kept { S.keeps system.new ≡ S.keeps system.old }
-    ensures cause { IfErr result (IsCauseToBegin (moment_text settings.now) (S.shows system.old)
-        (given_by settings.now.locking (S.gives_locked system.old) (S.gives system.old)
-        settings.now.state.now)
-        (S.refuses system.old settings.now.state.now)) }
+    ensures same_obstacles { S.obstacles system.new ≡ S.obstacles system.old }
+    ensures cause { IfErr result (IsCauseToStart settings.now (S.shows system.old)
+        (given_by settings.now.locking (S.gives_locked system.old) (S.gives system.old))
+        (S.refuses system.old)) }
 {
     let moment = moment(system, settings.moment)?;
     Ok(Start {
@@ -147,6 +147,7 @@ fn first_state<S: System>(
     ensures locked { OnOk result (settings.now.locking ≡ Locking.Needed
         → S.locks system.new settings.now.state.now ≡ true) }
     ensures kept { S.keeps system.new ≡ S.keeps system.old }
+    ensures same_obstacles { S.obstacles system.new ≡ S.obstacles system.old }
     ensures refused { IfErr result (λ f. (f ≡ Failure.Memory) ⊎ (f ≡ Failure.State)) }
     ensures cause { IfErr result (λ f. f ≢ Failure.Memory
         → IsNoState (given_by settings.now.locking (S.gives_locked system.old)

@@ -47,7 +47,7 @@ impl<S: System, M: Folder, T: Folder + Sync, W: Write> Host<S, Folders<M, T>, W>
             (⟦<Self as HasWorld>⟧.world self.new).keeps }
         ensures quiet { IfErr result (λ f. f ≢ Failure.Memory → f ≢ Failure.Output → IsUntouched
             (⟦<Self as HasWorld>⟧.world self.old) (⟦<Self as HasWorld>⟧.world self.new)) }
-        ensures cause { IfErr result (IsCause terms.now.settings
+        ensures cause { IfErr result (IsCause terms.now
             (⟦<Self as HasWorld>⟧.world self.old) (⟦<Self as HasWorld>⟧.world self.new)) }
     {
         let start = begin(alloc, &mut self.system, &terms.settings)?;
@@ -58,8 +58,8 @@ impl<S: System, M: Folder, T: Folder + Sync, W: Write> Host<S, Folders<M, T>, W>
     /// the status: 2 if the update stopped, else 1 if some target is refused, else 0. Prints
     /// nothing before the state is stored.
     ///
-    /// Of the metadata folder, files whose names end in `.json` are loaded, at most 5,000,001 bytes
-    /// of each. Of the target folder the names are listed. After the searches each target file that
+    /// Of the metadata folder, files whose names end in `.json` are read when they are looked up, at
+    /// most 5,000,001 bytes of each. Of the target folder the names are listed. After the searches each target file that
     /// they found is read once, in pieces, no further than the greatest length that is listed of it
     /// and one byte, by `start.workers` threads. Status, lines and state are those of the workflow
     /// for all files of which the same was seen, whatever else they have.
@@ -85,8 +85,8 @@ impl<S: System, M: Folder, T: Folder + Sync, W: Write> Host<S, Folders<M, T>, W>
             (⟦<Self as HasWorld>⟧.world self.new).keeps }
         ensures quiet { IfErr result (λ f. f ≢ Failure.Memory → f ≢ Failure.Output → IsUntouched
             (⟦<Self as HasWorld>⟧.world self.old) (⟦<Self as HasWorld>⟧.world self.new)) }
-        ensures cause { IfErr result (IsCauseFrom (⟦<Self as HasWorld>⟧.world self.old).mirrors
-            (⟦<Self as HasWorld>⟧.world self.new).mirrors) }
+        ensures cause { IfErr result (IsCauseFrom start.now wanted.now
+            (⟦<Self as HasWorld>⟧.world self.old) (⟦<Self as HasWorld>⟧.world self.new)) }
     {
         let alloc = start.alloc;
         let followed = self.folders.follow(threading, start, wanted)?;

@@ -64,14 +64,14 @@ EXAMPLES:
 
 EXIT STATUS:
   0  all wanted targets were accepted
-  1  some wanted target was refused
+  1  some wanted target was refused, or can have no copy
   2  the update stopped
   3  the command line, a listed path, the moment or the state file was refused
   4  the file of paths, a folder, the clock, the output or memory failed";
 
 /// The end of the help of `replay`.
 pub const REPLAY_END: &str = "\
-Each DIR is a repository, with the folders `metadata` and `targets`. All are read first. Then each
+Each DIR is a repository, with the folders `metadata` and `targets`. All are listed first. Then each
 is verified in order, from the state of the one before and at one moment. It writes the last state,
 even if an update stopped, and then prints for each DIR, from 1,
   cycle K
@@ -93,10 +93,11 @@ EXIT STATUS:
 /// The end of the help of `next`.
 pub const NEXT_END: &str = "\
 It prints, in the order of `verify`, a line for each file that `verify` would look up and not find,
-  maybe NAME MOST         the next root, which may be absent for good
+  maybe NAME MOST         a file that may be absent for good: the next root, or that of a target
+                          under a name that isn't its last
   need NAME MOST          any other file
 with the most bytes that the file may have. Names of metadata files come first, and then those of
-target files. Each name comes once. It stores nothing, and reads no target file.
+target files. Each line comes once. It stores nothing, and reads no target file.
 Fetch the files of new lines, and run it again, until no line is new. Then run `verify`.
 --progress prints the same lines to standard error as for `verify`.
 

@@ -27,7 +27,7 @@ loop-search-preserved g c =
           (one_copy_more g.D.Temporary.Temporary.wrote c.loop-search.copies.items c.args.course.now.searches c.loop-search.search-index c.in_ok-copy.copy c.search-item.result
           within is was.copies c.in_ok-copy.ensures.copy);
       same = same_trans _ _ _ was.same c.in_ok-copy.ensures.same;
-      same_place = c.in_ok-copy.ensures.same_place ∙ was.same_place;
+      same_site = c.in_ok-copy.ensures.same_site ∙ was.same_site;
     }
 
 pub returns-clause-copies : goal.returns-clause-copies

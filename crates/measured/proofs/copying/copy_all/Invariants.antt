@@ -12,5 +12,5 @@ invariant-loop-search g l = record {
       → IsKnown names (g.F.Folder.gives l.initial.folder).holds (is_found l.course.trusted.root.reading.consistent l.course.searches) l.known;
   copies : AreCopiesFor g.D.Temporary.Temporary.wrote l.copies.items (take l.search-index l.course.searches);
   same : IsSameFolder (g.F.Folder.gives l.initial.folder) (g.F.Folder.gives l.folder);
-  same_place : g.D.Destination.place l.to ≡ g.D.Destination.place l.initial.to;
+  same_site : g.D.Destination.site l.to ≡ g.D.Destination.site l.initial.to;
 }

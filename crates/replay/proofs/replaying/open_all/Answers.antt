@@ -1,7 +1,8 @@
 use Rattle.std.proofs.Common.{[], refl, rules, subst, sym, take}
 use Rattle.std.specs.List.{AllZip}
 use Rattle.update.specs.Opened.{IsOpened}
-use Rattle.replay.proofs.Causing.{carried, same_read}
+use Rattle.replay.proofs.Causing.{same_read}
+use Rattle.update.proofs.Ending.{carried}
 use Rattle.replay.proofs.Places.{open_more, same_all, same_length, same_then}
 use Rattle.replay.proofs.replaying.open_all.Goals as goal
 

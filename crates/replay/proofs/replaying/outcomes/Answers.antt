@@ -1,7 +1,8 @@
 use Rattle.std.proofs.Common.{◌≡◌, ◌<◌, ◌∙◌, ◌++◌, ◌∷◌, [], ap, arith, length, map, refl, rules, string_bytes, subst, sym}
 use Rattle.std.specs.Vec.Iter.{into_iter_items}
 use Rattle.replay.specs.Cycles.{AreOutcomesOn, first_of}
-use Rattle.replay.proofs.Causing.{carried, same_read}
+use Rattle.replay.proofs.Causing.{same_read}
+use Rattle.update.proofs.Ending.{carried}
 use Rattle.replay.proofs.Cycling.{counted_more, cycle_more, none_yet, outcome_before, state_more}
 use Rattle.replay.proofs.Places.{all_done, same_all, none_left, same_then, set_cause, set_same, turn, turn_below}
 use Rattle.lookups.proofs.Reading.{part_still}

@@ -1,12 +1,12 @@
-use Rattle.std.proofs.Common.{◌≡◌, ◌∙◌, IfOk, inr, map, rules, string_bytes, subst, true}
+use Rattle.std.proofs.Common.{◌≡◌, ◌∙◌, IfOk, inl, inr, map, rules, string_bytes, subst, true}
 use Rattle.std.specs.Bool.{⊤}
 use Rattle.replay.specs.Cycles.{ArePrinted}
 use Rattle.update.specs.Runs.{state_text}
 use Rattle.update.proofs.Beginning.{begins, begins_ok}
-use Rattle.replay.proofs.Causing.{carried, read_from, same_read}
+use Rattle.replay.proofs.Causing.{read_err, same_read}
 use Rattle.replay.proofs.Cycling.{outcomes_before, printed_all, replayed, replayed_printed}
 use Rattle.replay.proofs.Places.{all_opened_after}
-use Rattle.update.proofs.Ending.{ok_if}
+use Rattle.update.proofs.Ending.{ok_if, wrote}
 use Rattle.update.proofs.Storing.{after_failure}
 use Rattle.replay.proofs.replaying.replay.Goals as goal
 
@@ -16,9 +16,8 @@ outcomes-requires-clause-opened g c κs within = all_opened_after _ _ c.in_ok-op
 pub returns-in_err-outcomes-clause-cause : goal.returns-in_err-outcomes-clause-cause
 returns-in_err-outcomes-clause-cause g c =
     let f = c.in_err-outcomes.field-0.0 in
-    carried _ c.from_residual-in_err-outcomes.result f (search rules)
-    (inr (begins c.args.cycles.now.settings _ c.in_ok-start.start c.in_ok-start.ensures.start _
-    (read_from _ _ f (same_read _ _ _ f c.in_ok-opened.ensures.same c.in_err-outcomes.ensures.cause))))
+    read_err _ c.from_residual-in_err-outcomes.result f _ _ (search rules) (same_read _ _ _ f c.in_ok-opened.ensures.same c.in_err-outcomes.ensures.cause)
+    (λ failed. inr (begins c.args.cycles.now.settings _ c.in_ok-start.start c.in_ok-start.ensures.start _ failed)) (inl tt)
 
 pub returns-clause-replayed : goal.returns-clause-replayed
 returns-clause-replayed g c =
@@ -45,3 +44,13 @@ returns-clause-order g c =
 
 pub returns-clause-locked : goal.returns-clause-locked
 returns-clause-locked g c = ok_if c.tell_cycles.result (λ needed. c.in_ok-keep_state.ensures.locked _ (c.in_ok-start.ensures.locked needed))
+
+pub returns-clause-cause : goal.returns-clause-cause
+returns-clause-cause g c =
+    let s = c.in_ok-start.start in
+    wrote _ c.tell_cycles.result c.tell_cycles.ensures.refused (inl tt)
+    (inr (begins c.args.cycles.now.settings _ s c.in_ok-start.ensures.start _ (inr
+    (replayed _ s c.as_slice.result.now c.args.cycles.now.wanted.items (g.S.System.keeps c.keep_state.new.system s.state.now) c.in_ok-outcomes.outcomes.items c.as_slice.ensures.value
+    (outcomes_before _ _ _ c.in_ok-outcomes.outcomes.items c.in_ok-opened.ensures.same c.in_ok-outcomes.ensures.outcomes)
+    (subst (λ t. g.S.System.keeps c.keep_state.new.system s.state.now (state_text t) ≡ true) (c.trusted.ensures.value ∙ c.in_ok-outcomes.ensures.state) c.in_ok-keep_state.ensures.kept)
+    (λ _. ⊤) tt))))

@@ -1,10 +1,10 @@
-use Rattle.std.proofs.Common.{◌≡◌, ◌≤◌, ◌∙◌, ◌&&◌, ◌+◌, List, ℕ, Some, ap, arith, length, map, string_bytes, subst, sym}
+use Rattle.std.proofs.Common.{◌≡◌, ◌∙◌, ◌&&◌, ◌+◌, List, ℕ, Some, ap, arith, length, map, string_bytes, subst, sym}
 use Rattle.std.proofs.lemmas.List.{length-map}
 use Rattle.std.specs.List.{slice_get}
 use Rattle.update.specs.Copies.{is_good_at, may_have_copy}
 use Rattle.update.specs.Stored.{lent_texts}
 use Rattle.update.proofs.Copied.{path_at}
-use Rattle.update.proofs.Placeable.{AreFirstCandidates, all_candidates, no_candidates, one_candidate, same_places}
+use Rattle.update.proofs.Placeable.{AreFirstCandidates, all_candidates, one_candidate, same_places}
 use Rattle.update.proofs.placing.candidates.Goals as goal
 
 pub loop-i-preserved : goal.loop-i-preserved

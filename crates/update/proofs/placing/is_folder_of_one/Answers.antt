@@ -1,4 +1,4 @@
-use Rattle.std.proofs.Common.{◌≡◌, ◌∙◌, ◌++◌, ◌∷◌, [], List, ℕ, sym, ap, subst, true, false}
+use Rattle.std.proofs.Common.{◌≡◌, ◌∙◌, ◌++◌, ◌∷◌, [], List, ℕ, ap, subst, true, false}
 use Rattle.std.specs.List.Sorted.{IsPartitionPoint}
 use Rattle.update.specs.Stored.{is_before, lent_texts, begins_at}
 use Rattle.update.proofs.Search.{is_found}

@@ -17,8 +17,8 @@ returns-clause-order g c =
     then_err c.verify_into_from-done.result (⊎_elim
     (λ untouched. inl (untouched.0 ∙ c.in_ok-start.ensures.kept, untouched.1))
     (λ begun. inr (begins terms.settings _ start c.in_ok-start.ensures.start _
-    (begun_as mirrors start terms.wanted (g.S.System.keeps ended start.state.now) (g.D.Destination.place c.args.to.now) start.state.now terms.settings.out.now
-    (g.D.Destination.blocks c.verify_into_from-done.new.to) (g.D.Destination.blocks c.clear.new.self) (g.S.System.blocks ended)
+    (begun_as mirrors start terms.wanted (g.S.System.keeps ended start.state.now) (g.D.Destination.site c.args.to.now)
+    (g.S.System.obstacles c.args.self.now.system) (g.S.System.obstacles c.begin.new.system) terms.settings.out.now
     (g.S.System.keeps c.begin.new.system) (g.S.System.keeps c.args.self.now.system) (g.S.System.keeps ended)
-    c.in_ok-start.ensures.start.place c.clear.ensures.same_blocks c.in_ok-start.ensures.kept begun))))
+    c.in_ok-start.ensures.start.place c.in_ok-start.ensures.same_obstacles c.in_ok-start.ensures.kept begun))))
     c.verify_into_from-done.ensures.order

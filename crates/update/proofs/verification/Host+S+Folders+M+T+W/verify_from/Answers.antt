@@ -1,7 +1,7 @@
 use Rattle.std.proofs.Common.{◌∙◌, ap, inr}
 use Rattle.std.specs.Bool.{⊤}
 use Rattle.update.specs.Opened.{paths_from}
-use Rattle.update.proofs.Ending.{stored, stored_printed}
+use Rattle.update.proofs.Ending.{stored, stored_printed, wrote}
 use Rattle.update.proofs.Storing.{after_failure}
 use Rattle.update.proofs.verification.Host+S+Folders+M+T+W.verify_from.Goals as goal
 
@@ -14,5 +14,11 @@ returns-clause-verified g c =
 pub returns-clause-order : goal.returns-clause-order
 returns-clause-order g c =
     after_failure c.tell_outcome.result
+    (inr (stored _ _ c.args.start.now c.args.wanted.now c.in_ok-followed.followed c.in_ok-outcome.outcome _ c.trusted.result.now
+    c.in_ok-followed.ensures.followed c.in_ok-followed.ensures.same.0 c.in_ok-outcome.ensures.outcome c.trusted.ensures.value c.in_ok-keep_state.ensures.kept (λ _ _ _. ⊤) tt))
+
+pub returns-clause-cause : goal.returns-clause-cause
+returns-clause-cause g c =
+    wrote _ c.tell_outcome.result c.tell_outcome.ensures.refused tt
     (inr (stored _ _ c.args.start.now c.args.wanted.now c.in_ok-followed.followed c.in_ok-outcome.outcome _ c.trusted.result.now
     c.in_ok-followed.ensures.followed c.in_ok-followed.ensures.same.0 c.in_ok-outcome.ensures.outcome c.trusted.ensures.value c.in_ok-keep_state.ensures.kept (λ _ _ _. ⊤) tt))
