@@ -1,5 +1,5 @@
-"""Makes metadata files with LMS signatures (TUF 1.0 section 4, RFC 8554), for the scripts beside it. It shares no code with
-the crates."""
+"""Makes metadata files with LMS signatures (TUF 1.0 section 4, RFC 8554), for the scripts of the folders beside it. It
+shares no code with the crates."""
 import hashlib
 import json
 import os

@@ -2,8 +2,8 @@
 # Tries the faulty bodies checks/bodies/CRATE/*.edit: each must be refused by the contract of the function that it edits,
 # and one of the gate by a contract of its crate.
 #
-#   checks/bodies.sh [CRATE..]           every crate that has such edits, unless some are named
-#   checks/bodies.sh --gate [CRATE..]    the gate's own edits, crates/CRATE/must-fail/*.edit
+#   checks/gate/bodies.sh [CRATE..]           every crate that has such edits, unless some are named
+#   checks/gate/bodies.sh --gate [CRATE..]    the gate's own edits, crates/CRATE/must-fail/*.edit
 #
 # They have the form of must-fail edits, and still show something, but the gate, which checks a crate again for each
 # edit, has no minutes for them. Here edits of different functions are made together in a copy of the repository, and one
@@ -17,8 +17,8 @@
 # only by an answer in proofs/ that names what it took away, which the gate counts as refused). One check of 21 edits of
 # cjson took four minutes on four busy cores; the gate tries as many in about ten.
 set -u
-top=$(cd "$(dirname "$0")/.." && pwd) || exit 2
+top=$(cd "$(dirname "$0")/../.." && pwd) || exit 2
 work=$(mktemp -d) || exit 2
 trap 'rm -rf "$work"' EXIT
 cp -a "$top" "$work/copy" || exit 2
-python3 "$top/checks/bodies.py" "$top" "$work/copy" "$@"
+python3 "$top/checks/gate/bodies.py" "$top" "$work/copy" "$@"

@@ -2,7 +2,7 @@
 # Checks that the trusted state is never lost, however storing it ends: with `--state s --out s` the file `s` is at each
 # moment the old state or the new one, whole.
 #
-#   checks/places.sh [KILLS]      500 unless given
+#   checks/faults/places.sh [KILLS]      500 unless given
 #
 # First each call that opens, writes, syncs, renames or changes the mode of a file fails in turn (for N from 1 on
 # the Nth call of a run fails with "no space left"): the run must print its failure and leave the old state or the new one,
@@ -11,7 +11,7 @@
 # calls. `rt run` in crates/tufcheck proves and builds the program, once, unless PROGRAM in the environment names another.
 set -u
 kills=${1:-500}
-top=$(cd "$(dirname "$0")/.." && pwd) || exit 2
+top=$(cd "$(dirname "$0")/../.." && pwd) || exit 2
 work=$(mktemp -d) || exit 2
 trap 'umount "$work/small" 2> /dev/null; rm -rf "$work"' EXIT
 

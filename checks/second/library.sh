@@ -1,7 +1,7 @@
 #!/bin/bash
 # Compares the C library with the header, with the program and with itself.
 #
-#   checks/library.sh [COUNT]      1,000 histories unless given
+#   checks/second/library.sh [COUNT]      1,000 histories unless given
 #
 # `rt lib` in crates/tufcheck_c proves and builds the library, and `rt run` in crates/tufcheck the program; LIBRARY and
 # PROGRAM in the environment name others. It needs cc and binutils. What is here of the rest is tried too: g++, pkg-config,
@@ -21,11 +21,11 @@
 set -u
 export LC_ALL=C
 count=${1:-1000}
-top=$(cd "$(dirname "$0")/.." && pwd) || exit 2
+top=$(cd "$(dirname "$0")/../.." && pwd) || exit 2
 library=${LIBRARY:-$top/crates/tufcheck_c/out/libtufcheck_c.a} program=$(realpath "${PROGRAM:-$top/crates/tufcheck/out/tufcheck}")
 work=$(mktemp -d) || exit 2
 trap 'rm -rf "$work"' EXIT
-here=$top/checks/library now=1767225600 failed=0
+here=$top/checks/second/library now=1767225600 failed=0
 
 # done STATUS WHAT: a line for a thing that was tried, with what it printed if it failed
 done_() {
@@ -46,7 +46,7 @@ has() {
 [ -f "$library" ] || { echo "no library at $library: \`rt lib\` in crates/tufcheck_c builds it"; exit 2; }
 [ -x "$program" ] || { echo "no program at $program: \`rt run\` in crates/tufcheck builds it"; exit 2; }
 "$top/bindings/link.sh" "$work/lib" "$library" > "$work/names" 2> "$work/seen" || { cat "$work/seen"; exit 2; }
-export TUFCHECK_LIBRARY=$work/lib/libtufcheck.so.1 PYTHONPATH=$top/bindings/python:$top/checks PYTHONDONTWRITEBYTECODE=1
+export TUFCHECK_LIBRARY=$work/lib/libtufcheck.so.1 PYTHONPATH=$top/bindings/python:$top/checks:$top/checks/second PYTHONDONTWRITEBYTECODE=1
 
 # 1. Names.
 {

@@ -1,12 +1,12 @@
 #!/usr/bin/env python3
 """Prints which functions took longest to prove.
 
-    checks/proof-times.py CRATE [LINES]     the longest, 20 unless given
+    checks/gate/proof-times.py CRATE [LINES]     the longest, 20 unless given
 
 It reads when the files of crates/CRATE/out/incremental were written, which a check leaves there, and takes the time from one
 file to the next for that of the later. So it shows something only after a check that wrote all of them on one core:
 
-    rm -rf crates/CRATE/out/incremental && rt check CRATE && checks/proof-times.py CRATE
+    rm -rf crates/CRATE/out/incremental && rt check CRATE && checks/gate/proof-times.py CRATE
 
 `Lts` is the lifetimes of a function, which has each drop of a value on each way out; `Proof` and `Tie` for what its
 clauses need. Other work on the machine lengthens all of them.
@@ -15,7 +15,7 @@ import pathlib
 import re
 import sys
 
-TOP = pathlib.Path(__file__).resolve().parent.parent
+TOP = pathlib.Path(__file__).resolve().parents[2]
 NAME = re.compile(r"Rattle-\w+?-(?:specs|proofs)\.(.+?)(?:\.decls)?\.oantt$")
 
 

@@ -1,7 +1,7 @@
 #!/bin/bash
 # Makes one allocation of each run of the program fail: for N from FIRST on, in steps of STEP, the Nth allocation.
 #
-#   checks/allocations.sh [FIRST [LAST [STEP]]]      1, 100000 and 1 unless given
+#   checks/faults/allocations.sh [FIRST [LAST [STEP]]]      1, 100000 and 1 unless given
 #
 # A run in which it fails must print `tufcheck: memory` alone, on standard error, and end with status 4, or else print all
 # that it prints with ample memory and end with that status (a sort without its buffer continues, and so does a run with
@@ -19,7 +19,7 @@
 # --fail-alloc N` has the same results, and builds the program for each N, which takes a minute or two.)
 set -u
 first=${1:-1} last=${2:-100000} step=${3:-1}
-top=$(cd "$(dirname "$0")/.." && pwd) || exit 2
+top=$(cd "$(dirname "$0")/../.." && pwd) || exit 2
 work=$(mktemp -d) || exit 2
 trap 'rm -rf "$work"' EXIT
 

@@ -1,7 +1,7 @@
 #!/usr/bin/env python3
 """Runs the merge gate and then prints where its time went.
 
-    checks/gate-times.py [LOG [WORD..]]
+    checks/gate/gate-times.py [LOG [WORD..]]
 
 What the gate prints goes to LOG, gate.log unless given, and the words to `rt ci`, as `--anew` in a kit whose gate would
 otherwise reuse earlier proofs. A line for each crate and task has the minute in which it began, the minute in which it ended
@@ -19,7 +19,7 @@ import subprocess
 import sys
 import time
 
-TOP = pathlib.Path(__file__).resolve().parent.parent
+TOP = pathlib.Path(__file__).resolve().parents[2]
 TICKS = os.sysconf("SC_CLK_TCK")
 Process = collections.namedtuple("Process", "crate task edit")
 

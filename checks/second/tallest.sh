@@ -2,12 +2,12 @@
 # Makes the one key of W8 and height 15 and one of W4, and checks that their roots and signatures are those that another
 # program computed (a Python program that shares no code with the crates).
 #
-#   checks/tallest.sh
+#   checks/second/tallest.sh
 #
 # `rt run` in crates/trials proves and builds the program. The first key takes 284 million steps of chains and the
 # second 33 million.
 set -u
-top=$(cd "$(dirname "$0")/.." && pwd) || exit 2
+top=$(cd "$(dirname "$0")/../.." && pwd) || exit 2
 work=$(mktemp -d) || exit 2
 trap 'rm -rf "$work"' EXIT
 mkdir "$work/cases" && cp "$top/crates/trials/data/cases/leaf-w4-15-5.vector" "$work/cases" || exit 2

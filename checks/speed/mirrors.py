@@ -1,7 +1,7 @@
 #!/usr/bin/env python3
 """Times `tufcheck verify` of hostile and of large mirrors by 0 and by 4 workers, and measures its memory.
 
-  checks/mirrors.py [--program PROGRAM] [--before PROGRAM] [--rounds N] [--most SECONDS] [CASE..]
+  checks/speed/mirrors.py [--program PROGRAM] [--before PROGRAM] [--rounds N] [--most SECONDS] [CASE..]
 
 The program is crates/tufcheck/out/tufcheck unless given, which `rt run` in crates/tufcheck proves and builds. With
 `--before` each round runs that program and then the other. There are 3 rounds and all cases unless given.
@@ -25,7 +25,7 @@ In a hostile mirror no key has signed the files beside the right first root:
   roots      250 successive roots of nearly 500,000 bytes
   target     a wanted target of 600,000,000 bytes that has the listed length, beside one of 3 bytes, and a timestamp
              with six forged signatures
-  costly     each kind of file of `checks/costly.py`, with a forged signature under the right key's id
+  costly     each kind of file of `costly.py`, with a forged signature under the right key's id
   fitting    the same kinds with 3,950,000 bytes, which fit into the bytes that are read ahead
 
 In an honest one all is signed, and all wanted paths are accepted:
@@ -52,11 +52,12 @@ import tempfile
 import time
 from typing import NamedTuple
 
+sys.path.insert(0, os.path.dirname(os.path.dirname(os.path.abspath(__file__))))
 from hostile import CASES, write
 import tuf
 
 SCRIPT = os.path.basename(sys.argv[0])
-TOP = os.path.dirname(os.path.dirname(os.path.abspath(__file__)))
+TOP = os.path.dirname(os.path.dirname(os.path.dirname(os.path.abspath(__file__))))
 NOW = "2026-01-01T00:00:00Z"
 WORKERS = ("0", "4")
 REFUSED = "status 4, tufcheck: memory"

@@ -3,12 +3,12 @@
 # crates, the man page, the pages for users and on formats, the changelog, and the logic of the kit in the README. The one
 # place of the version is crates/words/src/version.rt.
 #
-#   checks/version.sh [PROGRAM]      crates/tufcheck/out/tufcheck unless given; without a built program it isn't checked
+#   checks/gate/version.sh [PROGRAM]      crates/tufcheck/out/tufcheck unless given; without a built program it isn't checked
 #
 # It prints a line for each place that differs, and the status is then 1. It takes a second.
 set -u
 export LC_ALL=C
-cd "$(dirname "$0")/.." || exit 1
+cd "$(dirname "$0")/../.." || exit 1
 text=$(sed -n 's/^pub const VERSION: &str = "\(.*\)";$/\1/p' crates/words/src/version.rt)
 version=${text%% *} logic=${text##* } program=${1:-crates/tufcheck/out/tufcheck}
 logic=${logic%)}

@@ -1,11 +1,11 @@
 #!/usr/bin/env python3
 """Verifies targets, and roles, with each odd character in their names.
 
-  checks/names.py
+  checks/faults/names.py
 
 For each character that a file's name and a word may hold (all below 128 but NUL and the slash, and some above), a role
-`rX` lists a target `pX`, and the last argument is a target that no role lists. All metadata is signed by the Python
-beside this script. A run of `tufcheck verify`, without workers and with eight, must find each target and escape the names
+`rX` lists a target `pX`, and the last argument is a target that no role lists. All metadata is signed by `tuf.py`
+of `checks`. A run of `tufcheck verify`, without workers and with eight, must find each target and escape the names
 as in docs/USERS.md. Then a file whose name isn't UTF-8 is in one of the two folders: the run must fail with
 status 4, print nothing and store nothing. `rt run` in crates/tufcheck proves and builds the program.
 """
@@ -15,9 +15,10 @@ import subprocess
 import sys
 import tempfile
 
+sys.path.insert(0, os.path.dirname(os.path.dirname(os.path.abspath(__file__))))
 import tuf
 
-TOP = os.path.dirname(os.path.dirname(os.path.abspath(__file__)))
+TOP = os.path.dirname(os.path.dirname(os.path.dirname(os.path.abspath(__file__))))
 PROGRAM = os.path.abspath(os.environ.get("PROGRAM", f"{TOP}/crates/tufcheck/out/tufcheck"))
 ABOVE = "\x80\x85\xa0\xad\xe9\u0301\u200b\u200e\u2028\u202e\ud7ff\ue000\ufeff\ufffd\uffff\U0001f600\U0010ffff"
 ODD = [chr(code) for code in range(1, 128) if chr(code) != "/"] + list(ABOVE)

@@ -1,9 +1,9 @@
 #!/usr/bin/env python3
 """Checks that examples/fetch-curl.sh stores no more of an answer than the file may have.
 
-    checks/fetch-curl.py [SCRIPT]      examples/fetch-curl.sh unless given; `fetching.sh` is beside it
+    checks/faults/fetch-curl.py [SCRIPT]      examples/fetch-curl.sh unless given; `fetching.sh` is beside it
 
-A server on 127.0.0.1 has a repository, which is signed by the Python beside this script. In each case it answers for one
+A server on 127.0.0.1 has a repository, which is signed by `tuf.py` of `checks`. In each case it answers for one
 file with 300 MB, without a length (chunked) or with one, with a byte more than the file may have, or with a byte a second.
 While the script runs, no file that it writes may be longer than the greatest that is allowed, and at the end none is kept
 that is too long. An honest server's files have to be fetched, with and without lengths. `rt run` in crates/tufcheck proves
@@ -20,9 +20,10 @@ import tempfile
 import threading
 import time
 
+sys.path.insert(0, os.path.dirname(os.path.dirname(os.path.abspath(__file__))))
 import tuf
 
-TOP = pathlib.Path(__file__).resolve().parent.parent
+TOP = pathlib.Path(__file__).resolve().parents[2]
 PROGRAM = pathlib.Path(os.environ.get("PROGRAM", TOP / "crates/tufcheck/out/tufcheck")).resolve()
 LONG = 300_000_000
 PIECE = b"0" * 65_536

@@ -1,7 +1,7 @@
 #!/bin/bash
 # Runs many cycles with workers under drawn schedules, and checks that each prints what a cycle on one thread prints.
 #
-#   checks/schedules.sh [RUNS [SEED]]      5000 and 1 unless given
+#   checks/second/schedules.sh [RUNS [SEED]]      5000 and 1 unless given
 #
 # For each of two repositories, that of one target and that of roles which share keys, the program `trials`, which is
 # proved and built first unless TRIALS in the environment names it, makes RUNS runs: with up to 8 workers, plans of 3 or
@@ -9,7 +9,7 @@
 # script ends with status 1 if a run printed something else, and with 2 if the program couldn't be built or run.
 set -u
 runs=${1:-5000} seed=${2:-1}
-top=$(cd "$(dirname "$0")/.." && pwd) || exit 2
+top=$(cd "$(dirname "$0")/../.." && pwd) || exit 2
 work=$(mktemp -d) || exit 2
 trap 'rm -rf "$work"' EXIT
 [ -n "${TRIALS-}" ] || (cd "$top/crates/trials" && rt run) > "$work/built" 2>&1

@@ -1,10 +1,10 @@
 #!/usr/bin/env python3
 """Times `tufcheck verify` of large and of many target files beside `sha256sum`, and beside files that nobody wants.
 
-  checks/streamed.py [--program PROGRAM] [--before PROGRAM] [--rounds N] [--most SECONDS] [--folder FOLDER] [--scale N]
+  checks/speed/streamed.py [--program PROGRAM] [--before PROGRAM] [--rounds N] [--most SECONDS] [--folder FOLDER] [--scale N]
                      [CASE..]
 
-The programs, the rounds and the seconds after which a run is killed are those of `checks/mirrors.py`, and so are the
+The programs, the rounds and the seconds after which a run is killed are those of `mirrors.py`, and so are the
 columns and what is checked of each run: its lines, its status and the state that it stores. If one isn't what the
 workflow requires, it exits with status 1. The files are made in a folder below FOLDER, or else below the one for temporary
 files, and are removed after their case. At most 10 GB of them are there at once, if the file system keeps no room for
@@ -50,6 +50,7 @@ import resource
 import subprocess
 import sys
 
+sys.path.insert(0, os.path.dirname(os.path.dirname(os.path.abspath(__file__))))
 import hostile
 import mirrors
 import tuf

@@ -1,4 +1,4 @@
-"""Does the work of checks/bodies.sh: bodies.py REPOSITORY COPY [--gate] [CRATE..]"""
+"""Does the work of checks/gate/bodies.sh: bodies.py REPOSITORY COPY [--gate] [CRATE..]"""
 import re
 import shutil
 import subprocess

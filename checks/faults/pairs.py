@@ -1,7 +1,7 @@
 #!/usr/bin/env python3
 """Checks that two runs come to what they come to one after the other, in the order in which they get the lock.
 
-    checks/pairs.py [PAIRS]      400 unless given
+    checks/faults/pairs.py [PAIRS]      400 unless given
 
 One run is over an older repository and one over a newer one. One of them is held before its Nth call of the system, for N
 from 1 to its last, while the other one runs until it has ended or waits for the lock; then the first goes on. So each order
@@ -31,10 +31,11 @@ import sys
 import tempfile
 import time
 
+sys.path.insert(0, os.path.dirname(os.path.dirname(os.path.abspath(__file__))))
 import holding
 import tuf
 
-TOP = pathlib.Path(__file__).resolve().parent.parent
+TOP = pathlib.Path(__file__).resolve().parents[2]
 PROGRAM = pathlib.Path(os.environ.get("PROGRAM", TOP / "crates/tufcheck/out/tufcheck")).resolve()
 NOW = "2026-01-01T00:00:00Z"
 WAYS = ("state", "copies", "places")

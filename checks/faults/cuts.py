@@ -1,7 +1,7 @@
 #!/usr/bin/env python3
 """Truncates each metadata file of a repository at each length from one byte less than the whole down to none.
 
-  checks/cuts.py [STEP]      each length unless given, else each STEPth
+  checks/faults/cuts.py [STEP]      each length unless given, else each STEPth
 
 The repository has a second root, and a delegated role that two wanted paths lead to. Its timestamp lists the length
 of the snapshot, its snapshot those of the targets files, and no file those of the root and the timestamp. A run of
@@ -16,7 +16,7 @@ import sys
 import tempfile
 from concurrent.futures import ThreadPoolExecutor
 
-TOP = os.path.dirname(os.path.dirname(os.path.abspath(__file__)))
+TOP = os.path.dirname(os.path.dirname(os.path.dirname(os.path.abspath(__file__))))
 PROGRAM = os.path.abspath(os.environ.get("PROGRAM", f"{TOP}/crates/tufcheck/out/tufcheck"))
 SCRIPT = """\
 key 1 5

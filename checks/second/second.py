@@ -1,7 +1,7 @@
 #!/usr/bin/env python3
 """Verifies drawn repositories by the program and by a second reading of the standard, and compares all their results.
 
-  checks/second.py [COUNT [SEED]]      1,000 histories from seed 1 unless given
+  checks/second/second.py [COUNT [SEED]]      1,000 histories from seed 1 unless given
 
 A history is a first root and then three states of one repository: roots that rotate, files that come and go, delegations
 by patterns, prefixes and bins that meet and lead round, thresholds, keys of both widths, one public value under two ids.
@@ -26,6 +26,7 @@ import sys
 import tempfile
 from multiprocessing import Pool
 
+sys.path.insert(0, os.path.dirname(os.path.dirname(os.path.abspath(__file__))))
 import reading
 import tuf
 
@@ -34,7 +35,7 @@ try:
 except ImportError:
     encode_canonical = None
 
-TOP = os.path.dirname(os.path.dirname(os.path.abspath(__file__)))
+TOP = os.path.dirname(os.path.dirname(os.path.dirname(os.path.abspath(__file__))))
 PROGRAM = os.path.abspath(os.environ.get("PROGRAM", f"{TOP}/crates/tufcheck/out/tufcheck"))
 NOW = "2026-01-01T00:00:00Z"
 LATER = "2030-01-01T00:00:00Z"

@@ -1,10 +1,10 @@
 #!/usr/bin/env python3
 """Checks the example of docs/SIGNING.md, which is made of test keys.
 
-  checks/signing.py
+  checks/second/signing.py
 
 It takes the key object, the signed file, their canonical texts, the table of kinds and the Python program from the page.
-By tuf.py and reading.py beside this script it checks that
+By tuf.py and reading.py of `checks` it checks that
 
 - the canonical texts are those of the key object and of `signed`, and the key's id is the SHA-256 of the first;
 - the public value and the signature have the lengths, the type codes and the leaf that the page says;
@@ -24,10 +24,11 @@ import subprocess
 import sys
 import tempfile
 
+sys.path.insert(0, os.path.dirname(os.path.dirname(os.path.abspath(__file__))))
 import reading
 import tuf
 
-TOP = os.path.dirname(os.path.dirname(os.path.abspath(__file__)))
+TOP = os.path.dirname(os.path.dirname(os.path.dirname(os.path.abspath(__file__))))
 PROGRAM = f"{TOP}/crates/tufcheck/out/tufcheck"
 JAR = os.environ.get("BCPROV", "/usr/share/java/bcprov.jar")
 NOW = "2026-01-01T00:00:00Z"
@@ -105,7 +106,7 @@ def check_by_java(public, message, sig):
         return skip(what, f"no {JAR} (libbcprov-java); BCPROV may name another")
     asked = [(message, sig), (message, turned(sig, 100)), (turned(message, 20), sig), (message, turned(sig, 3))]
     lines = "".join(f"{public.hex()}\n{text.hex()}\n{it.hex()}\n" for text, it in asked)
-    ran = subprocess.run(["java", "-cp", JAR, f"{TOP}/checks/signing/Verify.java"], input=lines, capture_output=True,
+    ran = subprocess.run(["java", "-cp", JAR, f"{TOP}/checks/second/signing/Verify.java"], input=lines, capture_output=True,
                          check=False, text=True)
     check(f"{what} accepts the signature", ran.stdout.split("\n")[:1] == ["valid"])
     check(f"{what} refuses it with a bit of it or of the text turned", ran.stdout.split("\n")[1:4] == ["invalid"] * 3)

@@ -1,7 +1,7 @@
 #!/usr/bin/env python3
 """Prints which misreadings of the standard second.py beside this script distinguishes from the program.
 
-  checks/misread.py [COUNT]      300 histories for each misreading unless given
+  checks/second/misread.py [COUNT]      300 histories for each misreading unless given
 
 Each misreading is put into a copy of reading.py, and histories are drawn until their number is reached. One that has the
 same lines, status and bytes for all of them is named, and the status is then 1. `rt run` in crates/tufcheck proves and
@@ -13,7 +13,7 @@ import subprocess
 import sys
 import tempfile
 
-HERE = os.path.dirname(os.path.abspath(__file__))
+CHECKS = os.path.dirname(os.path.dirname(os.path.abspath(__file__)))
 SIGNED = '    ask(is_met(file, ring, asked), "Unsigned")\n'
 OF_VERSION = '    ask(file["version"] == listed["version"], "VersionWrong")\n'
 NEW_ROOT = 'ask(is_met(new, {0}["keys"], {0}["roles"]["root"]), "Unsigned")'
@@ -60,17 +60,17 @@ MISREADINGS = {
 
 def tells(room, old, new, count):
     """Whether some history differs by that misreading."""
-    with open(f"{HERE}/reading.py", encoding="utf-8") as file:
+    with open(f"{CHECKS}/second/reading.py", encoding="utf-8") as file:
         text = file.read()
     assert text.count(old) == 1, old
     shutil.rmtree(room, ignore_errors=True)
-    os.makedirs(f"{room}/checks")
-    for name in ("second.py", "tuf.py"):
-        shutil.copy(f"{HERE}/{name}", f"{room}/checks")
-    with open(f"{room}/checks/reading.py", "w", encoding="utf-8") as file:
+    os.makedirs(f"{room}/checks/second")
+    for name in ("tuf.py", "second/second.py"):
+        shutil.copy(f"{CHECKS}/{name}", f"{room}/checks/{name}")
+    with open(f"{room}/checks/second/reading.py", "w", encoding="utf-8") as file:
         file.write(text.replace(old, new))
-    os.symlink(f"{os.path.dirname(HERE)}/crates", f"{room}/crates")
-    ran = subprocess.run([sys.executable, f"{room}/checks/second.py", count], env={**os.environ, "TMPDIR": room},
+    os.symlink(f"{os.path.dirname(CHECKS)}/crates", f"{room}/crates")
+    ran = subprocess.run([sys.executable, f"{room}/checks/second/second.py", count], env={**os.environ, "TMPDIR": room},
                          stdout=subprocess.PIPE, check=False)
     assert ran.returncode in (0, 1), old
     return ran.stdout.decode().count("\nsaid ")

@@ -2,7 +2,7 @@
 """Attacks on the program, by each who may try: who writes the mirror, who has the keys of one delegated role, who writes
 the folder of copies, a second run, a killed run, and files without an end.
 
-    checks/attacks.py [--later] [PROGRAM [ATTACK..]]      all attacks unless given
+    checks/faults/attacks.py [--later] [PROGRAM [ATTACK..]]      all attacks unless given
 
 Each is tried in a folder of its own. A line is `ok NAME` if the attack came to nothing, `FAILS NAME: what was seen`, or
 `not tried NAME: why`. The last line counts them, and the status is 1 if one fails. With `--later` further ones are tried,
@@ -22,10 +22,11 @@ import sys
 import tempfile
 import time
 
+sys.path.insert(0, os.path.dirname(os.path.dirname(os.path.abspath(__file__))))
 import holding
 import tuf
 
-TOP = pathlib.Path(__file__).resolve().parent.parent
+TOP = pathlib.Path(__file__).resolve().parents[2]
 NOW = "2026-01-01T00:00:00Z"
 SECONDS, MEMORY = 90, 1_000_000_000
 # After how many seconds a run that was held, and goes on, waits for something else.

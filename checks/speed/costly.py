@@ -2,9 +2,9 @@
 """Times `tufcheck verify` of files that are made to cost, each of a quarter, half and all of 5,000,000 bytes, and of a
 snapshot of a quarter, half and all of 2,000,000 bytes that is verified after one with the same names.
 
-  checks/costly.py [CASE..]      all cases unless given, `snapshots` the last of them
+  checks/speed/costly.py [CASE..]      all cases unless given, `snapshots` the last of them
 
-Every file is signed as it should be, by the Python beside this script. It prints for each case the seconds from start to
+Every file is signed as it should be, by `tuf.py` of `checks`. It prints for each case the seconds from start to
 end by 0 and by 4 workers, the processor's seconds by 0 and the peak memory, and checks for the lines of the workflow.
 `rt run` in crates/tufcheck proves and builds the program. Nothing else should run meanwhile. It takes some minutes.
 """
@@ -15,9 +15,10 @@ import sys
 import tempfile
 import time
 
+sys.path.insert(0, os.path.dirname(os.path.dirname(os.path.abspath(__file__))))
 import tuf
 
-TOP = os.path.dirname(os.path.dirname(os.path.abspath(__file__)))
+TOP = os.path.dirname(os.path.dirname(os.path.dirname(os.path.abspath(__file__))))
 PROGRAM = os.path.abspath(os.environ.get("PROGRAM", f"{TOP}/crates/tufcheck/out/tufcheck"))
 NOW = "2026-01-01T00:00:00Z"
 LIMIT = 5_000_000

@@ -5,7 +5,7 @@
 # first repository without workers, once and several times over, and `tufcheck make` of thirty keys, 27 of which sign one
 # file.
 #
-#   checks/ahead.sh [RUNS]      the runs of each, 11 unless given
+#   checks/speed/ahead.sh [RUNS]      the runs of each, 11 unless given
 #
 # For each it prints the median and the least of the milliseconds that a run took, from its start to its end, and for workers
 # by the median of the rounds how many times as fast it was as the run without workers beside it. Checks that each run prints
@@ -17,7 +17,7 @@
 # signatures in memory, in eleven rounds: `rt run` in crates/bench builds it.
 set -u
 runs=${1:-11}
-top=$(cd "$(dirname "$0")/.." && pwd) || exit 2
+top=$(cd "$(dirname "$0")/../.." && pwd) || exit 2
 program=$top/crates/tufcheck/out/tufcheck
 work=$(mktemp -d) || exit 2
 trap 'rm -rf "$work"' EXIT

@@ -2,7 +2,7 @@
 # Shows the speed of a verification beside what a user would take instead: Bouncy Castle, C over OpenSSL, C with the lanes of
 # SSE and of AVX2. checks/speed/README.md describes each, and lists the packages that it needs.
 #
-#   checks/speed.sh [ROUNDS [BENCH..]]      11 and crates/bench/out/bench unless given
+#   checks/speed/speed.sh [ROUNDS [BENCH..]]      11 and crates/bench/out/bench unless given
 #
 # A round is some 500 verifications by one thread. The programs in C and Java verify the same 32 signatures, and check first
 # that each is accepted and that it is refused with a bit flipped; ours verifies the first of them. It prints a line for each
@@ -11,7 +11,7 @@
 # OPENSSL_ia32cap says holds for OpenSSL: `:~0x20000000` leaves out the SHA extensions.
 set -u
 rounds=${1:-11}
-top=$(cd "$(dirname "$0")/.." && pwd) || exit 1
+top=$(cd "$(dirname "$0")/../.." && pwd) || exit 1
 [ $# -eq 0 ] || shift
 [ $# -gt 0 ] || set -- "$top/crates/bench/out/bench"
 jar=${BCPROV:-/usr/share/java/bcprov.jar}

@@ -1,7 +1,7 @@
 #!/usr/bin/env python3
 """Runs the sessions of crates/trials by the program itself, as one process for each command, and compares what it prints.
 
-  checks/sessions.py [SESSION..]      all unless given, by the names of their files
+  checks/gate/sessions.py [SESSION..]      all unless given, by the names of their files
 
 crates/command_cases/README.md has the commands of sessions; here they are done by Python, which shares no code with the
 crates. Left out are `system.t`, whose clocks and folders fail as only a test's do, and `differs.t`, which is knowingly
@@ -22,9 +22,10 @@ import sys
 import tempfile
 from typing import NamedTuple
 
+sys.path.insert(0, os.path.dirname(os.path.dirname(os.path.abspath(__file__))))
 import tuf
 
-TOP = os.path.dirname(os.path.dirname(os.path.abspath(__file__)))
+TOP = os.path.dirname(os.path.dirname(os.path.dirname(os.path.abspath(__file__))))
 PROGRAM = os.path.abspath(os.environ.get("PROGRAM", f"{TOP}/crates/tufcheck/out/tufcheck"))
 TRIALS = f"{TOP}/crates/trials"
 NOW = "2026-01-01T00:00:00Z"

@@ -1,7 +1,7 @@
 #!/usr/bin/env python3
 """Times repositories of 20,000 targets that lie in hash bins, as a package index would lay them out.
 
-  checks/bins.py [TARGETS [BITS..]]      20,000 targets in 64, 256 and 1,024 bins (6, 8 and 10 bits) unless given
+  checks/speed/bins.py [TARGETS [BITS..]]      20,000 targets in 64, 256 and 1,024 bins (6, 8 and 10 bits) unless given
 
 For each number of bins it prints the sizes of the files, and for runs of `tufcheck` the seconds from start to end, the
 processor's seconds and the peak memory: `make` of the repository, `verify` of one path and of a hundred by 0 and 4
@@ -16,7 +16,7 @@ import sys
 import tempfile
 import time
 
-TOP = os.path.dirname(os.path.dirname(os.path.abspath(__file__)))
+TOP = os.path.dirname(os.path.dirname(os.path.dirname(os.path.abspath(__file__))))
 PROGRAM = os.path.abspath(os.environ.get("PROGRAM", f"{TOP}/crates/tufcheck/out/tufcheck"))
 NOW = "2026-01-01T00:00:00Z"
 
