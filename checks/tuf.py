@@ -4,6 +4,8 @@ import hashlib
 import json
 import os
 
+from common import write
+
 EXPIRES = "2030-01-01T00:00:00Z"
 
 
@@ -138,9 +140,3 @@ def repository(folder, key, contents, version=1, low=None, consistent=False):
         above, base = os.path.split(path)
         hashed = f"{hashlib.sha256(content).hexdigest()}.{base}" if consistent else base
         write(os.path.join(folder, "targets", above, hashed), content)
-
-
-def write(path, content):
-    os.makedirs(os.path.dirname(path), exist_ok=True)
-    with open(path, "wb") as file:
-        file.write(content)

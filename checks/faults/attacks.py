@@ -23,11 +23,11 @@ import tempfile
 import time
 
 sys.path.insert(0, os.path.dirname(os.path.dirname(os.path.abspath(__file__))))
+import common
+from common import NOW
 import holding
 import tuf
 
-TOP = pathlib.Path(__file__).resolve().parents[2]
-NOW = "2026-01-01T00:00:00Z"
 SECONDS, MEMORY = 90, 1_000_000_000
 # After how many seconds a run that was held, and goes on, waits for something else.
 WAITS = 20
@@ -118,9 +118,8 @@ class Room:
         need(self.run("init", f"{name}/metadata/1.root.json", "--out", state).status == 0, "the first root is refused")
 
     def words(self, repo, *paths, state="s", out=None, into=None, more=()):
-        words = [self.program, "verify", "--now", NOW, "--workers", "0", "--state", state, "--out", out or state]
-        words += ["--metadata", f"{repo}/metadata", "--targets", f"{repo}/targets"]
-        return [*words, *(["--into", into] if into else []), *more, *paths]
+        more = [*(["--into", into] if into else []), *more]
+        return [self.program, *common.verify(*more, *paths, state=state, out=out or state, repo=repo)]
 
     def run(self, *words, **how):
         return Ran([self.program, *words] if words[0] != self.program else words, self.path, **how)
@@ -681,29 +680,26 @@ def tried(program, library, name, act):
         try:
             act(room)
         except Seen as fault:
-            word, seen = "FAILS", f": {fault}"
+            word, seen = "FAILS", str(fault)
         except NotTried as why:
-            word, seen = "not tried", f": {why}"
+            word, seen = "not tried", str(why)
         finally:
             room.end_runs()
-        print(f"{word} {name}{seen.replace(path + '/', '')}", flush=True)
-    return word
+    return common.told(word, name, seen.replace(path + "/", ""))
 
 
 def main():
     signal.signal(signal.SIGTERM, lambda *_: sys.exit(143))
     words = [word for word in sys.argv[1:] if word != "--later"]
     chosen = {**ATTACKS, **(LATER if len(words) < len(sys.argv) - 1 else {})}
-    given = words[0] if words else os.environ.get("PROGRAM", TOP / "crates/tufcheck/out/tufcheck")
+    given = os.path.abspath(words[0]) if words else common.PROGRAM
     unknown = set(words[1:]) - set(chosen)
     if unknown:
         sys.exit(f"attacks.py: unknown: {', '.join(unknown)}")
     with tempfile.TemporaryDirectory() as folder:
         library = holding.build(folder)
-        done = [tried(os.path.abspath(given), library, name, chosen[name]) for name in words[1:] or chosen]
-    more = f", {done.count('not tried')} not tried" if "not tried" in done else ""
-    print(f"{done.count('ok')} ok, {done.count('FAILS')} fail{more}")
-    sys.exit(1 if "FAILS" in done else 0)
+        done = [tried(given, library, name, chosen[name]) for name in words[1:] or chosen]
+    sys.exit(common.counted(done))
 
 
 main()

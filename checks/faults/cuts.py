@@ -11,13 +11,13 @@ otherwise.
 """
 import os
 import shutil
-import subprocess
 import sys
 import tempfile
 from concurrent.futures import ThreadPoolExecutor
 
-TOP = os.path.dirname(os.path.dirname(os.path.dirname(os.path.abspath(__file__))))
-PROGRAM = os.path.abspath(os.environ.get("PROGRAM", f"{TOP}/crates/tufcheck/out/tufcheck"))
+sys.path.insert(0, os.path.dirname(os.path.dirname(os.path.abspath(__file__))))
+import common
+
 SCRIPT = """\
 key 1 5
 key 2 5
@@ -50,10 +50,6 @@ CASES = {
 }
 
 
-def run(room, *words):
-    return subprocess.run([PROGRAM, *words], cwd=room, capture_output=True, text=True, check=False)
-
-
 def state_of(files, root, members):
     """The text of a state with those members (see docs/FORMATS.md, State file)."""
     names = {"root": root, "snapshot": "snapshot", "targets": "targets", "timestamp": "timestamp"}
@@ -65,29 +61,25 @@ def cut(name, step):
     lines, status, members = CASES[name]
     with tempfile.TemporaryDirectory() as room:
         shutil.copytree("repo", f"{room}/repo")
-        files = {file[:-5]: open(f"repo/metadata/{file}", "rb").read() for file in os.listdir("repo/metadata")}
+        files = {file[:-5]: common.read(f"repo/metadata/{file}") for file in os.listdir("repo/metadata")}
         state = state_of(files, "1.root" if name == "2.root" else "2.root", members)
-        run(room, "init", "repo/metadata/1.root.json", "--out", "old")
+        common.run("init", "repo/metadata/1.root.json", "--out", "old", cwd=room)
         lengths = range(len(files[name]) - 1, -1, -step)
         for length in lengths:
             os.truncate(f"{room}/repo/metadata/{name}.json", length)
             for workers in ("0", "8"):
-                ran = run(room, "verify", "--state", "old", "--metadata", "repo/metadata", "--targets", "repo/targets",
-                          "--now", "2026-01-01T00:00:00Z", "--workers", workers, "--out", "new", "p", "q")
-                with open(f"{room}/new") as new:
-                    good = (ran.stdout, ran.returncode, ran.stderr, new.read()) == (lines, status, "", state)
-                if not good:
+                ran = common.run(*common.verify("p", "q", state="old", repo="repo", workers=workers), cwd=room, text=True)
+                seen = ran.stdout, ran.returncode, ran.stderr, common.read(f"{room}/new").decode()
+                if seen != (lines, status, "", state):
                     return f"{name}.json cut to {length} bytes, {workers} workers: status {ran.returncode}\n{ran.stdout}"
         return 2 * len(lengths)
 
 
 def main():
     step = int(sys.argv[1]) if len(sys.argv) > 1 else 1
-    with tempfile.TemporaryDirectory() as room:
-        os.chdir(room)
-        with open("script", "w") as file:
-            file.write(SCRIPT)
-        run(".", "make", "script", "repo")
+    with common.room():
+        common.write("script", SCRIPT.encode())
+        common.run("make", "script", "repo")
         with ThreadPoolExecutor() as pool:
             runs = dict(zip(CASES, pool.map(cut, CASES, [step] * len(CASES))))
     for name, count in runs.items():

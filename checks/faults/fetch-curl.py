@@ -16,15 +16,13 @@ import pathlib
 import shutil
 import subprocess
 import sys
-import tempfile
 import threading
 import time
 
 sys.path.insert(0, os.path.dirname(os.path.dirname(os.path.abspath(__file__))))
+import common
 import tuf
 
-TOP = pathlib.Path(__file__).resolve().parents[2]
-PROGRAM = pathlib.Path(os.environ.get("PROGRAM", TOP / "crates/tufcheck/out/tufcheck")).resolve()
 LONG = 300_000_000
 PIECE = b"0" * 65_536
 # The most bytes of a file that is fetched first, and of the target.
@@ -154,9 +152,9 @@ def elsewhere(script):
 
 def prepare(server):
     os.mkdir("bin")
-    os.symlink(PROGRAM, "bin/tufcheck")
+    os.symlink(common.PROGRAM, "bin/tufcheck")
     tuf.repository("repo", tuf.Key(1, 4), {"abc.txt": b"abc"})
-    subprocess.run([PROGRAM, "init", "repo/metadata/1.root.json", "--out", "first"], check=True, stdout=subprocess.DEVNULL)
+    common.run("init", "repo/metadata/1.root.json", "--out", "first", check=True)
     server.url = f"http://127.0.0.1:{server.server_address[1]}"
     threading.Thread(target=server.serve_forever, daemon=True).start()
 
@@ -171,19 +169,15 @@ def cases(server, script):
 
 
 def main():
-    script = os.path.abspath(sys.argv[1] if len(sys.argv) > 1 else TOP / "examples/fetch-curl.sh")
-    counts = [0, 0]
-    with tempfile.TemporaryDirectory() as work, Server(("127.0.0.1", 0), Answer) as server:
-        os.chdir(work)
+    script = os.path.abspath(sys.argv[1] if len(sys.argv) > 1 else f"{common.TOP}/examples/fetch-curl.sh")
+    done = []
+    with common.room(), Server(("127.0.0.1", 0), Answer) as server:
         prepare(server)
         for name, check in cases(server, script):
             seen = check()
-            counts[seen is not None] += 1
-            print(f"ok {name}" if seen is None else f"FAILS {name}: {seen}", flush=True)
+            done.append(common.told("FAILS" if seen else "ok", name, seen))
         server.shutdown()
-        os.chdir("/")
-    print(f"{counts[0]} ok, {counts[1]} fail")
-    sys.exit(1 if counts[1] else 0)
+    sys.exit(common.counted(done))
 
 
 main()

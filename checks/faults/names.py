@@ -11,25 +11,16 @@ status 4, print nothing and store nothing. `rt run` in crates/tufcheck proves an
 """
 import hashlib
 import os
-import subprocess
 import sys
-import tempfile
 
 sys.path.insert(0, os.path.dirname(os.path.dirname(os.path.abspath(__file__))))
+import common
+from common import quoted, write
 import tuf
 
-TOP = os.path.dirname(os.path.dirname(os.path.dirname(os.path.abspath(__file__))))
-PROGRAM = os.path.abspath(os.environ.get("PROGRAM", f"{TOP}/crates/tufcheck/out/tufcheck"))
 ABOVE = "\x80\x85\xa0\xad\xe9\u0301\u200b\u200e\u2028\u202e\ud7ff\ue000\ufeff\ufffd\uffff\U0001f600\U0010ffff"
 ODD = [chr(code) for code in range(1, 128) if chr(code) != "/"] + list(ABOVE)
 KEYS = [tuf.Key(1 + number) for number in range(len(ODD) // 30 + 2)]
-
-
-def quoted(name):
-    def spelled(byte):
-        plain = 0x20 <= byte < 0x7f and byte not in b'"\\'
-        return chr(byte) if plain else f"\\x{byte:02x}"
-    return '"' + "".join(map(spelled, name.encode())) + '"'
 
 
 def delegations():
@@ -41,14 +32,7 @@ def delegations():
     return {"keys": {key.id: key.object for key in KEYS}, "roles": roles}
 
 
-def write(name, content):
-    with open(name, "wb") as file:
-        file.write(content)
-
-
 def make():
-    os.mkdir("metadata")
-    os.mkdir("targets")
     write("metadata/1.root.json", tuf.root(KEYS[0]))
     write("metadata/targets.json", tuf.signed(tuf.part("targets", targets={}, delegations=delegations()), KEYS[0]))
     write("metadata/snapshot.json", tuf.snapshot(KEYS[0], ["targets"] + [f"r{odd}" for odd in ODD]))
@@ -59,16 +43,10 @@ def make():
         write(f"targets/p{odd}", odd.encode())
 
 
-def verify(workers, wanted):
-    words = ["verify", "--state", "state", "--metadata", "metadata", "--targets", "targets", "--workers", workers,
-             "--now", "2026-01-01T00:00:00Z", "--out", "new", *wanted]
-    return subprocess.run([PROGRAM, *words], capture_output=True, check=False)
-
-
 def refuse(folder, name):
     path = folder.encode() + b"/" + name
     write(path, b"{}")
-    run = verify("0", ["p"])
+    run = common.run(*common.verify("p"))
     os.remove(path)
     if run.returncode != 4 or run.stdout or run.stderr != b"tufcheck: folder\n" or os.path.exists("new"):
         sys.exit(f"names.py: {path}: status {run.returncode}\n{run.stdout}{run.stderr}")
@@ -80,12 +58,11 @@ def main():
     lines += [f"role {quoted(role)} 1" for role in sorted((f"r{odd}" for odd in ODD), key=str.encode)]
     lines += [f"ok {quoted(f'p{odd}')} {len(odd.encode())} {quoted(f'r{odd}')}" for odd in ODD]
     lines += ['no "p" NotFound', ""]
-    with tempfile.TemporaryDirectory() as room:
-        os.chdir(room)
+    with common.room():
         make()
-        subprocess.run([PROGRAM, "init", "metadata/1.root.json", "--out", "state"], check=True, capture_output=True)
+        common.run("init", "metadata/1.root.json", "--out", "state", check=True)
         for workers in ("0", "8"):
-            run = verify(workers, [*wanted, "p"])
+            run = common.run(*common.verify(*wanted, "p", workers=workers))
             if run.stdout.decode().split("\n") != lines or run.returncode != 1 or run.stderr:
                 sys.exit(f"names.py: by {workers} workers: status {run.returncode}\n{run.stdout.decode()}{run.stderr.decode()}")
         os.remove("new")

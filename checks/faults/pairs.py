@@ -26,18 +26,14 @@ import pathlib
 import random
 import shutil
 import signal
-import subprocess
 import sys
-import tempfile
 import time
 
 sys.path.insert(0, os.path.dirname(os.path.dirname(os.path.abspath(__file__))))
+import common
 import holding
 import tuf
 
-TOP = pathlib.Path(__file__).resolve().parents[2]
-PROGRAM = pathlib.Path(os.environ.get("PROGRAM", TOP / "crates/tufcheck/out/tufcheck")).resolve()
-NOW = "2026-01-01T00:00:00Z"
 WAYS = ("state", "copies", "places")
 COPY = {"newer": b"abc", "older": b"abd"}
 GOOD = 'root 1\nend ready\nok "abc.txt" 3 "targets"\n'
@@ -50,20 +46,15 @@ class Wrong(Exception):
     """What was seen that must not be."""
 
 
-def run(*words):
-    return subprocess.run([PROGRAM, *words], capture_output=True, check=True)
-
-
 def state_of(way, name):
     return f"{name}.state" if way == "places" else "s.state"
 
 
 def start(way, name, held=(), call=""):
     state = state_of(way, name)
-    words = [PROGRAM, "verify", "--now", NOW, "--workers", "0", "--state", state, "--out", state]
-    words += ["--metadata", f"{name}/metadata", "--targets", f"{name}/targets"]
-    words += [] if way == "state" else ["--into", "out"]
-    RUNS.append(holding.Run(os.path.abspath("hold.so"), [*words, "abc.txt"], ".", name + call, held))
+    into = [] if way == "state" else ["--into", "out"]
+    words = [common.PROGRAM, *common.verify(*into, "abc.txt", state=state, out=state, repo=name)]
+    RUNS.append(holding.Run(os.path.abspath("hold.so"), words, ".", name + call, held))
     return RUNS[-1]
 
 
@@ -75,8 +66,7 @@ def end_runs():
 
 
 def read(name):
-    path = pathlib.Path(name)
-    return path.read_bytes() if path.exists() else None
+    return common.read(name) if os.path.exists(name) else None
 
 
 def prepare():
@@ -84,7 +74,7 @@ def prepare():
     holding.build(".")
     for name, version in [("older", 1), ("newer", 2)]:
         tuf.repository(name, tuf.Key(1, 4), {"abc.txt": COPY[name]}, version)
-    run("init", "newer/metadata/1.root.json", "--out", "first")
+    common.run("init", "newer/metadata/1.root.json", "--out", "first", check=True)
     alone = {}
     for name in COPY:
         begin()
@@ -245,13 +235,11 @@ def all_pairs(alone, pairs):
 def main():
     pairs = int(sys.argv[1]) if len(sys.argv) > 1 else 400
     signal.signal(signal.SIGTERM, lambda *_: sys.exit(143))
-    with tempfile.TemporaryDirectory() as work:
-        os.chdir(work)
+    with common.room():
         try:
             wrong = all_pairs(prepare(), pairs)
         finally:
             end_runs()
-            os.chdir("/")
     sys.exit(1 if wrong else 0)
 
 

@@ -23,12 +23,11 @@ import tempfile
 from typing import NamedTuple
 
 sys.path.insert(0, os.path.dirname(os.path.dirname(os.path.abspath(__file__))))
+import common
+from common import NOW, read, write
 import tuf
 
-TOP = os.path.dirname(os.path.dirname(os.path.dirname(os.path.abspath(__file__))))
-PROGRAM = os.path.abspath(os.environ.get("PROGRAM", f"{TOP}/crates/tufcheck/out/tufcheck"))
-TRIALS = f"{TOP}/crates/trials"
-NOW = "2026-01-01T00:00:00Z"
+TRIALS = f"{common.TOP}/crates/trials"
 NOBODY = 65534
 LEFT_OUT = ("differs.t", "system.t")
 
@@ -99,16 +98,6 @@ def script_of(lines):
 
 
 # Files.
-
-
-def read(name):
-    with open(name, "rb") as file:
-        return file.read()
-
-
-def write(name, content):
-    with open(name, "wb") as file:
-        file.write(content)
 
 
 def remove(name):
@@ -284,7 +273,7 @@ def main():
     with tempfile.TemporaryDirectory() as room, open(f"{TRIALS}/stdin", "rb") as stdin:
         os.mkdir(f"{room}/room")
         shutil.copytree(f"{TRIALS}/data/cases", f"{room}/room/cases")
-        shutil.copy(PROGRAM, f"{room}/program")
+        shutil.copy(common.PROGRAM, f"{room}/program")
         os.chdir(f"{room}/room")
         if os.geteuid() == 0:
             os.chmod(room, 0o755)

@@ -13,7 +13,10 @@ import subprocess
 import sys
 import tempfile
 
-CHECKS = os.path.dirname(os.path.dirname(os.path.abspath(__file__)))
+sys.path.insert(0, os.path.dirname(os.path.dirname(os.path.abspath(__file__))))
+import common
+
+CHECKS = f"{common.TOP}/checks"
 SIGNED = '    ask(is_met(file, ring, asked), "Unsigned")\n'
 OF_VERSION = '    ask(file["version"] == listed["version"], "VersionWrong")\n'
 NEW_ROOT = 'ask(is_met(new, {0}["keys"], {0}["roles"]["root"]), "Unsigned")'
@@ -60,16 +63,14 @@ MISREADINGS = {
 
 def tells(room, old, new, count):
     """Whether some history differs by that misreading."""
-    with open(f"{CHECKS}/second/reading.py", encoding="utf-8") as file:
-        text = file.read()
+    text = common.read(f"{CHECKS}/second/reading.py").decode()
     assert text.count(old) == 1, old
     shutil.rmtree(room, ignore_errors=True)
     os.makedirs(f"{room}/checks/second")
-    for name in ("tuf.py", "second/second.py"):
+    for name in ("common.py", "tuf.py", "second/second.py"):
         shutil.copy(f"{CHECKS}/{name}", f"{room}/checks/{name}")
-    with open(f"{room}/checks/second/reading.py", "w", encoding="utf-8") as file:
-        file.write(text.replace(old, new))
-    os.symlink(f"{os.path.dirname(CHECKS)}/crates", f"{room}/crates")
+    common.write(f"{room}/checks/second/reading.py", text.replace(old, new).encode())
+    os.symlink(f"{common.TOP}/crates", f"{room}/crates")
     ran = subprocess.run([sys.executable, f"{room}/checks/second/second.py", count], env={**os.environ, "TMPDIR": room},
                          stdout=subprocess.PIPE, check=False)
     assert ran.returncode in (0, 1), old

@@ -6,6 +6,7 @@ import json
 import math
 import re
 
+from common import quoted
 import tuf
 
 MOST = 2**63 - 1
@@ -415,12 +416,6 @@ class Cycle:
             return f"ok {quoted(path)} {len(self.target(path, found[1]))} {quoted(found[0])}"
         except Refused as fault:
             return f"no {quoted(path)} {fault}"
-
-
-def quoted(name):
-    def spelled(byte):
-        return chr(byte) if 0x20 <= byte < 0x7F and byte not in b'"\\' else f"\\x{byte:02x}"
-    return '"' + "".join(map(spelled, name.encode())) + '"'
 
 
 def verified(state, files, targets, now, limit, wanted):

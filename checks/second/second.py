@@ -21,12 +21,13 @@ import json
 import os
 import random
 import shutil
-import subprocess
 import sys
 import tempfile
 from multiprocessing import Pool
 
 sys.path.insert(0, os.path.dirname(os.path.dirname(os.path.abspath(__file__))))
+import common
+from common import NOW
 import reading
 import tuf
 
@@ -35,9 +36,6 @@ try:
 except ImportError:
     encode_canonical = None
 
-TOP = os.path.dirname(os.path.dirname(os.path.dirname(os.path.abspath(__file__))))
-PROGRAM = os.path.abspath(os.environ.get("PROGRAM", f"{TOP}/crates/tufcheck/out/tufcheck"))
-NOW = "2026-01-01T00:00:00Z"
 LATER = "2030-01-01T00:00:00Z"
 TIMES = [LATER, NOW, "2025-12-31T23:59:59Z", "2026-01-01T00:00:01Z", "0000-02-29T00:00:00Z"]
 PATHS = ["a", "b", "ab", "d/a", "d/b", "d/e/a", "\u00e9", 'd/"\u00e9*']
@@ -275,15 +273,13 @@ def tight(tree):
 
 def write(folder, files):
     shutil.rmtree(folder, ignore_errors=True)
+    os.makedirs(folder)
     for name, content in files.items():
-        os.makedirs(os.path.dirname(f"{folder}/{name}"), exist_ok=True)
-        with open(f"{folder}/{name}", "wb") as file:
-            file.write(content)
-    os.makedirs(folder, exist_ok=True)
+        common.write(f"{folder}/{name}", content)
 
 
 def run(room, *words):
-    ran = subprocess.run([PROGRAM, *words], cwd=room, capture_output=True, check=False)
+    ran = common.run(*words, cwd=room)
     return ran.stdout.decode(), ran.returncode
 
 
@@ -310,12 +306,10 @@ def lived(seed):
         wanted = history.draw.sample(PATHS, 4) + ["none"]
         write(f"{room}/metadata", history.metadata)
         write(f"{room}/targets", history.targets)
-        said = run(room, "verify", "--state", "state", "--metadata", "metadata", "--targets", "targets", "--now", NOW,
-                   "--limit", str(limit), "--workers", workers, "--out", "new", "--", *wanted)
+        said = run(room, *common.verify("--limit", str(limit), "--", *wanted, workers=workers))
         direct = {name: content for name, content in history.metadata.items() if "/" not in name}
         state, *read = reading.verified(state, direct, history.targets, NOW, limit, wanted)
-        with open(f"{room}/new", "rb") as file:
-            stored = file.read()
+        stored = common.read(f"{room}/new")
         if said != tuple(read) or stored != reading.spelled(state) or not same_texts(state):
             return counts, f"{room}: state {number + 1}, limit {limit}, {wanted}\nsaid {said}\nread {read}"
         os.replace(f"{room}/new", f"{room}/state")
@@ -326,12 +320,12 @@ def lived(seed):
     return counts, None
 
 
-def main():
-    count, seed = (int(word) for word in (sys.argv[1:] + ["1000", "1"][len(sys.argv) - 1 :]))
+def all_lived(live, count, seed):
+    """Calls `live` with each seed, and prints what differs and then the counts. Returns these, and the status."""
     pool()
     total, status = collections.Counter(), 0
     with Pool() as workers:
-        for counts, differs in workers.imap_unordered(lived, range(seed, seed + count)):
+        for counts, differs in workers.imap_unordered(live, range(seed, seed + count)):
             total += counts
             if differs:
                 print(differs, flush=True)
@@ -339,6 +333,12 @@ def main():
     for words, times in sorted(total.items()):
         if words:
             print(f"{times:8} {words}")
+    return total, status
+
+
+def main():
+    count, seed = (int(word) for word in (sys.argv[1:] + ["1000", "1"][len(sys.argv) - 1 :]))
+    total, status = all_lived(lived, count, seed)
     print(f"{count} histories, {total['root']} runs: {'none differs' if not status else 'some differ'}")
     return status
 

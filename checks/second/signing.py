@@ -25,31 +25,23 @@ import sys
 import tempfile
 
 sys.path.insert(0, os.path.dirname(os.path.dirname(os.path.abspath(__file__))))
+import common
+from common import NOW, TOP
 import reading
 import tuf
 
-TOP = os.path.dirname(os.path.dirname(os.path.dirname(os.path.abspath(__file__))))
-PROGRAM = f"{TOP}/crates/tufcheck/out/tufcheck"
 JAR = os.environ.get("BCPROV", "/usr/share/java/bcprov.jar")
-NOW = "2026-01-01T00:00:00Z"
 LINES = 'root 1\nend ready\nok "abc.txt" 3 "targets"\n'
 SEED = 2
-FAILED = []
+DONE = []
 
 
 def check(what, holds):
-    print(f"{'ok' if holds else 'failed'} {what}")
-    if not holds:
-        FAILED.append(what)
-
-
-def skip(what, why):
-    print(f"skipped {what}: {why}")
+    DONE.append(common.told("ok" if holds else "failed", what))
 
 
 def page():
-    with open(f"{TOP}/docs/SIGNING.md", encoding="utf-8") as file:
-        return file.read()
+    return common.read(f"{TOP}/docs/SIGNING.md").decode()
 
 
 def blocks(text, language):
@@ -101,9 +93,9 @@ def check_texts(text, key, file):
 def check_by_java(public, message, sig):
     what = "Bouncy Castle"
     if not shutil.which("java") or not shutil.which("javac"):
-        return skip(what, "no JDK")
+        return common.told("skipped", what, "no JDK")
     if not os.path.isfile(JAR):
-        return skip(what, f"no {JAR} (libbcprov-java); BCPROV may name another")
+        return common.told("skipped", what, f"no {JAR} (libbcprov-java); BCPROV may name another")
     asked = [(message, sig), (message, turned(sig, 100)), (turned(message, 20), sig), (message, turned(sig, 3))]
     lines = "".join(f"{public.hex()}\n{text.hex()}\n{it.hex()}\n" for text, it in asked)
     ran = subprocess.run(["java", "-cp", JAR, f"{TOP}/checks/second/signing/Verify.java"], input=lines, capture_output=True,
@@ -119,8 +111,7 @@ def files_below(folder):
     for where, _, names in os.walk(folder):
         for name in names:
             path = os.path.join(where, name)
-            with open(path, "rb") as file:
-                found[os.path.relpath(path, folder)] = file.read()
+            found[os.path.relpath(path, folder)] = common.read(path)
     return found
 
 
@@ -137,13 +128,10 @@ def check_program(code, file, room):
     state = {"root": reading.read("root", metadata["1.root.json"])}
     _, lines, status = reading.verified(state, metadata, targets, NOW, 32, ["abc.txt"])
     check("reading.py accepts the repository", (lines, status) == (LINES, 0))
-    if not os.path.isfile(PROGRAM):
-        return skip("tufcheck", "it isn't built: `rt run` in crates/tufcheck")
-    begun = [PROGRAM, "init", "repo/metadata/1.root.json", "--out", "state"]
-    subprocess.run(begun, cwd=room, capture_output=True, check=False)
-    asked = [PROGRAM, "verify", "--now", NOW, "--state", "state", "--metadata", "repo/metadata", "--targets", "repo/targets",
-             "--out", "state", "abc.txt"]
-    ran = subprocess.run(asked, cwd=room, capture_output=True, check=False, text=True)
+    if not os.path.isfile(common.PROGRAM):
+        return common.told("skipped", "tufcheck", "it isn't built: `rt run` in crates/tufcheck")
+    common.run("init", "repo/metadata/1.root.json", "--out", "state", cwd=room)
+    ran = common.run(*common.verify("abc.txt", out="state", repo="repo"), cwd=room, text=True)
     check("tufcheck accepts the repository", (ran.stdout, ran.returncode) == (LINES, 0))
 
 
@@ -156,7 +144,7 @@ def main():
     check_by_java(public, message, sig)
     with tempfile.TemporaryDirectory() as room:
         check_program(code, file, room)
-    return 1 if FAILED else 0
+    return 1 if "failed" in DONE else 0
 
 
 sys.exit(main())

@@ -21,8 +21,9 @@ import os
 import subprocess
 import sys
 import tempfile
-from multiprocessing import Pool
 
+import common
+from common import quoted
 import second
 import tufcheck
 from tufcheck import Digests, Fault, Kind, Place, Status
@@ -31,11 +32,6 @@ SECONDS = 1_767_225_600
 PROGRAM, LINES = (os.path.abspath(word) for word in sys.argv[1:3])
 WORDS = {fault: "".join(part.title() for part in fault.name.split("_")) for fault in Fault}
 KINDS = {Kind.NOT_FOUND: "NotFound", Kind.LIMIT_REACHED: "LimitReached", Kind.NOT_SEARCHED: "NotSearched"}
-
-
-def quoted(name):
-    plain = lambda byte: 32 <= byte <= 126 and byte not in b'"\\'
-    return '"' + "".join(chr(byte) if plain(byte) else f"\\x{byte:02x}" for byte in name.encode()) + '"'
 
 
 def lines(outcome):
@@ -76,10 +72,9 @@ class Fetcher:
 def compared(case):
     """What differs of a case, or its outcome."""
     folder, state, metadata, targets, wanted, limit, draw = case
-    ran = subprocess.run(
-        [PROGRAM, "verify", "--state", "state", "--metadata", "metadata", "--targets", "targets", "--now", second.NOW,
-         "--limit", str(limit), "--workers", "0", "--out", "new", "--", *wanted], cwd=folder, capture_output=True, check=False)
-    stored = open(f"{folder}/new", "rb").read()
+    words = common.verify("--limit", str(limit), "--", *wanted)
+    ran = subprocess.run([PROGRAM, *words], cwd=folder, capture_output=True, check=False)
+    stored = common.read(f"{folder}/new")
     said = ran.stdout.decode().splitlines(), ran.returncode, stored
     job = tufcheck.Job(state, wanted, SECONDS, metadata, targets, limit=limit)
     outcome = job.verify()
@@ -87,7 +82,7 @@ def compared(case):
         return f"program {said[:2]}\nPython {brief(outcome)}", outcome
     ran = subprocess.run([LINES, "state", "metadata", "targets", str(SECONDS), str(limit), "in_c", *wanted], cwd=folder,
                          capture_output=True, check=False)
-    if said != (ran.stdout.decode().splitlines(), ran.returncode, open(f"{folder}/in_c", "rb").read()):
+    if said != (ran.stdout.decode().splitlines(), ran.returncode, common.read(f"{folder}/in_c")):
         return f"program {said[:2]}\nC {ran.stdout.decode().splitlines()} {ran.returncode}", outcome
     measured = {name: digests(data) for name, data in targets.items() if draw.random() < 0.8}
     others = {name: b"other" if name in measured else data for name, data in targets.items()}
@@ -127,8 +122,7 @@ def lived(seed):
             metadata = {name: data for name, data in history.metadata.items() if "/" not in name}
             second.write(f"{folder}/metadata", metadata)
             second.write(f"{folder}/targets", history.targets)
-            with open(f"{folder}/state", "wb") as file:
-                file.write(state)
+            common.write(f"{folder}/state", state)
             every = tufcheck.Job(state, second.PATHS, SECONDS, metadata, history.targets, limit=limit).verify()
             accepted = [path for path, row in every.verdicts.items() if row]
             if accepted and history.chance(0.5):
@@ -147,16 +141,7 @@ def lived(seed):
 
 def main():
     count, seed = int(sys.argv[3]), int((sys.argv + ["1"] * 5)[4] if len(sys.argv) > 4 else "1")
-    second.pool()
-    total, status = collections.Counter(), 0
-    with Pool() as workers:
-        for counts, differs in workers.imap_unordered(lived, range(seed, seed + count)):
-            total += counts
-            if differs:
-                print(differs, flush=True)
-                status = 1
-    for words, times in sorted(total.items()):
-        print(f"{times:8} {words}")
+    total, status = second.all_lived(lived, count, seed)
     runs = sum(times for words, times in total.items() if words.startswith("status"))
     good = total[f"status {int(Status.GOOD)}"]
     print(f"{count} histories, {runs} repositories, {good} of them good: {'some differ' if status else 'none differs'}")
