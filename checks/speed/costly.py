@@ -1,30 +1,12 @@
-#!/usr/bin/env python3
-"""Times `tufcheck verify` of files that are made to cost, each of a quarter, half and all of 5,000,000 bytes, and of a
-snapshot of a quarter, half and all of 2,000,000 bytes that is verified after one with the same names.
-
-  checks/speed/costly.py [CASE..]      all cases unless given, `snapshots` the last of them
-
-Every file is signed as it should be, by `tuf.py` of `checks`. It prints for each case the seconds from start to
-end by 0 and by 4 workers, the processor's seconds by 0 and the peak memory, and checks for the lines of the workflow.
-`rt run` in crates/tufcheck proves and builds the program. Nothing else should run meanwhile. It takes some minutes.
-"""
+"""Makes files that cost as much as possible of their size, for `hostile.py`. A kind makes the targets file, and those of
+the roles to which it delegates; the wanted path has a hundred characters."""
 import hashlib
-import os
-import subprocess
-import sys
-import tempfile
-import time
 
-sys.path.insert(0, os.path.dirname(os.path.dirname(os.path.abspath(__file__))))
 import tuf
 
-TOP = os.path.dirname(os.path.dirname(os.path.dirname(os.path.abspath(__file__))))
-PROGRAM = os.path.abspath(os.environ.get("PROGRAM", f"{TOP}/crates/tufcheck/out/tufcheck"))
-NOW = "2026-01-01T00:00:00Z"
 LIMIT = 5_000_000
 ROOM = 3_500
 PATH = "a" * 100
-FOUND = f'ok "{PATH}" 1 "targets"'
 KEY, OTHER = tuf.Key(1), tuf.Key(2)
 
 
@@ -138,88 +120,11 @@ def shared(size):
     return {"targets": delegating(b'"keys":' + listed + b',"roles":[' + fill(size, lambda n: item) + b"]"), "r": sealed}
 
 
-CASES = {
-    "deep": (deep, FOUND), "wide": (wide, FOUND), "members": (members, FOUND), "short_entries": (short_entries, FOUND),
-    "long_entries": (long_entries, FOUND), "stars": (stars, f'no "{PATH}" NotFound'),
-    "prefixes": (prefixes, f'no "{PATH}" NotFound'), "roles": (roles, f'no "{PATH}" NotFound'),
-    "skipped": (skipped, f'no "{PATH}" NotFound'), "keys": (keys, f'no "{PATH}" Unsigned "r"'),
-    "shared": (shared, f'role "r" 1\nno "{PATH}" NotFound'),
+# Each kind: the function that makes the files, the fault for which the path is refused, if any, and the roles on the way
+# to it below the top.
+KINDS = {
+    "deep": (deep, ""), "wide": (wide, ""), "members": (members, ""), "short_entries": (short_entries, ""),
+    "long_entries": (long_entries, ""), "stars": (stars, "NotFound"), "prefixes": (prefixes, "NotFound"),
+    "roles": (roles, "NotFound"), "skipped": (skipped, "NotFound"), "keys": (keys, 'Unsigned "r"'),
+    "shared": (shared, "NotFound", "r"),
 }
-
-
-def write(files):
-    for name, content in files.items():
-        with open(name, "wb") as file:
-            file.write(content)
-
-
-def run(*words):
-    """The lines, the seconds, the processor's seconds and the peak memory of a run."""
-    begin = time.monotonic()
-    process = subprocess.Popen([PROGRAM, *words], stdout=subprocess.PIPE)
-    lines = process.stdout.read().decode()
-    _, _, usage = os.wait4(process.pid, 0)
-    return lines, time.monotonic() - begin, usage.ru_utime + usage.ru_stime, usage.ru_maxrss // 1024
-
-
-def made(make, size):
-    """Makes the files in a process of its own, since a run's peak memory is at least that of the process that starts it."""
-    child = os.fork()
-    if not child:
-        files = make(size)
-        write({f"metadata/{role}.json": content for role, content in files.items()})
-        write({"metadata/snapshot.json": tuf.snapshot(KEY, files), "metadata/timestamp.json": tuf.timestamp(KEY)})
-        os._exit(0)
-    if os.waitpid(child, 0)[1]:
-        sys.exit("costly.py: the files couldn't be made")
-
-
-VERIFY = ["verify", "--metadata", "metadata", "--targets", "targets", "--now", NOW, "--out", "new"]
-
-
-def timed(name, file, lines, state):
-    """Runs with 0 and with 4 workers from a state, checks their lines, and prints what they took."""
-    runs = [run(*VERIFY, "--state", state, "--workers", workers, PATH) for workers in ("0", "4")]
-    for given in runs:
-        if given[0] != f"root 1\nend ready\n{lines}\n":
-            sys.exit(f"costly.py: {name}: {given[0]}")
-    (_, alone, used, memory), (_, beside, _, _) = runs
-    print(f"{name}: {os.path.getsize(file)} bytes: {alone:.2f} s by 0 workers, {beside:.2f} s by 4, {used:.2f} s of"
-          f" processor, {memory} MB", flush=True)
-
-
-def measure(name, size):
-    make, lines = CASES[name]
-    made(make, size - ROOM)
-    timed(name, "metadata/targets.json", lines, "state")
-
-
-def snapshots(size):
-    """A snapshot with as many names as fit, after one with the same names."""
-    names = ["targets", *("%06d" % n for n in range((size - ROOM) // 31))]
-    write({"metadata/targets.json": targets()})
-    for version in (1, 2):
-        write({"metadata/snapshot.json": tuf.snapshot(KEY, names, version)})
-        write({"metadata/timestamp.json": tuf.timestamp(KEY, version)})
-        timed("snapshots", "metadata/snapshot.json", FOUND, "state" if version == 1 else "first")
-        os.replace("new", "first")
-
-
-def main():
-    cases = sys.argv[1:] or [*CASES, "snapshots"]
-    with tempfile.TemporaryDirectory() as room:
-        os.chdir(room)
-        os.mkdir("metadata")
-        os.mkdir("targets")
-        write({"metadata/1.root.json": tuf.root(KEY), f"targets/{PATH}": b"x"})
-        run("init", "metadata/1.root.json", "--out", "state")
-        for name in cases:
-            for quarters in (1, 2, 4):
-                if name == "snapshots":
-                    snapshots(2_000_000 * quarters // 4)
-                else:
-                    measure(name, LIMIT * quarters // 4)
-
-
-if __name__ == "__main__":
-    main()

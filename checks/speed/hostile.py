@@ -1,9 +1,9 @@
-"""Makes hostile and large mirrors, for `mirrors.py`. Each is written into the folder where its function is called,
+"""Makes hostile and large mirrors, for the scripts beside it. Each is written into the folder where its function is called,
 which has empty folders `metadata` and `targets`."""
 import hashlib
 from typing import Callable, NamedTuple
 
-import bins
+from common import read, write
 import costly
 import tuf
 
@@ -14,7 +14,7 @@ class Mirror(NamedTuple):
     """The paths that may be wanted, and what the workflow does with them: the step at which it stops as unsigned, if
     any, and else the roles on the way to a path, the last of which lists it, the length of its file, and the fault for
     which all of them are refused, if any. If there is a script, `tufcheck make` makes the files from it. Of a whole mirror
-    every file is wanted, and the paths are all, in byte order."""
+    every file is wanted, and the paths are all, in byte order. The state before is that of the first root unless given."""
 
     paths: list
     stop: str = ""
@@ -23,11 +23,7 @@ class Mirror(NamedTuple):
     length: Callable = len
     fault: str = ""
     whole: bool = False
-
-
-def write(name, content):
-    with open(name, "wb") as file:
-        file.write(content)
+    before: bytes = b""
 
 
 def write_holes(name, size):
@@ -147,15 +143,47 @@ def target(size):
     return stopped(["large", "small"])
 
 
-def forged(kind, size=costly.LIMIT):
-    """The files of a kind of `costly.py`."""
+def write_costly(kind, size):
+    """Writes the files of a kind of `costly.py`, the targets file of some bytes fewer than that."""
+    files = costly.KINDS[kind][0](size - costly.ROOM)
     write("metadata/1.root.json", tuf.root(KEY))
+    for name, content in files.items():
+        write(f"metadata/{name}.json", content)
+    write("metadata/snapshot.json", tuf.snapshot(costly.KEY, files))
+    write("metadata/timestamp.json", tuf.timestamp(costly.KEY))
+
+
+def forged(kind, size=costly.LIMIT):
     costly.KEY = Forged()
-    costly.made(costly.CASES[kind][0], size - costly.ROOM)
+    write_costly(kind, size)
     return stopped([costly.PATH])
 
 
 # Honest mirrors.
+
+
+def state_of(*roles):
+    """The state file that trusts the files of these roles."""
+    names = {role: "1.root" if role == "root" else role for role in roles}
+    return tuf.canonical({role: read(f"metadata/{name}.json").hex() for role, name in names.items()})
+
+
+def signed(kind, size):
+    _, fault, *way = costly.KINDS[kind]
+    write_costly(kind, size)
+    write(f"targets/{costly.PATH}", b"x")
+    return Mirror([costly.PATH], way=lambda path: ["targets", *way], length=lambda path: len(b"x"), fault=fault)
+
+
+def snapshots(size):
+    """A snapshot with as many names as fit, after one with the same names."""
+    mirror, states = signed("deep", costly.ROOM), []
+    names = ["targets", *("%06d" % number for number in range((size - costly.ROOM) // 31))]
+    for version in (1, 2):
+        write("metadata/snapshot.json", tuf.snapshot(KEY, names, version))
+        write("metadata/timestamp.json", tuf.timestamp(KEY, version))
+        states.append(state_of("root", "snapshot", "targets", "timestamp"))
+    return mirror._replace(before=states[0])
 
 
 def write_signed(listed):
@@ -180,11 +208,15 @@ def listing(role, path):
 
 
 def hashed(targets, bits, content=str.encode):
-    """The mirror of `bins.py`."""
-    paths = [bins.path_of(number) for number in range(targets)]
-    way = lambda path: ["targets", bins.name_of(bits, bins.bin_of(bits, path))]
+    """Targets in hash bins, as a package index would lay them out, each of which has the content of its path."""
+    paths = [f"packages/{number % 256:02x}/package-{number}.tar.gz" for number in range(targets)]
+    name_of = lambda number: f"bin-{number:0{(bits + 3) // 4}x}"
+    bin_of = lambda path: name_of(int.from_bytes(hashlib.sha256(path.encode()).digest(), "big") >> (256 - bits))
+    lines = ["key 5 10", f"succinct targets 1 5 {bits} bin"]
+    lines += [f"target {bin_of(path)} {path} {content(path).hex()} sha256" for path in paths]
+    lines += [f"write {name_of(number)} 1 5" for number in range(2 ** bits)]
     length = lambda path: len(content(path))
-    return Mirror(paths, way=way, script=bins.script(targets, bits, content), length=length)
+    return Mirror(paths, way=lambda path: ["targets", bin_of(path)], script=script(*lines), length=length)
 
 
 def folders(targets, roles):
@@ -255,8 +287,8 @@ CASES = {
     "listings": [("listings", listings, (50_000, 5_000), (5_000,))],
     "roots": [("roots", roots, (250, 500_000), (1,))],
     "target": [("target", target, (600_000_000,), (2,))],
-    "costly": [(f"costly {kind}", forged, (kind,), (1,)) for kind in costly.CASES],
-    "fitting": [(f"fitting {kind}", forged, (kind, 3_950_000), (1,)) for kind in costly.CASES],
+    "costly": [(f"costly {kind}", forged, (kind,), (1,)) for kind in costly.KINDS],
+    "fitting": [(f"fitting {kind}", forged, (kind, 3_950_000), (1,)) for kind in costly.KINDS],
     "bins": [(f"bins {2 ** bits}", hashed, (20_000, bits), (1, 1_000, 20_000)) for bits in (6, 10)],
     "folders": [("folders", folders, (20_000, 1_000), (1, 1_000, 20_000))],
     "diamond": [("diamond", diamond, (2_000,), (2_000,))],
@@ -264,4 +296,7 @@ CASES = {
     "signatures": [("signatures", signatures, (32, 32), (1,))],
     "large": [(f"large {size}", large, (size,), (1,)) for size in (3_900_000, 5_000_000)],
     "whole": [("whole", whole, (20_000, 32, 32), (20_000,))],
+    "signed": [(f"{kind} {size // 1000}k", signed, (kind, size), (1,))
+               for kind in costly.KINDS for size in (1_250_000, 2_500_000, 5_000_000)],
+    "snapshots": [(f"snapshots {size // 1000}k", snapshots, (size,), (1,)) for size in (500_000, 1_000_000, 2_000_000)],
 }

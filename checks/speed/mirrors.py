@@ -3,8 +3,9 @@
 
   checks/speed/mirrors.py [--program PROGRAM] [--before PROGRAM] [--rounds N] [--most SECONDS] [CASE..]
 
-The program is crates/tufcheck/out/tufcheck unless given, which `rt run` in crates/tufcheck proves and builds. With
-`--before` each round runs that program and then the other. There are 3 rounds and all cases unless given.
+The program is crates/tufcheck/out/tufcheck, which `rt run` in crates/tufcheck proves and builds, unless it is given or
+PROGRAM in the environment names another. With `--before` each round runs that program and then the other. There are 3
+rounds and all cases unless given.
 
 For each mirror, number of wanted paths and number of workers it prints the medians of the seconds from start to end, of
 the processor's seconds and of the peak memory in MB (at least that of this script). A run is killed after 60 seconds
@@ -28,7 +29,7 @@ In a hostile mirror no key has signed the files beside the right first root:
   costly     each kind of file of `costly.py`, with a forged signature under the right key's id
   fitting    the same kinds with 3,950,000 bytes, which fit into the bytes that are read ahead
 
-In an honest one all is signed, and all wanted paths are accepted:
+In an honest one all is signed, and all wanted paths are accepted, but those of some kinds of `signed`:
 
   bins       20,000 targets in 64 and in 1,024 hash bins
   folders    20,000 targets in 1,000 roles, each for the paths of a folder
@@ -37,6 +38,8 @@ In an honest one all is signed, and all wanted paths are accepted:
   signatures 1,024 signatures: 32 roles that 32 keys sign each, of which the last lists the target
   large      a targets file of 3,900,000 and one of 5,000,000 bytes, of which one target is wanted
   whole      20,000 targets in 32 roles that 32 keys sign each, 5 MB of metadata, every file wanted by `--every`
+  signed     each kind of file of `costly.py`, of 1,250,000, 2,500,000 and 5,000,000 bytes
+  snapshots  a snapshot of 500,000, 1,000,000 and 2,000,000 bytes, after one with the same names
 
 It takes some minutes, and up to a minute more for each run that is killed. Nothing else should run meanwhile.
 """
@@ -44,38 +47,18 @@ import argparse
 import filecmp
 import itertools
 import os
-import signal
 import statistics
 import subprocess
 import sys
-import tempfile
-import time
-from typing import NamedTuple
 
 sys.path.insert(0, os.path.dirname(os.path.dirname(os.path.abspath(__file__))))
-from hostile import CASES, write
-import tuf
+import common
+from common import Run, read, write
+from hostile import CASES, state_of
 
 SCRIPT = os.path.basename(sys.argv[0])
-TOP = os.path.dirname(os.path.dirname(os.path.dirname(os.path.abspath(__file__))))
-NOW = "2026-01-01T00:00:00Z"
 WORKERS = ("0", "4")
 REFUSED = "status 4, tufcheck: memory"
-
-
-class Run(NamedTuple):
-    """The seconds, the processor's seconds and the peak memory of a run, and what it ended by before it was done, if
-    anything."""
-
-    seconds: float
-    processor: float
-    memory: int
-    end: str = ""
-
-
-def read(name):
-    with open(name, "rb") as file:
-        return file.read()
 
 
 def lines_of(mirror, paths):
@@ -89,19 +72,13 @@ def lines_of(mirror, paths):
     return f"root 1\nend ready\n{roles}{verdicts}"
 
 
-def state_of(*roles):
-    """The state file that trusts the files of these roles."""
-    names = {role: "1.root" if role == "root" else role for role in roles}
-    return tuf.canonical({role: read(f"metadata/{name}.json").hex() for role, name in names.items()})
-
-
 def prepare(program, make, sizes, counts):
     """Makes a mirror, the state before a run, and what is expected: the state after it, the status and the lines."""
     mirror = make(*sizes)
     if mirror.script:
         write("script", mirror.script.encode())
         subprocess.run([program, "make", "script", "."], check=True)
-    write("state", state_of("root"))
+    write("state", mirror.before or state_of("root"))
     write("due.state", state_of("root") if mirror.stop else state_of("root", "snapshot", "targets", "timestamp"))
     write("due.status", b"2" if mirror.stop else b"1" if mirror.fault else b"0")
     for count in counts:
@@ -122,21 +99,6 @@ def prepared(*given):
         os._exit(1)
     if os.waitpid(child, 0)[1]:
         sys.exit(f"{SCRIPT}: the mirror couldn't be made")
-
-
-def run(words, most):
-    """Runs the program for at most that many seconds. Returns its status and what it took."""
-    begin = time.monotonic()
-    with open("lines", "wb") as lines, open("errors", "wb") as errors:
-        process = subprocess.Popen(words, stdout=lines, stderr=errors)
-    signal.signal(signal.SIGALRM, lambda *_: os.kill(process.pid, signal.SIGKILL))
-    signal.setitimer(signal.ITIMER_REAL, most)
-    _, status, usage = os.wait4(process.pid, 0)
-    signal.setitimer(signal.ITIMER_REAL, 0)
-    took = time.monotonic() - begin
-    process.returncode = os.waitstatus_to_exitcode(status)
-    end = f"over {most:g}" if process.returncode == -signal.SIGKILL and took >= most else ""
-    return process.returncode, Run(took, usage.ru_utime + usage.ru_stime, usage.ru_maxrss // 1024, end)
 
 
 def is_same(one, other):
@@ -164,9 +126,8 @@ def verify(program, workers, count, most):
     """Runs `verify`. Returns what it took, and how it differs from what is expected."""
     if os.path.exists("new"):
         os.remove("new")
-    words = [program, "verify", "--state", "state", "--metadata", "metadata", "--targets", "targets", "--now", NOW]
-    words += ["--limit", "33", "--workers", workers, "--out", "new", *read(f"wanted.{count}").decode().split("\n")]
-    status, taken = run(words, most)
+    wanted = read(f"wanted.{count}").decode().split("\n")
+    status, taken = common.timed([program, *common.verify("--limit", "33", *wanted, workers=workers)], most)
     return taken, None if taken.end else fault_of(status, count)
 
 
@@ -211,19 +172,17 @@ def made(options, cases, folder=None):
     Gives the name of each, with each number of wanted paths."""
     for case in options.cases or cases:
         for name, make, sizes, counts in cases[case]:
-            with tempfile.TemporaryDirectory(dir=folder) as room:
-                os.chdir(room)
+            with common.room(folder):
                 os.mkdir("metadata")
                 os.mkdir("targets")
                 prepared(options.programs[-1], make, sizes, counts)
                 for count in counts:
                     yield name, count
-                os.chdir(TOP)
 
 
 def parser_of(description):
     parser = argparse.ArgumentParser(description=description, formatter_class=argparse.RawDescriptionHelpFormatter)
-    parser.add_argument("--program", default=f"{TOP}/crates/tufcheck/out/tufcheck", metavar="PROGRAM")
+    parser.add_argument("--program", default=common.PROGRAM, metavar="PROGRAM")
     parser.add_argument("--before", metavar="PROGRAM")
     parser.add_argument("--rounds", type=int, default=3, metavar="N")
     parser.add_argument("--most", type=float, default=60, metavar="SECONDS")

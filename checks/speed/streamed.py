@@ -51,6 +51,7 @@ import subprocess
 import sys
 
 sys.path.insert(0, os.path.dirname(os.path.dirname(os.path.abspath(__file__))))
+import common
 import hostile
 import mirrors
 import tuf
@@ -61,7 +62,7 @@ WANTED = "abc"
 
 
 def first():
-    script = mirrors.read(f"{mirrors.TOP}/examples/first.script").decode()
+    script = common.read(f"{common.TOP}/examples/first.script").decode()
     return hostile.Mirror(["abc.txt"], script=script, length=lambda path: len(b"abc"))
 
 
@@ -84,7 +85,7 @@ def mirrored(write, paths, size, **more):
     listed = {path: write(path, size) for path in paths}
     hostile.write_signed(listed)
     sums = (f"{it['hashes']['sha256']}  targets/{path}\n" for path, it in listed.items())
-    hostile.write("due.sums", "".join(sums).encode())
+    common.write("due.sums", "".join(sums).encode())
     return hostile.Mirror(list(listed), length=lambda path: size, **more)
 
 
@@ -106,7 +107,7 @@ def write_zeros(path, size):
 def small(**others):
     """One wanted target of 3 bytes, with what is listed beside it."""
     hostile.write_signed({WANTED: tuf.target(WANTED.encode()), **others})
-    hostile.write(f"targets/{WANTED}", WANTED.encode())
+    common.write(f"targets/{WANTED}", WANTED.encode())
     return hostile.Mirror([WANTED])
 
 
@@ -149,7 +150,7 @@ def cases(scale):
 
 def summed():
     """A run of `sha256sum -c` over the files whose digests are listed."""
-    status, taken = mirrors.run(["sha256sum", "-c", "due.sums"], 0)
+    status, taken = common.timed(["sha256sum", "-c", "due.sums"])
     if status:
         sys.exit(f"{mirrors.SCRIPT}: sha256sum has status {status}")
     return taken
