@@ -19,9 +19,7 @@
 # --fail-alloc N` has the same results, and builds the program for each N, which takes a minute or two.)
 set -u
 first=${1:-1} last=${2:-100000} step=${3:-1}
-top=$(cd "$(dirname "$0")/../.." && pwd) || exit 2
-work=$(mktemp -d) || exit 2
-trap 'rm -rf "$work"' EXIT
+. "$(dirname "$0")/../common.sh"
 
 cat > "$work/refuse.c" <<'END'
 #define _GNU_SOURCE
@@ -50,11 +48,8 @@ void *realloc(void *old, size_t size) {
 }
 END
 cc -shared -fPIC -O1 -o "$work/refuse.so" "$work/refuse.c" -ldl || exit 2
-program=$(realpath -m "${PROGRAM:-$top/crates/tufcheck/out/tufcheck}")
-trials=$(realpath -m "${TRIALS:-$top/crates/trials/out/trials}")
-[ -n "${PROGRAM-}" ] || (cd "$top/crates/tufcheck" && rt run) > "$work/built" 2>&1 || { tail -5 "$work/built"; exit 2; }
-[ -n "${TRIALS-}" ] || (cd "$top/crates/trials" && rt run) > "$work/built" 2>&1
-[ -x "$trials" ] || { tail -5 "$work/built"; exit 2; }
+find_program
+find_trials
 export MET="$work/met"
 cp "$program" "$work/tufcheck" || exit 2
 cp "$top/examples/first.script" "$top/crates/trials/data/cases/shared.script" "$work" && cd "$work" || exit 2

@@ -11,8 +11,7 @@
 # calls. `rt run` in crates/tufcheck proves and builds the program, once, unless PROGRAM in the environment names another.
 set -u
 kills=${1:-500}
-top=$(cd "$(dirname "$0")/../.." && pwd) || exit 2
-work=$(mktemp -d) || exit 2
+. "$(dirname "$0")/../common.sh"
 trap 'umount "$work/small" 2> /dev/null; rm -rf "$work"' EXIT
 
 cat > "$work/refuse.c" <<'END'
@@ -61,8 +60,7 @@ int fchmod(int file, unsigned mode) { NEXT("fchmod", file, mode); }
 int rename(const char *from, const char *to) { NEXT("rename", from, to); }
 END
 cc -shared -fPIC -O1 -w -o "$work/refuse.so" "$work/refuse.c" -ldl || exit 2
-program=$(realpath -m "${PROGRAM:-$top/crates/tufcheck/out/tufcheck}")
-[ -n "${PROGRAM-}" ] || (cd "$top/crates/tufcheck" && rt run) > "$work/built" 2>&1 || { tail -5 "$work/built"; exit 2; }
+find_program
 cp "$program" "$work/tufcheck" && cp "$top/examples/first.script" "$work" && cd "$work" || exit 2
 
 # verify FOLDER: brings the state FOLDER/s up to date

@@ -17,8 +17,6 @@
 # only by an answer in proofs/ that names what it took away, which the gate counts as refused). One check of 21 edits of
 # cjson took four minutes on four busy cores; the gate tries as many in about ten.
 set -u
-top=$(cd "$(dirname "$0")/../.." && pwd) || exit 2
-work=$(mktemp -d) || exit 2
-trap 'rm -rf "$work"' EXIT
+. "$(dirname "$0")/../common.sh"
 cp -a "$top" "$work/copy" || exit 2
 python3 "$top/checks/gate/bodies.py" "$top" "$work/copy" "$@"

@@ -21,10 +21,8 @@
 set -u
 export LC_ALL=C
 count=${1:-1000}
-top=$(cd "$(dirname "$0")/../.." && pwd) || exit 2
+. "$(dirname "$0")/../common.sh"
 library=${LIBRARY:-$top/crates/tufcheck_c/out/libtufcheck_c.a} program=$(realpath "${PROGRAM:-$top/crates/tufcheck/out/tufcheck}")
-work=$(mktemp -d) || exit 2
-trap 'rm -rf "$work"' EXIT
 here=$top/checks/second/library now=1767225600 failed=0
 
 # done STATUS WHAT: a line for a thing that was tried, with what it printed if it failed

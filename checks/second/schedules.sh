@@ -9,13 +9,9 @@
 # script ends with status 1 if a run printed something else, and with 2 if the program couldn't be built or run.
 set -u
 runs=${1:-5000} seed=${2:-1}
-top=$(cd "$(dirname "$0")/../.." && pwd) || exit 2
-work=$(mktemp -d) || exit 2
-trap 'rm -rf "$work"' EXIT
-[ -n "${TRIALS-}" ] || (cd "$top/crates/trials" && rt run) > "$work/built" 2>&1
-program=$(realpath -m "${TRIALS:-$top/crates/trials/out/trials}") cases=$top/crates/trials/data/cases
-[ -x "$program" ] || { echo "no program $program"; exit 2; }
-mkdir -p "$work/room/cases" && cp "$cases"/*.script "$work/room/cases" && cd "$work/room" || exit 2
+. "$(dirname "$0")/../common.sh"
+find_trials
+mkdir -p "$work/room/cases" && cp "$top"/crates/trials/data/cases/*.script "$work/room/cases" && cd "$work/room" || exit 2
 cat > cases/stress.rows <<CASE
   \$ make first
   \$ stress first $runs $seed abc.txt abd.txt
@@ -24,4 +20,4 @@ cat > cases/stress.rows <<CASE
   \$ stress shared $runs $seed x/1 y/1 x/1 y/1
   $runs runs, 0 differ
 CASE
-"$program"
+"$trials"

@@ -7,9 +7,7 @@
 # `rt run` in crates/trials proves and builds the program. The first key takes 284 million steps of chains and the
 # second 33 million.
 set -u
-top=$(cd "$(dirname "$0")/../.." && pwd) || exit 2
-work=$(mktemp -d) || exit 2
-trap 'rm -rf "$work"' EXIT
+. "$(dirname "$0")/../common.sh"
 mkdir "$work/cases" && cp "$top/crates/trials/data/cases/leaf-w4-15-5.vector" "$work/cases" || exit 2
 cat > "$work/cases/tallest.rows" << 'LINES'
 The first signature and the sixth of a key of W8 and height 15.

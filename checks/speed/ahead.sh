@@ -17,10 +17,8 @@
 # signatures in memory, in eleven rounds: `rt run` in crates/bench builds it.
 set -u
 runs=${1:-11}
-top=$(cd "$(dirname "$0")/../.." && pwd) || exit 2
+. "$(dirname "$0")/../common.sh"
 program=$top/crates/tufcheck/out/tufcheck
-work=$(mktemp -d) || exit 2
-trap 'rm -rf "$work"' EXIT
 
 # joined FIRST LAST: the numbers with commas between
 joined() {

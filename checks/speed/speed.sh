@@ -11,12 +11,10 @@
 # OPENSSL_ia32cap says holds for OpenSSL: `:~0x20000000` leaves out the SHA extensions.
 set -u
 rounds=${1:-11}
-top=$(cd "$(dirname "$0")/../.." && pwd) || exit 1
+. "$(dirname "$0")/../common.sh"
 [ $# -eq 0 ] || shift
 [ $# -gt 0 ] || set -- "$top/crates/bench/out/bench"
 jar=${BCPROV:-/usr/share/java/bcprov.jar}
-work=$(mktemp -d) || exit 1
-trap 'rm -rf "$work"' EXIT
 [[ $rounds =~ ^[1-9][0-9]{0,2}$ ]] || { echo "speed.sh: ROUNDS is 1 to 999" >&2; exit 1; }
 status=0
 : > "$work/rows"
