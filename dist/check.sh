@@ -8,7 +8,8 @@
 # status is 1 where something failed. It takes a few seconds, and installs nothing.
 #
 # For both: the help, the run without arguments, a repository that is made and verified, the man page, the completions of each
-# shell that is here, the libraries, and with strace every file that the program opens. Then the program runs in a root
+# shell that is here, the libraries, and with strace every file that the program opens. For the package also the operator's
+# scripts, page and unit. Then the program runs in a root
 # folder that has nothing but it and its libraries (for the superuser, or where user namespaces are allowed), and the
 # release is packaged again from the unpacked program, which must make the same bytes. Last, dist/halves.sh compares the two
 # builds.
@@ -168,6 +169,24 @@ tried() {
     fi
 }
 
+# operated USR: the operator's scripts, page and unit of the Debian package
+operated() {
+    local script
+    for script in run setup; do
+        env -i "$1/sbin/tufcheck-$script" --help > "$work/seen" 2>&1 && grep -q "^usage: tufcheck-$script" "$work/seen"
+        report $? "package: \`tufcheck-$script --help\` has status 0"
+    done
+    if has man "package: the page of tufcheck-run"; then
+        MANPAGER=cat MANWIDTH=80 man --warnings -M "$1/share/man" tufcheck-setup > "$work/page" 2> "$work/seen"
+        [ ! -s "$work/seen" ] && grep -q CONFIGURATION "$work/page"
+        report $? "package: \`man tufcheck-setup\` renders the page, with no warning"
+    fi
+    if has systemd-analyze "package: the unit"; then
+        SYSTEMD_UNIT_PATH="$1/lib/systemd/system:" systemd-analyze security --offline=true --threshold=15 tufcheck@it.service > "$work/seen" 2>&1
+        report $? "package: \`systemd-analyze security\` rates the unit at most 1.5"
+    fi
+}
+
 # bare RUN..: by RUN, the session in a root folder that has nothing but the program and its libraries
 bare() {
     local library room=$work/bare
@@ -197,6 +216,7 @@ if has dpkg-deb "the Debian package"; then
         report $? "package: its program is the tarball's"
         dpkg-deb -e "$from/$deb" "$work/deb/DEBIAN" && (cd "$work/deb" && md5sum -c DEBIAN/md5sums) > "$work/seen" 2>&1
         report $? "package: its list of sums"
+        operated "$work/deb/usr"
     else
         report 1 "package: it can be unpacked"
     fi

@@ -6,6 +6,8 @@
 # Both have the program, the man page, completions for bash, zsh and fish, the user's page with the pages and the examples
 # that it leads to, and the licenses. The built program is packaged unchanged; only one of 3,000,000 bytes or more is
 # stripped, which is printed. The package depends on what the program links, by the packages of this machine that own it.
+# It also has the scripts and units of dist/operator in their places, and depends on Python for them; the tarball has them
+# in share/doc/tufcheck/operator.
 #
 # The same files make the same bytes: times are SOURCE_DATE_EPOCH or else the last commit's, the owner is 0, and names are
 # sorted. (Another gzip, tar or dpkg may compress otherwise.) The status is 0, or 1 if something is refused, which is printed.
@@ -61,11 +63,28 @@ laid() {
         install -D -m 644 -t "$doc" "$top"/docs/{USERS,SCRIPTS,OPERATING,SIGNING,FORMATS,BENCHMARKS}.md &&
         install -D -m 644 -t "$doc/examples" "$top"/examples/*.script &&
         install -m 755 -t "$doc/examples" "$top"/examples/*.sh &&
-        sed -i 's,](\.\./examples,](examples,g; s,\[man page\](tufcheck\.1),man page,g' "$doc"/{SCRIPTS,USERS,OPERATING}.md &&
+        sed -i 's,](\.\./examples,](examples,g; s,\[man page\](tufcheck\.1),man page,g; s,\[\(tufcheck-run(8)\)\](tufcheck-run\.8),\1,g' "$doc"/{SCRIPTS,USERS,OPERATING}.md &&
         sed -i -E 's,\[([A-Z]+)\]\((\.\./)?(ATTACKS|DECISIONS|PROOFS|SECURITY)\.md\),\1,g' "$doc"/{BENCHMARKS,FORMATS}.md &&
         cat "$top/dist/notices" "$top/LICENSE" > "$doc/copyright" &&
         mkdir -p "$1/share/man/man1" &&
         gzip -9n < "$top/docs/tufcheck.1" > "$1/share/man/man1/tufcheck.1.gz"
+}
+
+# operated USR: the scripts and units of dist/operator, in the places of a Debian package
+operated() {
+    local from=$top/dist/operator share=$1/share/tufcheck doc=$1/share/doc/tufcheck/examples name
+    install -D -m 644 -t "$share" "$from/settings.py" &&
+        install -m 755 -t "$share" "$from"/tufcheck-{run,setup} &&
+        install -D -m 644 -t "$1/lib/systemd/system" "$from"/tufcheck@.{service,timer} &&
+        install -D -m 644 "$from/sysusers.conf" "$1/lib/sysusers.d/tufcheck.conf" &&
+        install -D -m 644 "$from/tmpfiles.conf" "$1/lib/tmpfiles.d/tufcheck.conf" &&
+        install -m 644 -t "$doc" "$from"/{NAME.conf,tufcheck-alerts.yml} &&
+        mkdir -p "$1/sbin" "$1/share/man/man8" &&
+        gzip -9n < "$top/docs/tufcheck-run.8" > "$1/share/man/man8/tufcheck-run.8.gz" &&
+        ln -s tufcheck-run.8.gz "$1/share/man/man8/tufcheck-setup.8.gz" || return 1
+    for name in run setup; do
+        ln -s "../share/tufcheck/tufcheck-$name" "$1/sbin/tufcheck-$name" || return 1
+    done
 }
 
 # dated ROOT: sets the time of all files below ROOT
@@ -73,7 +92,11 @@ dated() {
     find "$1" -exec touch -h -d "@$when" {} +
 }
 
-laid "$work/$name" site-functions || refused "a file of the release is missing"
+laid "$work/$name" site-functions &&
+    install -D -m 644 -t "$work/$name/share/doc/tufcheck/operator" "$top"/dist/operator/{settings.py,tufcheck@.*,*.conf,*.yml} &&
+    install -m 755 -t "$work/$name/share/doc/tufcheck/operator" "$top"/dist/operator/tufcheck-{run,setup} &&
+    gzip -9n < "$top/docs/tufcheck-run.8" > "$work/$name/share/doc/tufcheck/operator/tufcheck-run.8.gz" ||
+    refused "a file of the release is missing"
 dated "$work/$name"
 tar -C "$work" --sort=name --format=ustar --owner=0 --group=0 --numeric-owner --mtime="@$when" -cf "$work/release.tar" "$name" || exit 1
 gzip -9n < "$work/release.tar" > "$out/$name.tar.gz" || exit 1
@@ -100,7 +123,7 @@ depends() {
 
 if command -v dpkg-deb > "$work/found" && command -v ldd > "$work/found"; then
     root=$work/deb
-    laid "$root/usr" vendor-completions || refused "a file of the release is missing"
+    laid "$root/usr" vendor-completions && operated "$root/usr" || refused "a file of the release is missing"
     depends > "$work/depends" || exit 1
     grep -q '^unowned' "$work/depends" && refused "no package owns a library: $(grep '^unowned' "$work/depends")"
     mkdir "$root/DEBIAN" || exit 1
@@ -112,15 +135,20 @@ if command -v dpkg-deb > "$work/found" && command -v ldd > "$work/found"; then
         echo "Maintainer: Fullqimi maintainers <maintainers@users.noreply.fullqimi.example>"
         # A kibibyte for each folder, and each file's bytes rounded up
         echo "Installed-Size: $(find "$root/usr" \( -type f -printf '%s\n' \) -o -printf '1\n' | awk '{ n += int(($1 + 1023) / 1024) } END { print n }')"
-        [ -s "$work/depends" ] && echo "Depends: $(paste -s -d, "$work/depends" | sed 's/,/, /g')"
+        echo "Depends: $(echo 'python3:any (>= 3.9)' | cat "$work/depends" - | paste -s -d, | sed 's/,/, /g')"
+        echo "Recommends: systemd"
+        echo "Suggests: prometheus-node-exporter"
         echo "Section: utils"
         echo "Priority: optional"
         echo "Description: verify an update repository of The Update Framework"
         echo " tufcheck verifies a repository of The Update Framework (TUF 1.0) with LMS"
         echo " signatures (RFC 8554) that lies in two folders, one of metadata files and"
         echo " one of target files. It fetches nothing."
+        echo " ."
+        echo " tufcheck-setup sets up a timer that verifies such a repository."
     } > "$root/DEBIAN/control"
     chmod 644 "$root"/DEBIAN/*
+    install -m 755 -t "$root/DEBIAN" "$top"/dist/operator/{postinst,prerm,postrm} || exit 1
     dated "$root"
     SOURCE_DATE_EPOCH=$when dpkg-deb --root-owner-group -Zgzip -z9 -b "$root" "$out/$deb" > "$work/built" 2>&1 ||
         refused "dpkg-deb: $(cat "$work/built")"
