@@ -89,6 +89,33 @@ What the examples below begin from.
   end ready
   ok "a/b/c/d/e/f" 1 "targets"
 
+A file of that name in the current folder is none of the folder of targets.
+  $ put targets/abc.txt
+  > abd
+  $ put abc.txt
+  > abc
+  $ folder d1
+  $ put d1/f
+  > 1
+  $ by 0,1,4 old new abc.txt d1/f d2/f
+  root 1
+  end ready
+  no "abc.txt" HashWrong
+  ok "d1/f" 1 "targets"
+  ok "d2/f" 1 "targets"
+  [1]
+  $ copy abc.txt targets/abc.txt
+  $ put abc.txt
+  > abd
+  $ put d1/f
+  > 0
+  $ by 0,1,4 old new abc.txt d1/f d2/f
+  root 1
+  end ready
+  ok "abc.txt" 3 "targets"
+  ok "d1/f" 1 "targets"
+  ok "d2/f" 1 "targets"
+
 Metadata files stand directly in their folder.
   $ folder metadata/below
   $ copy metadata/timestamp.json metadata/below/timestamp.json
