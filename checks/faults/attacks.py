@@ -1,6 +1,6 @@
 #!/usr/bin/env python3
 """Attacks on the program, by each who may try: who writes the mirror, who has the keys of one delegated role, who writes
-the folder of copies, a second run, a killed run, and files without an end.
+the folder of copies, another user, a second run, a killed run, files without an end, and a disk that is full.
 
     checks/faults/attacks.py [--later] [PROGRAM [ATTACK..]]      all attacks unless given
 
@@ -384,6 +384,31 @@ def link_to_the_state_made_meanwhile(room):
     over_the_state(room, ["rename:s"])
 
 
+# Another user, who may read and write what everybody may.
+
+
+def for_its_owner_alone(held, name, **how):
+    """A run is held while it writes: only its owner may use its temporary files, also where new files are for everybody."""
+    def act(room):
+        room.make("repo", ABC)
+        room.at("s").chmod(0o666)
+        mask = os.umask(0)
+        try:
+            run = room.start("run", room.words("repo", "abc.txt", **how), [held])
+        finally:
+            os.umask(mask)
+        mode = stat.S_IMODE(os.stat(room.at(name)).st_mode)
+        run.go()
+        need(run.end() == 0, run.printed())
+        need(not mode & 0o077, f"{name} has the mode {mode:o}")
+    return act
+
+
+attack("user/new-state-while-it-is-written")(for_its_owner_alone("write:/s.1.new", "s.1.new"))
+attack("user/copy-while-it-is-written")(for_its_owner_alone("write:/.tufcheck.1.new/1", "out/.tufcheck.1.new", into="out"))
+attack("user/copy-before-its-move")(for_its_owner_alone("rename:/abc.txt", "out/.tufcheck.1.new", into="out"))
+
+
 # Who writes the mirror, while the run reads it.
 
 
@@ -448,6 +473,24 @@ for name, words in ENDLESS.items():
     attack(f"endless/{name}")(endless(words, "/dev/zero"))
 attack("endless/root-of-100-gigabytes")(endless(ENDLESS["root"], "large"))
 attack("endless/state-of-100-gigabytes")(endless(ENDLESS["state"], "large"))
+
+
+def endless_in_the_mirror(file, status, line, **how):
+    """A file of the mirror takes no more memory or time than it may: its line says what is wrong with it."""
+    def act(room):
+        room.make("repo", ABC)
+        with open(room.at("repo", file), "wb") as large:
+            large.truncate(100_000_000_000)
+        ran = room.verify("repo", "abc.txt", **how)
+        need(ran.status == status and line in ran.lines.splitlines(), ran)
+    return act
+
+
+for kind in ("timestamp", "snapshot", "targets"):
+    attack(f"mirror/{kind}-of-100-gigabytes")(endless_in_the_mirror(f"metadata/{kind}.json", 2, f"end {kind} TooLong"))
+TOO_LONG = "targets/abc.txt", 1, 'no "abc.txt" LengthWrong'
+attack("mirror/target-of-100-gigabytes")(endless_in_the_mirror(*TOO_LONG))
+attack("mirror/target-of-100-gigabytes-with-copies")(endless_in_the_mirror(*TOO_LONG, into="out"))
 
 
 @attack("endless/list-through-a-pipe")
@@ -645,8 +688,60 @@ def flush_fails(folder, *paths):
     return act
 
 
+attack("crash/flush-of-a-copy-that-fails")(flush_fails("/.tufcheck.1.new/1", "abc.txt"))
+attack("crash/flush-of-the-new-state-that-fails")(flush_fails("/s.1.new", "abc.txt"))
 attack("crash/flush-that-fails")(flush_fails("/out", "abc.txt"))
 attack("crash/flush-of-a-folder-below-that-fails")(flush_fails("/out/d/e", "abc.txt", "d/e/f"))
+
+
+# A disk that is full, or takes less at once than it is given.
+
+# Files of several pieces.
+PIECES = {"abc.txt": b"abc" * 60_000, "d/e/f": b"f" * 100_000}
+
+
+def begun_with_pieces(room):
+    """A repository of such files, the state before and the one after."""
+    room.make("repo", PIECES)
+    need(room.verify("repo", *PIECES, out="after").status == 0, "the repository isn't accepted")
+    return room.read("s"), room.read("after")
+
+
+def stored(room, before, after, seen):
+    """Whether the new state and all copies are there. Needs that the state and each copy are whole."""
+    need(room.read("s") in (before, after), f"the state is neither the old nor the new one: {seen}")
+    copies = {path: room.read(f"out/{path}") for path in PIECES}
+    odd = [path for path, content in copies.items() if content not in (None, PIECES[path])]
+    need(not odd, f"{odd} has other bytes: {seen}")
+    return room.read("s") == after and None not in copies.values()
+
+
+@attack("disk/short-writes")
+def short_writes(room):
+    before, after = begun_with_pieces(room)
+    ran = room.run(*room.words("repo", *PIECES, into="out"), SHORT="1", LD_PRELOAD=room.library)
+    need(stored(room, before, after, ran) and ran.status == 0, ran)
+
+
+@attack("disk/each-call-fails")
+def each_call_fails(room):
+    """Each call of a run finds no space left, one in each run: it ends with its failure, or has done all."""
+    before, after = begun_with_pieces(room)
+    failed, here = room.at("run.failed"), os.path.realpath(room.path)
+    how = dict(AS=str(room.at("run")), LD_PRELOAD=room.library)
+    number, call = 0, "none"
+    while number == 0 or call:
+        number += 1
+        room.at("s").write_bytes(before)
+        shutil.rmtree(room.at("out"), ignore_errors=True)
+        failed.unlink(missing_ok=True)
+        ran = room.run(*room.words("repo", *PIECES, into="out"), FAILS=str(number), **how)
+        call = failed.read_text() if failed.exists() else ""
+        seen = f"call {number}, {call}: {ran}"
+        is_stored = stored(room, before, after, seen)
+        need(ran.status == 0 and is_stored or ran.status in (3, 4) and not ran.lines, seen)
+        # That the folder of the state isn't flushed is no failure.
+        need(ran.status != 0 or not call.startswith("fsync:") or call == f"fsync:{here}", f"not flushed: {seen}")
 
 
 # Files that nobody signed, 300 of 5 MB each.

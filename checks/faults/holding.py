@@ -9,6 +9,8 @@ A small library, made with `cc`, is loaded before the C library's calls (LD_PREL
           from 0, and it goes on once there is AS.K.go; AS.waits is there while it waits for a lock
   LOCKS   `nfs`: a lock needs a file that is open for writing, as over NFS; or the number of an error: each lock fails by it
   FLUSH   the end of a path: flushing such a file or folder fails
+  FAILS   the number of a call, which fails with "no space left"; AS.failed is there then, and says which call it was
+  SHORT   each write of several bytes to anything but the standard streams takes the first half of them
 """
 import os
 import pathlib
@@ -53,7 +55,18 @@ static int is_here(const char *want, int place, size_t length, unsigned long num
         && ends(path, want + word + 1, length - word - 1);
 }
 
-static void step(const char *call, const char *path) {
+static int fails(unsigned long number, const char *call, const char *path) {
+    const char *want = getenv("FAILS");
+    char name[4096], said[8192];
+    if (!want || strtoul(want, 0, 10) != number) return 0;
+    int file = syscall(SYS_openat, AT_FDCWD, mark(name, -1, "failed"), O_CREAT | O_WRONLY, 0600);
+    syscall(SYS_write, file, said, snprintf(said, sizeof said, "%s:%s", call, path));
+    close(file);
+    errno = ENOSPC;
+    return 1;
+}
+
+static int step(const char *call, const char *path) {
     const char *want = getenv("HELD");
     unsigned long number = __atomic_add_fetch(&calls, 1, __ATOMIC_SEQ_CST);
     for (int place = 0; want && *want && place < MOST; place++) {
@@ -67,6 +80,7 @@ static void step(const char *call, const char *path) {
         }
         want += length + (want[length] == ' ');
     }
+    return fails(number, call, path);
 }
 
 static const char *path_of(int file, char *name) {
@@ -79,11 +93,10 @@ static const char *path_of(int file, char *name) {
 }
 
 #define REAL(name) ((long (*)())dlsym(RTLD_NEXT, name))
-#define ON_PATH(call, path, name, ...) step(call, path); return REAL(name)(__VA_ARGS__)
+#define ON_PATH(call, path, name, ...) return step(call, path) ? -1 : REAL(name)(__VA_ARGS__)
 #define ON_FILE(call, file, name, ...) \
     char path[4096]; \
-    step(call, path_of(file, path)); \
-    return REAL(name)(__VA_ARGS__)
+    return step(call, path_of(file, path)) ? -1 : REAL(name)(__VA_ARGS__)
 #define MODE(last) \
     va_list more; \
     va_start(more, last); \
@@ -101,7 +114,10 @@ int openat64(int at, const char *path, int flags, ...) {
     ON_PATH("open", path, "openat64", at, path, flags, mode);
 }
 ssize_t read(int file, void *bytes, size_t count) { ON_FILE("read", file, "read", file, bytes, count); }
-ssize_t write(int file, const void *bytes, size_t count) { ON_FILE("write", file, "write", file, bytes, count); }
+ssize_t write(int file, const void *bytes, size_t count) {
+    if (file > 2 && count > 1 && getenv("SHORT")) count /= 2;
+    ON_FILE("write", file, "write", file, bytes, count);
+}
 int fchmod(int file, unsigned mode) { ON_FILE("fchmod", file, "fchmod", file, mode); }
 int mkdir(const char *path, unsigned mode) { ON_PATH("mkdir", path, "mkdir", path, mode); }
 int mkdirat(int at, const char *path, unsigned mode) { ON_PATH("mkdir", path, "mkdirat", at, path, mode); }
@@ -119,7 +135,7 @@ int renameat2(int old, const char *from, int new, const char *to, unsigned flags
 static int flush(int file, const char *name) {
     char room[4096];
     const char *path = path_of(file, room), *fails = getenv("FLUSH");
-    step("fsync", path);
+    if (step("fsync", path)) return -1;
     if (fails && ends(path, fails, strlen(fails))) { errno = EIO; return -1; }
     return REAL(name)(file);
 }
@@ -129,7 +145,7 @@ int fdatasync(int file) { return flush(file, "fdatasync"); }
 int flock(int file, int how) {
     char path[4096];
     const char *locks = getenv("LOCKS");
-    step("flock", path_of(file, path));
+    if (step("flock", path_of(file, path))) return -1;
     int error = locks ? atoi(locks) : 0, access = syscall(SYS_fcntl, file, F_GETFL) & O_ACCMODE;
     if (locks && error == 0 && access == O_RDONLY && (how & LOCK_EX)) error = EBADF;
     if (error && !(how & LOCK_UN)) { errno = error; return -1; }
