@@ -109,6 +109,8 @@ static seen call(int which, const tufcheck_job *input, const size_t *sizes)
     for (int i = 0; i < 4; i++)
         for (size_t k = s.result < 0 ? 0 : s.sizes[i]; k < s.sizes[i] + 16; k++)
             check(s.rooms[i][k] == 0x5a, "a room that must be unchanged");
+    /* A summary of zeros stays one that doesn't read as ready, unless there is an answer or -6. */
+    check(s.result >= 0 || s.result == TUFCHECK_NO_ROOM || s.summary.end != TUFCHECK_READY, "a summary that isn't ready");
     return s;
 }
 
