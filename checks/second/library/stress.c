@@ -179,6 +179,18 @@ static void cut(int which, const size_t *sizes)
     }
 }
 
+/* Digests that no file has, under a name that nobody lists, change nothing. */
+static void unlisted(int which, const size_t *sizes, const seen *whole)
+{
+    tufcheck_digests none = {{(const uint8_t *)"no/such/path", 12}, 0, {0}, {0}};
+    tufcheck_job more = job;
+    more.digests = &none;
+    more.digest_count = 1;
+    seen s = call(which, &more, sizes);
+    check(same(&s, whole), "the same answer beside digests that no file has");
+    drop(&s);
+}
+
 static void errors(int which, const size_t *sizes)
 {
     tufcheck_bytes odd = {(const uint8_t *)"\xff", 1};
@@ -262,7 +274,7 @@ int main(int argc, char **argv)
     uint8_t *text = malloc(2 * root.len + 64);
     check(tufcheck_first(root.data, root.len, text, 2 * root.len + 64, &len) == 0, "a first state");
     check(tufcheck_first(root.data, root.len, TUFCHECK_NOTHING, 0, &short_len) == -6 && short_len == len, "its length");
-    check(tufcheck_first(root.data, root.len, text, len, &short_len) == 0, "a room of its length");
+    check(tufcheck_first(root.data, root.len, text, len, &short_len) == 0 && short_len == len, "a room of its length");
     check(tufcheck_first(root.data, root.len - 1, text, len, &short_len) == -2, "a root that was cut");
     job = job_of(argv + 2, argc - 2);
     for (int which = VERIFY; which <= NEXT; which++) {
@@ -271,7 +283,11 @@ int main(int argc, char **argv)
         needed(&s, whole_sizes[which]);
         drop(&s);
         whole[which] = call(which, &job, whole_sizes[which]);
+        size_t counted[4];
+        needed(&whole[which], counted);
         check(whole[which].result >= 0, "an answer in the room that is needed");
+        check(memcmp(counted, whole_sizes[which], sizeof counted) == 0, "an answer that counts what is in full rooms");
+        unlisted(which, whole_sizes[which], &whole[which]);
         if (!quick)
             refuse(which, whole_sizes[which], &whole[which]);
         cut(which, whole_sizes[which]);
