@@ -76,7 +76,7 @@ fn a_run_in_memory_stores_state_and_copies(rt: HostRuntime) {
         out: Vec::new(alloc),
     };
     let first = host.init(alloc, "root", "state").expect(&rt, "a state");
-    assert!(rt; first == 0 && host.out.as_slice() == b"root 1\n");
+    assert!(rt; first == 0 && host.out.as_slice() == b"root 1\n".as_slice());
     host.out.clear();
     let (mut to, terms) = (Kept::working(), terms(&rt, alloc));
     let threading = Threading {

@@ -14,7 +14,7 @@ fn what_was_stored_is_read(rt: HostRuntime) {
     assert!(rt; matches!(desk.read("a", 9), Err(error) if error.kind() == ErrorKind::NotFound));
     desk.store("a", b"1").expect(&rt, "memory");
     desk.store("a", b"22").expect(&rt, "memory");
-    assert!(rt; desk.read_locked("a", 2).expect(&rt, "a file").as_slice() == b"22");
+    assert!(rt; desk.read_locked("a", 2).expect(&rt, "a file").as_slice() == b"22".as_slice());
     assert!(rt; desk.is_locked("a") && !desk.is_locked("b"));
     assert!(rt; matches!(desk.read("a", 1), Err(error) if error.kind() == ErrorKind::FileTooLarge));
     assert!(rt; desk.file("a") == Some(b"22".as_slice()) && desk.seconds().is_none());
@@ -29,7 +29,7 @@ fn a_temporary_file_is_installed(rt: HostRuntime) {
     to.finish(&mut file).expect(&rt, "a file");
     let place = to.place_for(rt.alloc(), "a").expect(&rt, "a place");
     desk.install(&file, place.as_str()).expect(&rt, "memory");
-    assert!(rt; file.bytes() == b"12" && place.as_str() == "to/a");
+    assert!(rt; file.bytes() == b"12".as_slice() && place.as_str() == "to/a");
     assert!(rt; desk.is_installed("to/a") && !desk.is_installed("a"));
     to.clear(rt.alloc());
     assert!(rt; to.left() == 0 && desk.seconds() == Some(7));
