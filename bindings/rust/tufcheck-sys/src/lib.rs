@@ -158,3 +158,38 @@ extern "C" {
     pub fn tufcheck_list(job: *const Job, listing: *mut Listing) -> i32;
     pub fn tufcheck_verify(job: *const Job, answer: *mut Answer) -> i32;
 }
+
+/// Checks that the structs have the layout of the header, as `layout.c` does for it: the crate
+/// compiles only if each field is where the library has it.
+mod layout {
+    use super::*;
+    use core::mem::{offset_of, size_of};
+
+    /// Compiles only if the struct has the size, and its fields, in order, are at these places.
+    macro_rules! layout {
+        ($name:ident, $size:literal: $($field:ident $at:literal),*) => {
+            const _: () = {
+                assert!(size_of::<$name>() == $size);
+                $(assert!(offset_of!($name, $field) == $at);)*
+            };
+        };
+    }
+
+    layout!(Bytes, 16: data 0, len 8);
+    layout!(File, 32: name 0, bytes 16);
+    layout!(Digests, 120: name 0, length 16, sha256 24, sha512 56);
+    layout!(Job, 96: state 0, metadata 16, metadata_count 24, targets 32, target_count 40,
+        digests 48, digest_count 56, wanted 64, wanted_count 72, moment 80, limit 88);
+    layout!(Summary, 48: end 0, fault 4, root_version 8, state_len 16, verdict_count 24,
+        role_count 32, name_len 40);
+    layout!(Verdict, 32: kind 0, fault 4, length 8, role_at 16, role_len 24);
+    layout!(Role, 24: version 0, name_at 8, name_len 16);
+    layout!(Answer, 112: state 0, state_room 8, verdicts 16, verdict_room 24, roles 32,
+        role_room 40, names 48, name_room 56, summary 64);
+    layout!(Listed, 136: kind 0, fault 4, length 8, role_at 16, role_len 24, has_sha256 32,
+        has_sha512 33, sha256 34, sha512 66);
+    layout!(Listing, 96: state 0, state_room 8, rows 16, row_room 24, names 32, name_room 40,
+        summary 48);
+    layout!(Need, 32: place 0, optional 4, most 8, name_at 16, name_len 24);
+    layout!(Needs, 80: rows 0, row_room 8, names 16, name_room 24, summary 32);
+}

@@ -3,6 +3,9 @@
 //! An updater keeps a trusted state, which begins with [`first`]. For each update it makes a
 //! [`Job`], adds the files that [`Job::next`] names until it finds no more of them, and calls
 //! [`Job::verify`]. A call needs a stack of 256 KB.
+//!
+//! A library of the same first version number may have numbers that this crate doesn't know. They
+//! are `Unknown`, and none of them means that a target is accepted.
 
 use std::error;
 use std::fmt;
@@ -11,6 +14,7 @@ use tufcheck_sys as c;
 
 /// Why a call failed.
 #[derive(Clone, Copy, Debug, PartialEq, Eq)]
+#[non_exhaustive]
 pub enum Error {
     /// Out of memory.
     Memory,
@@ -20,6 +24,10 @@ pub enum Error {
     Moment,
     /// The limit isn't 1 to 256.
     Limit,
+    /// The library has another first version number than this crate.
+    Version,
+    /// The library returned a result that this crate doesn't know.
+    Unknown(i32),
 }
 
 impl fmt::Display for Error {
@@ -29,6 +37,8 @@ impl fmt::Display for Error {
             Error::State => "not a trusted state",
             Error::Moment => "a moment past the year 9999",
             Error::Limit => "a limit that is not 1 to 256",
+            Error::Version => "a library of another version",
+            Error::Unknown(result) => return write!(f, "an unknown result {result}"),
         })
     }
 }
@@ -37,6 +47,7 @@ impl error::Error for Error {}
 
 /// The result of a call.
 #[derive(Clone, Copy, Debug, PartialEq, Eq)]
+#[non_exhaustive]
 pub enum Status {
     /// The cycle is ready, and every wanted target is accepted.
     Good,
@@ -48,16 +59,20 @@ pub enum Status {
 
 /// How a cycle ends: ready, or the step at which it stopped.
 #[derive(Clone, Copy, Debug, PartialEq, Eq)]
+#[non_exhaustive]
 pub enum End {
     Ready,
     Root,
     Timestamp,
     Snapshot,
     Targets,
+    /// A number that this crate doesn't know.
+    Unknown(u32),
 }
 
 /// Why a file is refused: the first check that it fails.
 #[derive(Clone, Copy, Debug, PartialEq, Eq)]
+#[non_exhaustive]
 pub enum Fault {
     NotListed,
     Missing,
@@ -70,10 +85,13 @@ pub enum Fault {
     VersionWrong,
     Rollback,
     Expired,
+    /// A number that this crate doesn't know.
+    Unknown(u32),
 }
 
 /// The kind of a verdict.
 #[derive(Clone, Copy, Debug, PartialEq, Eq)]
+#[non_exhaustive]
 pub enum Kind {
     /// The file has the length and the digests that a role lists.
     Accepted,
@@ -87,13 +105,18 @@ pub enum Kind {
     FileRefused,
     /// The cycle stopped before any search.
     NotSearched,
+    /// A number that this crate doesn't know.
+    Unknown(u32),
 }
 
 /// Where a file belongs that is to be fetched.
 #[derive(Clone, Copy, Debug, PartialEq, Eq)]
+#[non_exhaustive]
 pub enum Place {
     Metadata,
     Targets,
+    /// A number that this crate doesn't know.
+    Unknown(u32),
 }
 
 /// A target file by its length in bytes and both digests of its bytes.
@@ -121,6 +144,7 @@ pub struct Job<'a> {
 
 /// The verdict of a wanted path.
 #[derive(Clone, Debug, PartialEq, Eq)]
+#[non_exhaustive]
 pub struct Verdict {
     pub kind: Kind,
     /// Why a file is refused.
@@ -133,6 +157,7 @@ pub struct Verdict {
 
 /// The outcome of a cycle. Keep `state` whatever the status is.
 #[derive(Clone, Debug, PartialEq, Eq)]
+#[non_exhaustive]
 pub struct Outcome {
     pub status: Status,
     pub end: End,
@@ -149,6 +174,7 @@ pub struct Outcome {
 
 /// What a role lists of a path.
 #[derive(Clone, Debug, PartialEq, Eq)]
+#[non_exhaustive]
 pub struct Listed {
     /// [`Kind::Accepted`] means here that a role lists the path.
     pub kind: Kind,
@@ -161,6 +187,7 @@ pub struct Listed {
 
 /// What roles list of the wanted paths: good if all are listed, refused if some is not.
 #[derive(Clone, Debug, PartialEq, Eq)]
+#[non_exhaustive]
 pub struct Listing {
     pub status: Status,
     pub end: End,
@@ -173,6 +200,7 @@ pub struct Listing {
 
 /// A file to fetch. A caller that opens files must refuse names that lead out of its folder.
 #[derive(Clone, Debug, PartialEq, Eq)]
+#[non_exhaustive]
 pub struct Need {
     pub place: Place,
     pub name: String,
@@ -186,6 +214,7 @@ pub struct Need {
 /// The files that the workflow looked up and didn't find: refused if some isn't optional, else
 /// stopped if the cycle stopped, else good.
 #[derive(Clone, Debug, PartialEq, Eq)]
+#[non_exhaustive]
 pub struct Needs {
     pub status: Status,
     pub end: End,
@@ -199,9 +228,10 @@ pub fn version() -> u32 {
     unsafe { c::tufcheck_version() }
 }
 
-/// Returns the text of the state of a first root file, which the caller trusts. Fails with `State`
-/// or `Memory`.
+/// Returns the text of the state of a first root file, which the caller trusts. Fails with `State`,
+/// `Memory` or `Version`.
 pub fn first(root: &[u8]) -> Result<Vec<u8>, Error> {
+    same_version(version())?;
     let mut state = vec![0; 2 * root.len() + 64];
     let mut len = 0;
     // A slice's pointer and that of a vector are never null.
@@ -220,7 +250,8 @@ pub fn first(root: &[u8]) -> Result<Vec<u8>, Error> {
 }
 
 impl Job<'_> {
-    /// Runs one cycle of the client workflow. Fails with the first fault of the job, or `Memory`.
+    /// Runs one cycle of the client workflow. Fails with the first fault of the job, or `Memory`,
+    /// or `Version`.
     pub fn verify(&self) -> Result<Outcome, Error> {
         let mut rooms = self.rooms(64);
         loop {
@@ -239,7 +270,7 @@ impl Job<'_> {
                 name_room: names.len(),
                 summary: c::Summary::default(),
             };
-            let result = self.in_c(|job| unsafe { c::tufcheck_verify(job, &mut answer) });
+            let result = self.in_c(|job| unsafe { c::tufcheck_verify(job, &mut answer) })?;
             rooms = answer.summary;
             let Some(status) = status_of(result)? else {
                 continue;
@@ -295,7 +326,7 @@ impl Job<'_> {
                 name_room: names.len(),
                 summary: c::Summary::default(),
             };
-            let result = self.in_c(|job| unsafe { c::tufcheck_list(job, &mut listing) });
+            let result = self.in_c(|job| unsafe { c::tufcheck_list(job, &mut listing) })?;
             rooms = listing.summary;
             let Some(status) = status_of(result)? else {
                 continue;
@@ -335,7 +366,7 @@ impl Job<'_> {
                 name_room: names.len(),
                 summary: c::Summary::default(),
             };
-            let result = self.in_c(|job| unsafe { c::tufcheck_next(job, &mut needs) });
+            let result = self.in_c(|job| unsafe { c::tufcheck_next(job, &mut needs) })?;
             rooms = needs.summary;
             let Some(status) = status_of(result)? else {
                 continue;
@@ -348,7 +379,7 @@ impl Job<'_> {
                 files: rows[..rooms.verdict_count]
                     .iter()
                     .map(|row| Need {
-                        place: if row.place == 1 { Place::Metadata } else { Place::Targets },
+                        place: place_of(row.place),
                         name: cut(&names, row.name_at, row.name_len),
                         most: row.most,
                         optional: row.optional == 1,
@@ -370,8 +401,9 @@ impl Job<'_> {
         }
     }
 
-    /// Calls with the job in the layout of C.
-    fn in_c(&self, call: impl FnOnce(*const c::Job) -> i32) -> i32 {
+    /// Calls with the job in the layout of C, and returns the result.
+    fn in_c(&self, call: impl FnOnce(*const c::Job) -> i32) -> Result<i32, Error> {
+        same_version(version())?;
         let files = |all: &[(&str, &[u8])]| -> Vec<c::File> {
             all.iter()
                 .map(|(name, data)| c::File {
@@ -392,7 +424,7 @@ impl Job<'_> {
             })
             .collect();
         let wanted: Vec<c::Bytes> = self.wanted.iter().map(|path| bytes(path.as_bytes())).collect();
-        call(&c::Job {
+        Ok(call(&c::Job {
             state: bytes(self.state),
             metadata: metadata.as_ptr(),
             metadata_count: metadata.len(),
@@ -404,7 +436,7 @@ impl Job<'_> {
             wanted_count: wanted.len(),
             moment: self.moment,
             limit: self.limit,
-        })
+        }))
     }
 }
 
@@ -420,6 +452,11 @@ fn cut(names: &[u8], at: usize, len: usize) -> String {
     String::from_utf8_lossy(&names[at..at + len]).into_owned()
 }
 
+/// Fails with `Version` if the library's version has another first number than this crate.
+fn same_version(number: u32) -> Result<(), Error> {
+    (number / 1_000_000 == 1).then_some(()).ok_or(Error::Version)
+}
+
 /// The status, or None if there was too little room. Texts of Rust are UTF-8, so no name fails.
 fn status_of(result: i32) -> Result<Option<Status>, Error> {
     match result {
@@ -427,41 +464,95 @@ fn status_of(result: i32) -> Result<Option<Status>, Error> {
         1 => Ok(Some(Status::Refused)),
         2 => Ok(Some(Status::Stopped)),
         -6 => Ok(None),
+        -1 => Err(Error::Memory),
         -2 => Err(Error::State),
         -4 => Err(Error::Moment),
         -5 => Err(Error::Limit),
-        _ => Err(Error::Memory),
+        _ => Err(Error::Unknown(result)),
     }
 }
 
 fn end_of(number: u32) -> End {
-    [End::Ready, End::Root, End::Timestamp, End::Snapshot, End::Targets][number as usize - 1]
+    match number {
+        1 => End::Ready,
+        2 => End::Root,
+        3 => End::Timestamp,
+        4 => End::Snapshot,
+        5 => End::Targets,
+        _ => End::Unknown(number),
+    }
 }
 
 fn kind_of(number: u32) -> Kind {
-    [
-        Kind::Accepted,
-        Kind::NotFound,
-        Kind::LimitReached,
-        Kind::RoleRefused,
-        Kind::FileRefused,
-        Kind::NotSearched,
-    ][number as usize - 1]
+    match number {
+        1 => Kind::Accepted,
+        2 => Kind::NotFound,
+        3 => Kind::LimitReached,
+        4 => Kind::RoleRefused,
+        5 => Kind::FileRefused,
+        6 => Kind::NotSearched,
+        _ => Kind::Unknown(number),
+    }
+}
+
+fn place_of(number: u32) -> Place {
+    match number {
+        1 => Place::Metadata,
+        2 => Place::Targets,
+        _ => Place::Unknown(number),
+    }
 }
 
 fn fault_of(number: u32) -> Option<Fault> {
-    let all = [
-        Fault::NotListed,
-        Fault::Missing,
-        Fault::TooLong,
-        Fault::LengthWrong,
-        Fault::HashWrong,
-        Fault::NoKnownHash,
-        Fault::Malformed,
-        Fault::Unsigned,
-        Fault::VersionWrong,
-        Fault::Rollback,
-        Fault::Expired,
-    ];
-    (number > 0).then(|| all[number as usize - 1])
+    Some(match number {
+        0 => return None,
+        1 => Fault::NotListed,
+        2 => Fault::Missing,
+        3 => Fault::TooLong,
+        4 => Fault::LengthWrong,
+        5 => Fault::HashWrong,
+        6 => Fault::NoKnownHash,
+        7 => Fault::Malformed,
+        8 => Fault::Unsigned,
+        9 => Fault::VersionWrong,
+        10 => Fault::Rollback,
+        11 => Fault::Expired,
+        _ => Fault::Unknown(number),
+    })
+}
+
+#[cfg(test)]
+mod tests {
+    use super::*;
+
+    #[test]
+    fn numbers_are_those_of_the_header() {
+        assert_eq!([1, 2, 5].map(end_of), [End::Ready, End::Root, End::Targets]);
+        assert_eq!([1, 2, 6].map(kind_of), [Kind::Accepted, Kind::NotFound, Kind::NotSearched]);
+        assert_eq!([1, 2].map(place_of), [Place::Metadata, Place::Targets]);
+        assert_eq!([1, 11].map(fault_of), [Some(Fault::NotListed), Some(Fault::Expired)]);
+        assert_eq!(fault_of(0), None);
+        assert_eq!(status_of(0), Ok(Some(Status::Good)));
+        assert_eq!(status_of(-6), Ok(None));
+    }
+
+    #[test]
+    fn unknown_numbers_are_unknown() {
+        for number in [0, 7, 12, u32::MAX] {
+            assert_eq!(end_of(number), End::Unknown(number));
+            assert_eq!(kind_of(number), Kind::Unknown(number));
+            assert_eq!(place_of(number), Place::Unknown(number));
+        }
+        assert_eq!(fault_of(12), Some(Fault::Unknown(12)));
+        assert_eq!(fault_of(u32::MAX), Some(Fault::Unknown(u32::MAX)));
+        for result in [3, -3, -7, i32::MIN, i32::MAX] {
+            assert_eq!(status_of(result), Err(Error::Unknown(result)));
+        }
+    }
+
+    #[test]
+    fn another_version_is_an_error() {
+        assert_eq!(same_version(1_002_003), Ok(()));
+        assert_eq!([0, 999_999, 2_000_000].map(same_version), [Err(Error::Version); 3]);
+    }
 }
