@@ -55,7 +55,7 @@ laid() {
     mkdir -p "$lib/pkgconfig" &&
         sed "s,@INCLUDE@,$6,; s,@LIB@,$7,; s,@VERSION@,$version," "$top/bindings/c/tufcheck.pc.in" > "$lib/pkgconfig/tufcheck.pc" &&
         install -D -m 644 "$top/bindings/c/tufcheck.h" "$1/include/tufcheck.h" &&
-        install -D -m 644 "$top/bindings/python/tufcheck.py" "$1/$3/tufcheck.py" || return 1
+        install -D -m 644 -t "$1/$3/tufcheck" "$top"/bindings/python/tufcheck/{__init__.py,py.typed} || return 1
     for crate in tufcheck-sys tufcheck; do
         (cd "$top/bindings/rust" && find $crate -type f ! -path '*/target/*' ! -name Cargo.lock | sort) | while read -r file; do
             install -D -m 644 "$top/bindings/rust/$file" "$1/$4/rust/$file" || exit 1

@@ -14,24 +14,39 @@ For each update it makes a `Job`, fetches what the job needs, and verifies it::
 Here ``fetch(need)`` returns the bytes of a file, or None if there is none. A target file may be
 given by its length and digests alone (`Digests`), which a caller can compute while it downloads.
 
-This module needs ctypes alone. It loads the library that the environment variable
-``TUFCHECK_LIBRARY`` names, or else ``libtufcheck.so.1`` where the system looks for libraries. What
-is proved of the library's calls, and what isn't, is in its page EMBEDDING.
+This module needs ctypes alone. The first call loads the library that the environment variable
+``TUFCHECK_LIBRARY`` names, or else ``libtufcheck.so.1`` where the system looks for libraries, and
+raises `LibraryError` if there is none or if it isn't that of this module. What is proved of the
+library's calls, and what isn't, is in its page EMBEDDING.
 """
 
 from __future__ import annotations
 
 import ctypes as _c
 import enum
+import functools
 import os
 from dataclasses import dataclass, field
 from typing import Callable, Dict, List, Mapping, Optional, Sequence, Set, Tuple, Union
 
 __all__ = [
-    "Digests", "End", "Fault", "Job", "Kind", "LimitError", "Listed", "Listing", "MomentError",
-    "TextError", "Need", "Needs", "Outcome", "Place", "StateError", "Status", "TufcheckError",
-    "Verdict", "fetch_all", "first", "version",
+    "Digests", "End", "Fault", "Job", "Kind", "LibraryError", "LimitError", "Listed", "Listing",
+    "MomentError", "Need", "Needs", "Outcome", "Place", "StateError", "Status", "TextError",
+    "TufcheckError", "Verdict", "fetch_all", "first", "version",
 ]
+
+
+class _Number(enum.IntEnum):
+    """A number of the library. One that this module doesn't know, as a library of a later version
+    may have, is a value ``UNKNOWN_13``; none means that a target is accepted."""
+
+    @classmethod
+    def _missing_(cls, value: object) -> Optional[_Number]:
+        if not isinstance(value, int):
+            return None
+        unknown = int.__new__(cls, value)
+        unknown._name_, unknown._value_ = f"UNKNOWN_{value}", value
+        return unknown
 
 
 class Status(enum.IntEnum):
@@ -45,7 +60,7 @@ class Status(enum.IntEnum):
     """The cycle stopped."""
 
 
-class End(enum.IntEnum):
+class End(_Number):
     """How a cycle ends: ready, or the step at which it stopped."""
 
     READY = 1
@@ -55,7 +70,7 @@ class End(enum.IntEnum):
     TARGETS = 5
 
 
-class Kind(enum.IntEnum):
+class Kind(_Number):
     """The kind of a verdict."""
 
     ACCEPTED = 1
@@ -72,7 +87,7 @@ class Kind(enum.IntEnum):
     """The cycle stopped before any search."""
 
 
-class Fault(enum.IntEnum):
+class Fault(_Number):
     """Why a file is refused: the first check that it fails."""
 
     NOT_LISTED = 1
@@ -88,7 +103,7 @@ class Fault(enum.IntEnum):
     EXPIRED = 11
 
 
-class Place(enum.IntEnum):
+class Place(_Number):
     """Where a file belongs that is to be fetched."""
 
     METADATA = 1
@@ -97,6 +112,10 @@ class Place(enum.IntEnum):
 
 class TufcheckError(Exception):
     """A call of the library failed. (Out of memory is a `MemoryError`.)"""
+
+
+class LibraryError(TufcheckError):
+    """The library can't be loaded, or is another one or of another version."""
 
 
 class StateError(TufcheckError, ValueError):
@@ -227,14 +246,14 @@ class Job:
 
     def verify(self) -> Outcome:
         """Runs one cycle of the client workflow. Raises `StateError`, `TextError`, `MomentError`,
-        `LimitError` or `MemoryError`."""
+        `LimitError`, `LibraryError` or `MemoryError`."""
         rooms = _Rooms(self._state_room(), len(self.wanted), 64, 4096)
         while True:
             state, names = _buffer(rooms.state), _buffer(rooms.names)
             verdicts, roles = (_Verdict * (rooms.rows + 1))(), (_Role * (rooms.roles + 1))()
             answer = _Answer(state, rooms.state, verdicts, rooms.rows, roles, rooms.roles, names,
                              rooms.names)
-            status = _status(_library.tufcheck_verify(self._in_c(), answer))
+            status = _status(_library().tufcheck_verify(self._in_c(), answer))
             if status is not None:
                 break
             rooms = _Rooms.of(answer.summary)
@@ -256,7 +275,7 @@ class Job:
             state, names = _buffer(rooms.state), _buffer(rooms.names)
             rows = (_Listed * (rooms.rows + 1))()
             listing = _Listing(state, rooms.state, rows, rooms.rows, names, rooms.names)
-            status = _status(_library.tufcheck_list(self._in_c(), listing))
+            status = _status(_library().tufcheck_list(self._in_c(), listing))
             if status is not None:
                 break
             rooms = _Rooms.of(listing.summary)
@@ -276,7 +295,7 @@ class Job:
         while True:
             rows, names = (_Need * (rooms.rows + 1))(), _buffer(rooms.names)
             needs = _Needs(rows, rooms.rows, names, rooms.names)
-            status = _status(_library.tufcheck_next(self._in_c(), needs))
+            status = _status(_library().tufcheck_next(self._in_c(), needs))
             if status is not None:
                 break
             rooms = _Rooms.of(needs.summary)
@@ -292,29 +311,34 @@ class Job:
         return min(len(self.state) + 2 * sum(map(len, self.metadata.values())) + 64, _STATE_MOST)
 
     def _in_c(self) -> _Job:
+        # ctypes would take a number that is too large, or below 0, modulo 2 to the power of 64.
+        if not 0 <= self.moment < 1 << 64:
+            raise MomentError(_FAULTS[-4][1])
+        if not 0 <= self.limit < 1 << 64:
+            raise LimitError(_FAULTS[-5][1])
         # Each array is one longer than its count, so that no pointer is null.
         digests = (_Digests * (len(self.digests) + 1))()
         for place, (name, d) in enumerate(self.digests.items()):
-            digests[place] = _Digests(_bytes(name.encode()), d.length,
+            digests[place] = _Digests(_text(name), d.length,
                                       (_c.c_uint8 * 32).from_buffer_copy(d.sha256),
                                       (_c.c_uint8 * 64).from_buffer_copy(d.sha512))
-        wanted = (_Bytes * (len(self.wanted) + 1))(*(_bytes(path.encode()) for path in self.wanted))
+        wanted = (_Bytes * (len(self.wanted) + 1))(*map(_text, self.wanted))
         return _Job(_bytes(self.state), _files(self.metadata), len(self.metadata),
                     _files(self.targets), len(self.targets), digests, len(self.digests),
                     wanted, len(self.wanted), self.moment, self.limit)
 
 
 def version() -> str:
-    """The version of the library."""
-    number = _library.tufcheck_version()
+    """The version of the library. Raises `LibraryError`."""
+    number = _library().tufcheck_version()
     return f"{number // 1_000_000}.{number // 1_000 % 1_000}.{number % 1_000}"
 
 
 def first(root: bytes) -> bytes:
     """The text of the state of a first root file, which the caller trusts. Raises `StateError` if it
-    isn't a root file, or `MemoryError`."""
+    isn't a root file, `LibraryError` or `MemoryError`."""
     room, used = _buffer(2 * len(root) + 64), _c.c_size_t()
-    _status(_library.tufcheck_first(root, len(root), room, len(room) - 1, used))
+    _status(_library().tufcheck_first(root, len(root), room, len(room) - 1, used))
     return room.raw[: used.value]
 
 
@@ -441,8 +465,15 @@ def _bytes(data: bytes) -> _Bytes:
     return _Bytes(data, len(data))
 
 
+def _text(name: str) -> _Bytes:
+    try:
+        return _bytes(name.encode())
+    except UnicodeEncodeError:
+        raise TextError(_FAULTS[-3][1]) from None
+
+
 def _files(files: Mapping[str, bytes]) -> _c.Array:
-    return (_File * (len(files) + 1))(*(_File(_bytes(name.encode()), _bytes(data))
+    return (_File * (len(files) + 1))(*(_File(_text(name), _bytes(data))
                                         for name, data in files.items()))
 
 
@@ -456,22 +487,32 @@ def _fault(number: int) -> Optional[Fault]:
 
 def _status(result: int) -> Optional[Status]:
     """The status, or None if there was too little room."""
-    if result >= 0:
+    if result in (0, 1, 2):
         return Status(result)
     if result == _NO_ROOM:
         return None
     if result == -1:
         raise MemoryError("out of memory")
-    kind, why = _FAULTS[result]
+    kind, why = _FAULTS.get(result, (LibraryError, f"an unknown result {result}"))
     raise kind(why)
 
 
-def _load() -> _c.CDLL:
-    library = _c.CDLL(os.environ.get("TUFCHECK_LIBRARY", "libtufcheck.so.1"))
-    if library.tufcheck_version() // 1_000_000 != 1:
-        raise ImportError("libtufcheck has another version than this module")
+@functools.lru_cache(maxsize=None)
+def _library() -> _c.CDLL:
+    name = os.environ.get("TUFCHECK_LIBRARY", "libtufcheck.so.1")
+    try:
+        library = _c.CDLL(name)
+        library.tufcheck_version.restype = _c.c_uint32
+        if library.tufcheck_version() // 1_000_000 != 1:
+            raise LibraryError(f"{name} has another version than this module")
+        _declare(library)
+    except (OSError, AttributeError) as error:
+        raise LibraryError(f"{name} is no libtufcheck: {error}") from error
+    return library
+
+
+def _declare(library: _c.CDLL) -> None:
     room, size = _c.POINTER(_c.c_char), _c.c_size_t
-    library.tufcheck_version.restype = _c.c_uint32
     library.tufcheck_first.argtypes = [_c.c_char_p, size, room, size, _c.POINTER(size)]
     library.tufcheck_next.argtypes = [_c.POINTER(_Job), _c.POINTER(_Needs)]
     library.tufcheck_list.argtypes = [_c.POINTER(_Job), _c.POINTER(_Listing)]
@@ -479,7 +520,3 @@ def _load() -> _c.CDLL:
     for call in (library.tufcheck_first, library.tufcheck_next, library.tufcheck_list,
                  library.tufcheck_verify):
         call.restype = _c.c_int32
-    return library
-
-
-_library = _load()
