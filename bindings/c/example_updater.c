@@ -1,21 +1,30 @@
-/* An updater that fetches from a folder: example_updater ROOT STATE REPOSITORY SECONDS PATH..
+/* An updater that fetches from a folder: example_updater ROOT STATE REPOSITORY SECONDS OUT PATH..
  *
- * ROOT is the first root file, which is trusted; STATE is the file of the trusted state, which is
- * made of ROOT if it isn't there; REPOSITORY has the folders metadata and targets. SECONDS is the
- * moment, or `now`. Prints a line for each file that it fetches and for each wanted path. The status
- * is that of tufcheck_verify, 3 for a usage error, or 4 if something else fails.
+ * ROOT is the first root file, which is trusted. STATE is the file of the trusted state, which is
+ * made of ROOT if there is no file of its name. REPOSITORY has the folders metadata and targets.
+ * SECONDS is the moment, or `now`. Each wanted target that is accepted is installed in the folder
+ * OUT, under its path. Prints a line for each file that it fetches and for each wanted path.
+ *
+ * The new state, and then each target, is written to STATE.new, flushed and renamed to its place.
+ * So STATE and OUT are on one file system, STATE isn't below OUT, and one updater runs at a time.
+ *
+ * The status is that of tufcheck_verify, 3 for a usage error, or 4 if something else fails.
  *
  *   cc -o example_updater example_updater.c $(pkg-config --cflags --libs tufcheck)
  *
  * Another transport takes the place of `fetch`: it may fetch any bytes from anywhere. */
+#define _POSIX_C_SOURCE 200809L
 #include "tufcheck.h"
 
 #include <errno.h>
+#include <fcntl.h>
 #include <inttypes.h>
 #include <stdio.h>
 #include <stdlib.h>
 #include <string.h>
+#include <sys/stat.h>
 #include <time.h>
+#include <unistd.h>
 
 static void fail(const char *what, const char *why)
 {
@@ -33,56 +42,62 @@ static void *room(size_t count, size_t size)
 }
 
 /* Reads a file of at most `most` bytes, and one byte more, by which the library sees that it is too
- * long. Returns 0 if there is no such file. */
+ * long. Returns 0, or the error. */
 static int read_file(const char *path, uint64_t most, tufcheck_bytes *into)
 {
     FILE *file = fopen(path, "rb");
-    size_t held = 0, len = 0;
-    uint8_t *data = room(1, 1);
-    if (file == NULL) {
-        free(data);
-        if (errno == ENOENT)
-            return 0;
-        fail(path, strerror(errno));
-    }
-    while (len <= most) {
+    if (file == NULL)
+        return errno;
+    size_t held = 65536, len = 0;
+    uint8_t *data = room(held, 1);
+    while (len <= most && !feof(file) && !ferror(file)) {
         if (len == held) {
-            held = held == 0 ? 65536 : 2 * held;
+            held *= 2;
             data = realloc(data, held);
             if (data == NULL)
                 fail("memory", "refused");
         }
         size_t left = held - len;
-        if (left > most + 1 - len)
-            left = (size_t)(most + 1 - len);
-        size_t got = fread(data + len, 1, left, file);
-        len += got;
-        if (got == 0)
-            break;
+        if (left > most - len)
+            left = (size_t)(most - len) + 1;
+        len += fread(data + len, 1, left, file);
     }
-    if (ferror(file))
-        fail(path, strerror(errno));
+    int error = ferror(file) ? errno : 0;
     fclose(file);
     into->data = data;
     into->len = len;
-    return 1;
+    return error;
 }
 
-/* Replaces a file as a whole: a crash leaves the old bytes or the new ones. (To be safe against a
- * loss of power too, flush the file to the device before it is renamed.) */
-static void write_file(const char *path, const uint8_t *data, size_t len)
+/* Flushes the folder of a file, so that a new name is there after a loss of power. */
+static void flush_folder(const char *path)
 {
-    char *beside = room(strlen(path) + 5, 1);
-    sprintf(beside, "%s.new", path);
-    FILE *file = fopen(beside, "wb");
-    if (file == NULL || fwrite(data, 1, len, file) != len || fclose(file) != 0)
-        fail(beside, strerror(errno));
-    if (rename(beside, path) != 0)
-        fail(path, strerror(errno));
-    free(beside);
+    const char *end = strrchr(path, '/');
+    char *folder = room(strlen(path) + 1, 1);
+    memcpy(folder, end == NULL ? "." : path, end == NULL ? 1 : (size_t)(end - path) + 1);
+    int opened = open(folder, O_RDONLY | O_DIRECTORY);
+    if (opened < 0 || fsync(opened) != 0)
+        fail(folder, strerror(errno));
+    close(opened);
+    free(folder);
 }
 
-/* Whether a name from metadata may be opened below a folder: no part of it is empty, `.` or `..`. */
+/* Replaces a file as a whole, by the file `new`. If something fails before the end, or the power
+ * does, the file has its old bytes or the new ones. */
+static void replace(const char *new, const char *path, const uint8_t *data, size_t len)
+{
+    FILE *file = fopen(new, "wb");
+    if (file == NULL || fwrite(data, 1, len, file) != len || fflush(file) != 0
+        || fsync(fileno(file)) != 0 || fclose(file) != 0 || rename(new, path) != 0) {
+        int error = errno;
+        unlink(new);
+        fail(path, strerror(error));
+    }
+    flush_folder(path);
+}
+
+/* Whether a name may be opened below a folder: no part between its `/` is empty, `.` or `..`.
+ * Whoever signs a delegated role writes names. */
 static int is_below(const uint8_t *name, size_t len)
 {
     size_t start = 0;
@@ -100,18 +115,20 @@ static int is_below(const uint8_t *name, size_t len)
     return 1;
 }
 
-/* Fetches a file of the repository. Returns 0 if there is none. */
+/* Fetches a file of the repository. Returns 0 if there is none, or if it can't be read. */
 static int fetch(const char *repository, const tufcheck_need *need, const uint8_t *name,
                  tufcheck_bytes *into)
 {
     const char *folder = need->place == TUFCHECK_METADATA ? "metadata" : "targets";
-    char *path = room(strlen(repository) + strlen(folder) + need->name_len + 3, 1);
     if (!is_below(name, need->name_len))
         return 0;
+    char *path = room(strlen(repository) + strlen(folder) + need->name_len + 3, 1);
     sprintf(path, "%s/%s/%.*s", repository, folder, (int)need->name_len, (const char *)name);
-    int found = read_file(path, need->most, into);
+    int error = read_file(path, need->most, into);
+    if (error != 0 && error != ENOENT)
+        fprintf(stderr, "example_updater: %s: %s\n", path, strerror(error));
     free(path);
-    return found;
+    return error == 0;
 }
 
 /* The files that were fetched so far. */
@@ -217,21 +234,113 @@ static int32_t verify(const tufcheck_job *job, tufcheck_answer *answer)
     return result;
 }
 
-/* The trusted state: that of the file, or else that of the first root. */
+/* The trusted state: that of the file, or that of the first root if there is no file of its name.
+ * Any other error ends the updater: it would forget what was trusted. */
 static tufcheck_bytes state_of(const char *root, const char *path)
 {
+    struct stat seen;
     tufcheck_bytes state, first;
-    size_t len = 0;
-    if (read_file(path, TUFCHECK_STATE_MOST, &state))
+    int begins = lstat(path, &seen) != 0 && errno == ENOENT;
+    int error = begins ? read_file(root, 512000, &first)
+                       : read_file(path, TUFCHECK_STATE_MOST, &state);
+    if (error != 0)
+        fail(begins ? root : path, strerror(error));
+    if (!begins)
         return state;
-    if (!read_file(root, 512000, &first))
-        fail(root, "no such file");
     uint8_t *text = room(2 * first.len + 64, 1);
-    if (tufcheck_first(first.data, first.len, text, 2 * first.len + 64, &len) != 0)
+    if (tufcheck_first(first.data, first.len, text, 2 * first.len + 64, &state.len) != 0)
         fail(root, "not a root file");
     state.data = text;
-    state.len = len;
     return state;
+}
+
+/* The fetched file that was verified for an accepted path: the first of the names that the cycle
+ * looks up for it. Under consistent names these begin with the listed digests. Of files with one
+ * name the last counts. */
+static const tufcheck_file *verified(const tufcheck_job *job, const tufcheck_bytes *path)
+{
+    const tufcheck_file *found = NULL;
+    tufcheck_job alone = *job;
+    tufcheck_needs needs = {0};
+    needs.rows = room(0, sizeof *needs.rows);
+    needs.names = room(0, 1);
+    alone.wanted = path;
+    alone.wanted_count = 1;
+    alone.target_count = 0;
+    next(&alone, &needs);
+    for (size_t i = 0; i < needs.summary.verdict_count && found == NULL; i++) {
+        const tufcheck_need *need = &needs.rows[i];
+        for (size_t j = job->target_count; j > 0 && found == NULL; j--) {
+            const tufcheck_file *file = &job->targets[j - 1];
+            if (need->place == TUFCHECK_TARGETS && file->name.len == need->name_len
+                && memcmp(file->name.data, needs.names + need->name_at, need->name_len) == 0)
+                found = file;
+        }
+    }
+    free(needs.rows);
+    free(needs.names);
+    return found;
+}
+
+/* Installs the verified file of an accepted path, whose folders it makes. */
+static void install(const tufcheck_job *job, const tufcheck_bytes *path, const char *new,
+                    const char *out)
+{
+    const tufcheck_file *file = verified(job, path);
+    char *place = room(strlen(out) + path->len + 2, 1), *at = place + strlen(out);
+    sprintf(place, "%s/%s", out, (const char *)path->data);
+    if (file == NULL)
+        fail(place, "no verified file");
+    for (; (at = strchr(at, '/')) != NULL; *at++ = '/') {
+        *at = 0;
+        if (mkdir(place, 0777) != 0 && errno != EEXIST)
+            fail(place, strerror(errno));
+    }
+    replace(new, place, file->bytes.data, file->bytes.len);
+    free(place);
+}
+
+/* Prints the outcome, and installs what is accepted. */
+static void finish(const tufcheck_job *job, const tufcheck_answer *answer, const char *new,
+                   const char *out)
+{
+    printf("root %" PRIu64 ", end %" PRIu32 ", fault %" PRIu32 "\n", answer->summary.root_version,
+           answer->summary.end, answer->summary.fault);
+    for (size_t i = 0; i < answer->summary.verdict_count; i++) {
+        const tufcheck_verdict *row = &answer->verdicts[i];
+        printf("%s: kind %" PRIu32 ", fault %" PRIu32 ", %" PRIu64 " bytes, role %.*s\n",
+               (const char *)job->wanted[i].data, row->kind, row->fault, row->length,
+               (int)row->role_len, (const char *)answer->names + row->role_at);
+        if (row->kind == TUFCHECK_ACCEPTED)
+            install(job, &job->wanted[i], new, out);
+    }
+}
+
+static int usage(void)
+{
+    fprintf(stderr, "usage: example_updater ROOT STATE REPOSITORY SECONDS OUT PATH..\n");
+    return 3;
+}
+
+/* Takes the moment and the wanted paths from the words. Returns 0 if one of them isn't right. */
+static int take(tufcheck_job *job, int argc, char **argv)
+{
+    char *end = argv[4];
+    job->moment = strtoull(argv[4], &end, 10);
+    if (strcmp(argv[4], "now") == 0)
+        job->moment = (uint64_t)time(NULL);
+    else if (argv[4][0] < '0' || argv[4][0] > '9' || *end != 0)
+        return 0;
+    tufcheck_bytes *wanted = room((size_t)argc, sizeof *wanted);
+    job->wanted = wanted;
+    job->wanted_count = (size_t)argc - 6;
+    for (size_t i = 0; i < job->wanted_count; i++) {
+        wanted[i].data = (const uint8_t *)argv[6 + i];
+        wanted[i].len = strlen(argv[6 + i]);
+        if (!is_below(wanted[i].data, wanted[i].len))
+            return 0;
+    }
+    return 1;
 }
 
 int main(int argc, char **argv)
@@ -239,22 +348,14 @@ int main(int argc, char **argv)
     list metadata = {room(0, sizeof(tufcheck_file)), 0}, targets = {room(0, sizeof(tufcheck_file)), 0};
     tufcheck_job job = {0};
     tufcheck_answer answer = {0};
-    if (argc < 6) {
-        fprintf(stderr, "usage: example_updater ROOT STATE REPOSITORY SECONDS PATH..\n");
-        return 3;
-    }
+    if (argc < 7 || !take(&job, argc, argv))
+        return usage();
     if (tufcheck_version() / 1000000 != TUFCHECK_VERSION / 1000000)
         fail("tufcheck", "another version than that of the header");
-    tufcheck_bytes *wanted = room((size_t)argc, sizeof *wanted);
-    job.wanted_count = (size_t)argc - 5;
-    for (size_t i = 0; i < job.wanted_count; i++) {
-        wanted[i].data = (const uint8_t *)argv[5 + i];
-        wanted[i].len = strlen(argv[5 + i]);
-    }
-    job.wanted = wanted;
+    char *new = room(strlen(argv[2]) + 5, 1);
+    sprintf(new, "%s.new", argv[2]);
     job.state = state_of(argv[1], argv[2]);
     job.digests = TUFCHECK_NOTHING;
-    job.moment = strcmp(argv[4], "now") == 0 ? (uint64_t)time(NULL) : strtoull(argv[4], NULL, 10);
     job.limit = 32;
     fetch_all(argv[3], &job, &metadata, &targets);
     answer.summary.state_len = TUFCHECK_STATE_MOST;
@@ -262,14 +363,7 @@ int main(int argc, char **argv)
     answer.summary.role_count = 64;
     answer.summary.name_len = 4096;
     int32_t result = verify(&job, &answer);
-    write_file(argv[2], answer.state, answer.summary.state_len);
-    printf("root %" PRIu64 ", end %" PRIu32 ", fault %" PRIu32 "\n", answer.summary.root_version,
-           answer.summary.end, answer.summary.fault);
-    for (size_t i = 0; i < answer.summary.verdict_count; i++) {
-        const tufcheck_verdict *row = &answer.verdicts[i];
-        printf("%s: kind %" PRIu32 ", fault %" PRIu32 ", %" PRIu64 " bytes, role %.*s\n", argv[5 + i],
-               row->kind, row->fault, row->length, (int)row->role_len,
-               (const char *)answer.names + row->role_at);
-    }
+    replace(new, argv[2], answer.state, answer.summary.state_len);
+    finish(&job, &answer, new, argv[5]);
     return result;
 }

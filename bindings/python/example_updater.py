@@ -2,10 +2,14 @@
 
     example_updater.py ROOT STATE REPOSITORY SECONDS OUT PATH..
 
-ROOT is the first root file, which is trusted; STATE is the file of the trusted state, which is made
-of ROOT if it isn't there; REPOSITORY has the folders metadata and targets. SECONDS is the moment, or
-`now`. Each wanted target that is accepted is left in the folder OUT, under its path. Target files are
-copied in pieces, and the library gets their lengths and digests alone.
+ROOT is the first root file, which is trusted. STATE is the file of the trusted state, which is made
+of ROOT if there is no file of its name. REPOSITORY has the folders metadata and targets. SECONDS is
+the moment, or `now`. Each wanted target that is accepted is installed in the folder OUT, under its
+path. Target files are copied in pieces, into a folder in OUT that is removed at the end, and the
+library gets their lengths and digests alone.
+
+The new state, and then each target, is written to another file, flushed and renamed to its place.
+STATE isn't below OUT, and one updater runs at a time.
 
 The status is that of the outcome, 3 for a usage error, or 4 if something else fails. Another
 transport takes the place of `Fetcher`.
@@ -20,7 +24,7 @@ import shutil
 import sys
 import tempfile
 import time
-from typing import Dict, Union
+from typing import Dict, List, Union
 
 import tufcheck
 
@@ -28,7 +32,8 @@ PIECE = 1 << 20
 
 
 def is_below(name: str) -> bool:
-    """Whether a name from metadata may be opened below a folder."""
+    """Whether a name may be opened below a folder: no part between its ``/`` is empty, ``.`` or
+    ``..``. Whoever signs a delegated role writes names."""
     return "\0" not in name and not any(part in ("", ".", "..") for part in name.split("/"))
 
 
@@ -42,11 +47,16 @@ class Fetcher:
 
     def __call__(self, need: tufcheck.Need) -> Union[bytes, tufcheck.Digests, None]:
         folder = "metadata" if need.place is tufcheck.Place.METADATA else "targets"
-        path = self.repository / folder / need.name
-        if not is_below(need.name) or not path.is_file():
+        if not is_below(need.name):
             return None
-        print("fetched", need.name)
-        with path.open("rb") as file:
+        try:
+            file = (self.repository / folder / need.name).open("rb")
+        except OSError as error:
+            if not isinstance(error, FileNotFoundError):
+                print(f"example_updater: {error}", file=sys.stderr)
+            return None
+        print("fetched", ascii(need.name))
+        with file:
             if need.place is tufcheck.Place.METADATA:
                 # One byte more than it may have, by which the library sees that it is too long.
                 return file.read(need.most + 1)
@@ -68,55 +78,91 @@ class Fetcher:
         self.places[length, digests.sha256, digests.sha512] = place
         return digests
 
+    def accepted(self, listed: tufcheck.Listed) -> pathlib.Path:
+        """The download that has the listed length and digests, whatever its name is."""
+        for (length, sha256, sha512), place in self.places.items():
+            if length == listed.length and listed.sha256 in (None, sha256) \
+                    and listed.sha512 in (None, sha512):
+                return place
+        raise FileNotFoundError("no verified file")
+
 
 def state_of(root: pathlib.Path, state: pathlib.Path) -> bytes:
-    if state.exists():
-        return state.read_bytes()
-    return tufcheck.first(root.read_bytes())
+    """The trusted state: that of the file, or that of the first root if there is no file of its
+    name. Any other error ends the updater: it would forget what was trusted."""
+    try:
+        state.lstat()
+    except FileNotFoundError:
+        return tufcheck.first(root.read_bytes())
+    return state.read_bytes()
 
 
-def replace(path: pathlib.Path, data: bytes) -> None:
-    """Replaces a file as a whole: a crash leaves the old bytes or the new ones."""
-    beside = path.with_name(path.name + ".new")
-    with beside.open("wb") as file:
-        file.write(data)
-        file.flush()
-        os.fsync(file.fileno())
-    beside.replace(path)
+def flush(path: pathlib.Path) -> None:
+    """Flushes a file or a folder."""
+    opened = os.open(path, os.O_RDONLY)
+    try:
+        os.fsync(opened)
+    finally:
+        os.close(opened)
 
 
-def keep(out: pathlib.Path, path: str, fetcher: Fetcher, listed: tufcheck.Listed) -> None:
-    """Copies the accepted target to its path: the download that has the listed digests."""
-    for (length, sha256, sha512), place in fetcher.places.items():
-        if length == listed.length and listed.sha256 in (None, sha256) \
-                and listed.sha512 in (None, sha512):
-            (out / path).parent.mkdir(parents=True, exist_ok=True)
-            shutil.copyfile(place, out / path)
-            return
+def replace(new: pathlib.Path, path: pathlib.Path) -> None:
+    """Replaces a file as a whole, by the file `new`. If something fails before the end, or the
+    power does, the file has its old bytes or the new ones."""
+    flush(new)
+    new.replace(path)
+    flush(path.parent)
 
 
-def main(words: list) -> int:
-    if len(words) < 6:
-        print(__doc__, file=sys.stderr)
-        return 3
-    root, state, repository, seconds, out, *wanted = words
-    moment = int(time.time()) if seconds == "now" else int(seconds)
-    place = pathlib.Path(state)
-    with tempfile.TemporaryDirectory() as downloads:
+def keep(state: pathlib.Path, data: bytes) -> None:
+    """Replaces the state."""
+    new = state.with_name(state.name + ".new")
+    try:
+        new.write_bytes(data)
+        replace(new, state)
+    except OSError:
+        new.unlink(missing_ok=True)
+        raise
+
+
+def install(download: pathlib.Path, path: pathlib.Path) -> None:
+    """Installs a copy of a download, since two paths may have one."""
+    path.parent.mkdir(parents=True, exist_ok=True)
+    new = download.with_name("new")
+    shutil.copyfile(download, new)
+    replace(new, path)
+
+
+def update(root: str, state: str, repository: str, moment: int, out: str, wanted: List[str]) -> int:
+    place, room = pathlib.Path(state), pathlib.Path(out)
+    job = tufcheck.Job(state_of(pathlib.Path(root), place), wanted, moment)
+    room.mkdir(exist_ok=True)
+    with tempfile.TemporaryDirectory(prefix=".new-", dir=room) as downloads:
         fetcher = Fetcher(pathlib.Path(repository), pathlib.Path(downloads))
-        job = tufcheck.Job(state_of(pathlib.Path(root), place), wanted, moment)
         tufcheck.fetch_all(job, fetcher)
-        outcome = job.verify()
-        listing = job.list()
-        replace(place, outcome.state)
+        outcome, listing = job.verify(), job.list()
+        keep(place, outcome.state)
         print("root", outcome.root_version, outcome.end.name,
               outcome.fault.name if outcome.fault else "")
         for path, verdict in outcome.verdicts.items():
-            print(path, verdict.kind.name, verdict.fault.name if verdict.fault else "",
-                  verdict.length, verdict.role)
-            if verdict and is_below(path):
-                keep(pathlib.Path(out), path, fetcher, listing.listed[path])
+            print(ascii(path), verdict.kind.name, verdict.fault.name if verdict.fault else "",
+                  verdict.length, ascii(verdict.role))
+            if verdict:
+                install(fetcher.accepted(listing.listed[path]), room / path)
     return int(outcome.status)
+
+
+def main(words: List[str]) -> int:
+    root, state, repository, seconds, out, *wanted = words + [""] * (6 - len(words))
+    if not all(map(is_below, wanted)) or not (seconds == "now" or seconds.isdecimal()):
+        print(__doc__, file=sys.stderr)
+        return 3
+    try:
+        moment = int(time.time()) if seconds == "now" else int(seconds)
+        return update(root, state, repository, moment, out, wanted)
+    except (OSError, MemoryError, tufcheck.TufcheckError) as error:
+        print(f"example_updater: {error}", file=sys.stderr)
+        return 4
 
 
 if __name__ == "__main__":

@@ -97,16 +97,16 @@ updates() {
     rm -rf "$work/repo" && "$program" make "$top/examples/$name.script" "$work/repo" > "$work/seen" 2>&1 || { done_ 1 "make $name"; return; }
     local root=$work/repo/metadata/1.root.json
     rm -f "$work"/state.*
-    "$work/updater" "$root" "$work/state.c" "$work/repo" $now "$@" > "$work/seen" 2>&1
+    rm -rf "$work"/out.*
+    "$work/updater" "$root" "$work/state.c" "$work/repo" $now "$work/out.c" "$@" > "$work/seen" 2>&1
     [ $? = "$want" ]
     done_ $? "C updates from $name"
-    rm -rf "$work/out" && mkdir "$work/out"
-    python3 "$top/bindings/python/example_updater.py" "$root" "$work/state.py" "$work/repo" $now "$work/out" "$@" > "$work/seen" 2>&1
-    [ $? = "$want" ] && cmp -s "$work/state.c" "$work/state.py"
+    python3 "$top/bindings/python/example_updater.py" "$root" "$work/state.py" "$work/repo" $now "$work/out.py" "$@" > "$work/seen" 2>&1
+    [ $? = "$want" ] && cmp -s "$work/state.c" "$work/state.py" && diff -r "$work/out.c" "$work/out.py" >> "$work/seen" 2>&1
     done_ $? "Python updates from $name"
     if [ -x "$work/updater_rust" ]; then
-        "$work/updater_rust" "$root" "$work/state.rust" "$work/repo" $now "$@" > "$work/seen" 2>&1
-        [ $? = "$want" ] && cmp -s "$work/state.c" "$work/state.rust"
+        "$work/updater_rust" "$root" "$work/state.rust" "$work/repo" $now "$work/out.rust" "$@" > "$work/seen" 2>&1
+        [ $? = "$want" ] && cmp -s "$work/state.c" "$work/state.rust" && diff -r "$work/out.c" "$work/out.rust" >> "$work/seen" 2>&1
         done_ $? "Rust updates from $name"
     fi
     "$program" init "$root" --out "$work/state.t" > "$work/seen" 2>&1

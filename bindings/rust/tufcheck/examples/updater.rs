@@ -1,94 +1,172 @@
-//! An updater that fetches from a folder: updater ROOT STATE REPOSITORY SECONDS PATH..
+//! An updater that fetches from a folder: updater ROOT STATE REPOSITORY SECONDS OUT PATH..
 //!
-//! As `example_updater.c`, whose lines it prints.
+//! ROOT is the first root file, which is trusted. STATE is the file of the trusted state, which is
+//! made of ROOT if there is no file of its name. REPOSITORY has the folders metadata and targets.
+//! SECONDS is the moment, or `now`. Each wanted target that is accepted is installed in the folder
+//! OUT, under its path.
+//!
+//! The new state, and then each target, is written to STATE.new, flushed and renamed to its place.
+//! So STATE and OUT are on one file system, STATE isn't below OUT, and one updater runs at a time.
+//!
+//! The status is that of the outcome, 3 for a usage error, or 4 if something else fails. Another
+//! transport takes the place of `fetch`.
 
-use std::collections::BTreeMap;
-use std::path::{Component, Path};
-use std::{env, fs, io, process};
-use tufcheck::{Job, Need, Place};
+use std::fs::{self, File};
+use std::io::{self, ErrorKind, Read, Write};
+use std::path::{Path, PathBuf};
+use std::time::{SystemTime, UNIX_EPOCH};
+use std::{env, process};
+use tufcheck::{Job, Kind, Need, Place};
 
+type Failure = Box<dyn std::error::Error>;
+
+/// Whether a name may be opened below a folder: no part between its `/` is empty, `.` or `..`.
+/// Whoever signs a delegated role writes names.
 fn is_below(name: &str) -> bool {
-    Path::new(name).components().all(|part| matches!(part, Component::Normal(_)))
+    !name.contains('\0') && name.split('/').all(|part| !matches!(part, "" | "." | ".."))
 }
 
-fn fetch(repository: &str, need: &Need) -> io::Result<Option<Vec<u8>>> {
+/// The trusted state: that of the file, or that of the first root if there is no file of its name.
+/// Any other error ends the updater: it would forget what was trusted.
+fn state_of(root: &str, place: &str) -> Result<Vec<u8>, Failure> {
+    match fs::symlink_metadata(place) {
+        Err(error) if error.kind() == ErrorKind::NotFound => Ok(tufcheck::first(&fs::read(root)?)?),
+        _ => Ok(fs::read(place)?),
+    }
+}
+
+/// Replaces a file as a whole, by the file `new`. If something fails before the end, or the power
+/// does, the file has its old bytes or the new ones.
+fn replace(new: &str, place: &Path, bytes: &[u8]) -> io::Result<()> {
+    let written = || {
+        let mut file = File::create(new)?;
+        file.write_all(bytes)?;
+        file.sync_all()?;
+        fs::rename(new, place)
+    };
+    written().inspect_err(|_| drop(fs::remove_file(new)))?;
+    let folder = place.parent().filter(|folder| folder != &Path::new(""));
+    File::open(folder.unwrap_or(Path::new(".")))?.sync_all()
+}
+
+/// Fetches a file of the repository. Returns None if there is none, or if it can't be read.
+fn fetch(repository: &str, need: &Need) -> Option<Vec<u8>> {
     let folder = match need.place {
         Place::Metadata => "metadata",
         Place::Targets => "targets",
+        _ => return None,
     };
     if !is_below(&need.name) {
-        return Ok(None);
+        return None;
     }
-    match fs::File::open(Path::new(repository).join(folder).join(&need.name)) {
-        Ok(file) => {
-            let mut bytes = Vec::new();
-            io::Read::read_to_end(&mut io::Read::take(file, need.most + 1), &mut bytes)?;
-            println!("fetched {}", need.name);
-            Ok(Some(bytes))
+    let mut bytes = Vec::new();
+    // One byte more than it may have, by which the library sees that it is too long.
+    let read = File::open(Path::new(repository).join(folder).join(&need.name))
+        .and_then(|file| file.take(need.most.saturating_add(1)).read_to_end(&mut bytes));
+    match read {
+        Ok(_) => {
+            println!("fetched {:?}", need.name);
+            return Some(bytes);
         }
-        Err(error) if error.kind() == io::ErrorKind::NotFound => Ok(None),
-        Err(error) => Err(error),
+        Err(error) if error.kind() == ErrorKind::NotFound => {}
+        Err(error) => eprintln!("updater: {:?}: {error}", need.name),
     }
+    None
 }
 
-fn fetch_each(repository: &str, needs: Vec<Need>) -> io::Result<Vec<(Need, Vec<u8>)>> {
-    let mut found = Vec::new();
-    for need in needs {
-        if let Some(bytes) = fetch(repository, &need)? {
-            found.push((need, bytes));
-        }
-    }
-    Ok(found)
+/// The files that were fetched so far.
+#[derive(Default)]
+struct Fetched {
+    metadata: Vec<(String, Vec<u8>)>,
+    targets: Vec<(String, Vec<u8>)>,
 }
 
-fn main() -> Result<(), Box<dyn std::error::Error>> {
-    let args: Vec<String> = env::args().collect();
-    let [_, root, place, repository, seconds, wanted @ ..] = args.as_slice() else {
-        process::exit(3);
-    };
-    let state = match fs::read(place) {
-        Ok(state) => state,
-        Err(_) => tufcheck::first(&fs::read(root)?)?,
-    };
-    let wanted: Vec<&str> = wanted.iter().map(String::as_str).collect();
-    let (mut metadata, mut targets) = (BTreeMap::new(), BTreeMap::new());
-    loop {
-        let files = |all: &BTreeMap<String, Vec<u8>>| -> Vec<(String, Vec<u8>)> {
-            all.iter().map(|(name, bytes)| (name.clone(), bytes.clone())).collect()
-        };
-        let (m, t) = (files(&metadata), files(&targets));
-        let m: Vec<(&str, &[u8])> = m.iter().map(|(n, b)| (n.as_str(), b.as_slice())).collect();
-        let t: Vec<(&str, &[u8])> = t.iter().map(|(n, b)| (n.as_str(), b.as_slice())).collect();
-        let job = Job {
-            state: &state,
-            metadata: &m,
-            targets: &t,
-            digests: &[],
-            wanted: &wanted,
-            moment: seconds.parse()?,
-            limit: 32,
-        };
-        // With an optional file, others may no longer be needed.
-        let (optional, others) = job.next()?.files.into_iter().partition(|need| need.optional);
-        let mut found = fetch_each(repository, optional)?;
-        if found.is_empty() {
-            found = fetch_each(repository, others)?;
-        }
-        if !found.is_empty() {
-            for (need, bytes) in found {
-                match need.place {
-                    Place::Metadata => metadata.insert(need.name, bytes),
-                    Place::Targets => targets.insert(need.name, bytes),
+impl Fetched {
+    /// Adds the files that are there. Returns whether any was.
+    fn add(&mut self, repository: &str, needs: Vec<Need>) -> bool {
+        let before = self.metadata.len() + self.targets.len();
+        for need in needs {
+            if let Some(bytes) = fetch(repository, &need) {
+                let files = match need.place {
+                    Place::Metadata => &mut self.metadata,
+                    _ => &mut self.targets,
                 };
+                files.push((need.name, bytes));
             }
-            continue;
         }
-        let outcome = job.verify()?;
-        fs::write(place, &outcome.state)?;
-        println!("root {} {:?} {:?}", outcome.root_version, outcome.end, outcome.fault);
-        for (path, verdict) in wanted.iter().zip(&outcome.verdicts) {
-            println!("{path}: {verdict:?}");
-        }
-        process::exit(outcome.status as i32);
+        self.metadata.len() + self.targets.len() > before
     }
+}
+
+fn lent(files: &[(String, Vec<u8>)]) -> Vec<(&str, &[u8])> {
+    files.iter().map(|(name, bytes)| (name.as_str(), bytes.as_slice())).collect()
+}
+
+/// Fetches until nothing that is needed is found. With an optional file, others may no longer be
+/// needed.
+fn fetch_all(repository: &str, job: Job) -> Result<Fetched, Failure> {
+    let mut fetched = Fetched::default();
+    loop {
+        let (metadata, targets) = (lent(&fetched.metadata), lent(&fetched.targets));
+        let needs = Job { metadata: &metadata, targets: &targets, ..job }.next()?;
+        let (optional, others) = needs.files.into_iter().partition(|need| need.optional);
+        if !fetched.add(repository, optional) && !fetched.add(repository, others) {
+            return Ok(fetched);
+        }
+    }
+}
+
+/// Installs the file that was verified for an accepted path: the first of the names that the cycle
+/// looks up for it. Under consistent names these begin with the listed digests. Of files with one
+/// name the last counts.
+fn install(job: Job, path: &str, new: &str, place: PathBuf) -> Result<(), Failure> {
+    let needs = Job { wanted: &[path], targets: &[], ..job }.next()?;
+    let mut names = needs.files.iter().filter(|need| need.place == Place::Targets);
+    let (_, bytes) = names
+        .find_map(|need| job.targets.iter().rfind(|(name, _)| *name == need.name))
+        .ok_or("no verified file")?;
+    fs::create_dir_all(place.parent().ok_or("no folder")?)?;
+    Ok(replace(new, &place, bytes)?)
+}
+
+fn update(words: &[&str], moment: u64) -> Result<i32, Failure> {
+    let [root, place, repository, _, out, wanted @ ..] = words else { return Ok(3) };
+    let (state, new) = (state_of(root, place)?, format!("{place}.new"));
+    let empty =
+        Job { state: &state, metadata: &[], targets: &[], digests: &[], wanted, moment, limit: 32 };
+    let fetched = fetch_all(repository, empty)?;
+    let (metadata, targets) = (lent(&fetched.metadata), lent(&fetched.targets));
+    let job = Job { metadata: &metadata, targets: &targets, ..empty };
+    let outcome = job.verify()?;
+    replace(&new, Path::new(place), &outcome.state)?;
+    println!("root {} {:?} {:?}", outcome.root_version, outcome.end, outcome.fault);
+    for (path, verdict) in wanted.iter().zip(&outcome.verdicts) {
+        println!("{path:?}: {verdict:?}");
+        if verdict.kind == Kind::Accepted {
+            install(job, path, &new, Path::new(out).join(path))?;
+        }
+    }
+    Ok(outcome.status as i32)
+}
+
+fn main() {
+    let words: Vec<String> = env::args().skip(1).collect();
+    let words: Vec<&str> = words.iter().map(String::as_str).collect();
+    let moment = match words.get(3) {
+        Some(&"now") => SystemTime::now().duration_since(UNIX_EPOCH).ok().map(|it| it.as_secs()),
+        seconds => seconds.and_then(|text| text.parse().ok()),
+    };
+    let status = match moment {
+        Some(moment) if words.len() > 5 && words[5..].iter().all(|path| is_below(path)) => {
+            update(&words, moment).unwrap_or_else(|error| {
+                eprintln!("updater: {error}");
+                4
+            })
+        }
+        _ => {
+            eprintln!("usage: updater ROOT STATE REPOSITORY SECONDS OUT PATH..");
+            3
+        }
+    };
+    process::exit(status)
 }
