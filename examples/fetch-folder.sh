@@ -6,8 +6,9 @@ set -eu
 repository=$1
 shift
 
+# A byte more than the file may have shows `tufcheck` that it is too long.
 fetch() {
-    head -c "$3" "$repository/$1/$2" 2>/dev/null
+    head -c "$(($3 + 1))" "$repository/$1/$2" 2>/dev/null
 }
 
 . "$(dirname "$0")/fetching.sh"

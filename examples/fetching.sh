@@ -1,7 +1,8 @@
 # The loop of an updater, for the scripts beside it. They define a function
 #   fetch FOLDER NAME MOST
-# which writes at most MOST bytes of the file of that name to standard output, where FOLDER is
-# `metadata` or `targets`, and fails if there is no such file.
+# which writes the file of that name to standard output, at most MOST bytes of it and one more, by
+# which `tufcheck` sees that it is too long. FOLDER is `metadata` or `targets`. It fails if there is
+# no such file.
 
 # update STATE DIR PATH..: fetches what a verification looks up into the folders DIR/metadata and
 # DIR/targets, and verifies it. The status is that of `tufcheck verify`.
@@ -29,16 +30,16 @@ update() {
 }
 
 # put WORD QUOTED MOST: fetches a file to its place. A name that isn't one of a file below the
-# folder is left out, and so is one with bytes that are escaped.
+# folder is left out, and so is one with what is escaped: `"`, `\` and all but printable ASCII.
 put() {
     name=${2#\"} name=${name%\"}
     case "/$name/" in
         *'\'* | *//* | */./* | */../*) echo "left out: $2" >&2 && return ;;
     esac
-    if fetch "$folder" "$name" "$3" >"$work/file"; then
-        mkdir -p "$(dirname "$dir/$folder/$name")"
-        mv "$work/file" "$dir/$folder/$name"
-    elif [ "$1" = need ]; then
-        echo "not there: $2" >&2
+    place=$dir/$folder/$name
+    if ! fetch "$folder" "$name" "$3" >"$work/file"; then
+        [ "$1" = maybe ] || echo "not there: $2" >&2
+    elif [ -d "$place" ] || ! mkdir -p "$(dirname "$place")" || ! mv "$work/file" "$place"; then
+        echo "no place: $2" >&2
     fi
 }

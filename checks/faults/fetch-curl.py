@@ -4,11 +4,12 @@
     checks/faults/fetch-curl.py [SCRIPT]      examples/fetch-curl.sh unless given; `fetching.sh` is beside it
 
 A server on 127.0.0.1 has a repository, which is signed by `tuf.py` of `checks`. In each case it answers for one
-file with 300 MB, without a length (chunked) or with one, with a byte more than the file may have, or with a byte a second.
-While the script runs, no file that it writes may be longer than the greatest that is allowed, and at the end none is kept
-that is too long. An honest server's files have to be fetched, with and without lengths. `rt run` in crates/tufcheck proves
-and builds the program, unless PROGRAM in the environment names another. It prints a line for each case, and ends with
-status 1 if one fails. It takes a minute, most of which is the slow answer's.
+file with 300 MB, without a length (in chunks, or up to the end of the connection) or with one, with a byte more than the
+file may have, or with a byte a second. While the script runs, no file that it writes may be longer than the greatest that
+is allowed, and at the end none is kept that is too long. An honest server's files have to be fetched, with and without
+lengths, and one whose name a URL can't have. `rt run` in crates/tufcheck proves and builds the program, unless PROGRAM in
+the environment names another. It prints a line for each case, and ends with status 1 if one fails. It takes a minute, most
+of which is the slow answer's.
 """
 import http.server
 import os
@@ -18,6 +19,7 @@ import subprocess
 import sys
 import threading
 import time
+import urllib.parse
 
 sys.path.insert(0, os.path.dirname(os.path.dirname(os.path.abspath(__file__))))
 import common
@@ -28,8 +30,9 @@ PIECE = b"0" * 65_536
 # The most bytes of a file that is fetched first, and of the target.
 TIMESTAMP, TARGET = "metadata/timestamp.json", "targets/abc.txt"
 MOST = {TIMESTAMP: 16_384, TARGET: 3}
-WRONG = [(TIMESTAMP, "chunked"), (TIMESTAMP, "length"), (TARGET, "chunked"), (TARGET, "length"), (TARGET, "extra"),
-         (TIMESTAMP, "slow")]
+WRONG = [(TIMESTAMP, "chunked"), (TIMESTAMP, "closed"), (TIMESTAMP, "length"), (TARGET, "chunked"), (TARGET, "closed"),
+         (TARGET, "length"), (TARGET, "extra"), (TIMESTAMP, "slow")]
+STRANGE = "a b%41?c#d<e>[f]^`{g|h}&'$i;j+~*.txt"
 SECONDS = 120
 
 
@@ -51,7 +54,7 @@ class Answer(http.server.BaseHTTPRequestHandler):
         pass
 
     def do_GET(self):
-        name = self.path.lstrip("/")
+        name = urllib.parse.unquote(self.path.lstrip("/"))
         special = name == self.server.name
         how = self.server.how if special or self.server.name is None else "length"
         file = pathlib.Path("repo", name)
@@ -62,16 +65,18 @@ class Answer(http.server.BaseHTTPRequestHandler):
             pieces, length = [content], len(content)
         else:
             return self.send_error(404)
-        self.answer(pieces, length if how == "length" else None)
+        self.answer(pieces, {"length": ("Content-Length", str(length)), "closed": ("Connection", "close")}.get(
+            how, ("Transfer-Encoding", "chunked")))
 
-    def answer(self, pieces, length):
+    def answer(self, pieces, header):
+        chunked = header[0] == "Transfer-Encoding"
         self.send_response(200)
-        self.send_header(*("Transfer-Encoding", "chunked") if length is None else ("Content-Length", str(length)))
+        self.send_header(*header)
         self.end_headers()
         for piece in pieces:
-            self.wfile.write(piece if length is not None else b"%x\r\n%s\r\n" % (len(piece), piece))
+            self.wfile.write(b"%x\r\n%s\r\n" % (len(piece), piece) if chunked else piece)
             self.server.sent += len(piece)
-        if length is None:
+        if chunked:
             self.wfile.write(b"0\r\n\r\n")
 
 
@@ -94,12 +99,12 @@ def largest(room):
     return max(sizes)
 
 
-def fetched(script, url, room, limit=SECONDS):
+def fetched(script, url, room, limit=SECONDS, path="abc.txt"):
     """Runs the script in a folder of its own. Returns its status (None if it took too long) and the greatest length of a
     file while it ran."""
     for folder in ("new", "temporary"):
         os.makedirs(f"{room}/{folder}")
-    words = [script, url, f"{room}/state", f"{room}/new", "abc.txt"]
+    words = [script, url, f"{room}/state", f"{room}/new", path]
     env = dict(os.environ, PATH=f"{os.getcwd()}/bin:{os.environ['PATH']}", TMPDIR=os.path.abspath(f"{room}/temporary"),
                PROTOCOL="http")
     shutil.copy("first", f"{room}/state")
@@ -136,12 +141,13 @@ def cut(server, script, name, how):
     return None
 
 
-def honest(server, script, how):
+def honest(server, script, how, path="abc.txt"):
     """An honest server: what was seen that must not be, or nothing."""
     server.name, server.how = None, how
-    status, _ = fetched(script, server.url, f"honest-{how}")
-    lines = told(f"honest-{how}")
-    return None if status == 0 and lines.endswith('ok "abc.txt" 3 "targets"') else f"status {status}: {lines}"
+    room = f"honest-{how}-{path == STRANGE}"
+    status, _ = fetched(script, server.url, room, path=path)
+    lines = told(room)
+    return None if status == 0 and lines.endswith(f'ok "{path}" 3 "targets"') else f"status {status}: {lines}"
 
 
 def elsewhere(script):
@@ -153,7 +159,7 @@ def elsewhere(script):
 def prepare(server):
     os.mkdir("bin")
     os.symlink(common.PROGRAM, "bin/tufcheck")
-    tuf.repository("repo", tuf.Key(1, 4), {"abc.txt": b"abc"})
+    tuf.repository("repo", tuf.Key(1, 4), {"abc.txt": b"abc", STRANGE: b"abc"})
     common.run("init", "repo/metadata/1.root.json", "--out", "first", check=True)
     server.url = f"http://127.0.0.1:{server.server_address[1]}"
     threading.Thread(target=server.serve_forever, daemon=True).start()
@@ -161,8 +167,9 @@ def prepare(server):
 
 def cases(server, script):
     """The names of the cases, each with its check."""
-    for how in ("length", "chunked"):
+    for how in ("length", "chunked", "closed"):
         yield f"an honest server, {how}", lambda: honest(server, script, how)
+    yield "a name that a URL can't have", lambda: honest(server, script, "length", STRANGE)
     for name, how in WRONG:
         yield f"{name}, {how}", lambda: cut(server, script, name, how)
     yield "a file of the own machine", lambda: elsewhere(script)
