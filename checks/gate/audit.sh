@@ -226,8 +226,8 @@ if [ -n "$kit" ]; then
     } > "$work/sums"
     (cd "$kit" && sha256sum -c --quiet "$work/sums") > "$work/seen" 2>&1
     report $? "1 kit's own sums" "$(wc -l < "$work/sums") files, as WHAT and WHAT-* in the kit have them"
-    checks/version.sh > "$work/seen"
-    report $? "1 version" "checks/version.sh"
+    checks/gate/version.sh > "$work/seen"
+    report $? "1 version" "checks/gate/version.sh"
 else
     line "not tried" "1 kit" "rt is missing"
 fi
