@@ -676,7 +676,7 @@ def flushed(changes, into="out", made="out"):
 
 attack("crash/copies-not-flushed")(flushed(["rename"]))
 attack("crash/made-folders-not-flushed")(flushed(["rename", "mkdir"]))
-attack("crash/made-folder-of-all-copies-not-flushed", later=True)(flushed(["mkdir"], "place/out", "place"))
+attack("crash/made-folder-of-all-copies-not-flushed")(flushed(["mkdir"], "place/out", "place"))
 
 
 def flush_fails(folder, *paths):
