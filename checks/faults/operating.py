@@ -219,6 +219,8 @@ def arguments(room):
         need(ran.status == 64 and len(ran.lines) == 1, f"{name!r}: {ran}")
         need(room.setup("--", name, "root").status == 64, name)
     need(room.run("it").status == 71, "a name without a state")
+    words = ["it", room.mirror / "metadata/1.root.json", "--targets", "/t", "--want", "every", "--metadata"]
+    need(room.setup(*words, "/m\nfetch /f").status == 64 and room.setup(*words, "m").status == 78, "a line feed, or no path")
     need(room.setup("it").status == 64 and room.setup("--units", "it", "root").status == 64, "wrong words")
 
 
