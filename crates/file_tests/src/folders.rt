@@ -130,6 +130,6 @@ fn the_start_of_a_file_is_read_from_disk(rt: HostRuntime) {
     let start = below
         .read_start(rt.alloc(), "d/e/f", 9)
         .expect(&rt, "a file");
-    assert!(rt; start.as_slice() == b"2".as_slice());
+    assert!(rt; start.as_slice() == b"22".as_slice());
     fs::remove_dir_all(&rt, "the_start_of_a_file_is_read_from_disk").expect(&rt, "a folder");
 }
