@@ -39,7 +39,7 @@ The state may be written in place of the old one.
   end ready
   $ same one two
 
-No wanted path, one with an odd character, several, one twice, and one of no character.
+No wanted path, one with an odd character, several, one twice, ten by more than twenty arguments, and one of no character.
   $ verify two new
   root 1
   end ready
@@ -53,6 +53,20 @@ No wanted path, one with an odd character, several, one twice, and one of no cha
   end ready
   ok "abc.txt" 3 "targets"
   no "abc" NotFound
+  ok "abc.txt" 3 "targets"
+  [1]
+  $ tufcheck verify --state two --metadata metadata --targets targets --now 2026-01-01T00:00:00Z --limit 8 --out new abc.txt a b c d e f g h abc.txt
+  root 1
+  end ready
+  ok "abc.txt" 3 "targets"
+  no "a" NotFound
+  no "b" NotFound
+  no "c" NotFound
+  no "d" NotFound
+  no "e" NotFound
+  no "f" NotFound
+  no "g" NotFound
+  no "h" NotFound
   ok "abc.txt" 3 "targets"
   [1]
   $ verify two new ""
