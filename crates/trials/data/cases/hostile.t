@@ -197,7 +197,7 @@ Entries under the key's id before the good one, in a targets file that nothing l
   $ change metadata/targets.json
   > {"signatures":[
   > {"signatures":[
-  > @1000..1999 {"keyid":"3b6b7ff7d893c980c6d823ccb94d8d0d854789cb6da72104831251d469b73554","sig":"{}"},
+  > @0..999 {"keyid":"3b6b7ff7d893c980c6d823ccb94d8d0d854789cb6da72104831251d469b73554","sig":"{x}"},
   $ by 0,8 old new abc.txt
   root 1
   end ready
@@ -206,14 +206,14 @@ Entries under the key's id before the good one, in a targets file that nothing l
   $ change metadata/targets.json
   > {"signatures":[
   > {"signatures":[
-  > @1000..5099 {"keyid":"3b6b7ff7d893c980c6d823ccb94d8d0d854789cb6da72104831251d469b73554","sig":"{}"},
+  > @0..4099 {"keyid":"3b6b7ff7d893c980c6d823ccb94d8d0d854789cb6da72104831251d469b73554","sig":"{x}"},
   $ by 0,8 old new abc.txt
   root 1
   end ready
   ok "abc.txt" 3 "targets"
   $ change metadata/targets.json
-  > ,"sig":"0
-  > ,"sig":"1
+  > ,"sig":"00000000
+  > ,"sig":"10000000
   $ by 0,8 old new abc.txt
   root 1
   end targets Unsigned
