@@ -97,7 +97,7 @@ How many files are remembered, and how many threads check ahead, changes no line
   $ same last d
 
 A newer repository, and then the first one again, which is older than the state that the second left.
-  $ make
+  $ put script
   > @wide
   > target targets abc.txt 616263 sha256
   > write root 1 1
