@@ -5,8 +5,8 @@
 
 An edit is in a function if it changes a line of its body, or of a function of the same crate that it calls, directly or
 through others. Functions are told apart by file and line: a call is taken to be of the function that its file imports,
-has itself, or that alone has the name, and else of none. Functions that only borrow, wrap or copy a value, with at
-most five lines and no call of another function of the crate, are left out. Beside each function it
+has itself, or that alone has the name, and else of none. Functions that only borrow, wrap or copy a value, in one
+expression of at most five lines and with no call of another function of the crate, are left out. Beside each function it
 names an edit of `checks/bodies` that is in it, if there is one. With `--all` it prints the functions that have an edit
 too, each with the first one. It takes a second, and exits with status 1 if TESTS doesn't name a function that has none.
 """
@@ -17,7 +17,7 @@ from pathlib import Path
 
 TOP = Path(__file__).resolve().parent.parent.parent
 PAGE = TOP / "docs" / "TESTS.md"
-HEAD = re.compile(r"( *)(pub(?:\(\w+\))? )?(?:const )?fn (\w+)")
+HEAD = re.compile(r'( *)(pub(?:\(\w+\))? )?(?:const )?(?:extern "C" )?fn (\w+)')
 IMPL = re.compile(r"impl\b(?:<[^{]*?>)? (?:[\w:<>', ]+ for )?(\w+)")
 IMPORT = re.compile(r"use crate::([\w:]+)::(?:\{([^}]*)\}|(\w+));")
 CALL = re.compile(r"((?:self)?\.)?\b(?:(\w+)::)?(\w+)(?:::<[^(]*?>)?\(|(\b)(\w+)::(\w+)\b")
@@ -99,7 +99,8 @@ class Crate:
 
     def is_plain(self, function):
         """Whether the function only borrows, wraps or copies a value."""
-        return len(function.body) <= 5 and self.reached(function) == {function}
+        is_simple = len(function.body) <= 5 and not re.search(r"\b(?:if|match)\b|;|\?", "\n".join(function.body))
+        return is_simple and self.reached(function) == {function}
 
     def edits(self, folder):
         """The functions that each edit of the folder is in."""
