@@ -3,11 +3,11 @@
 
   checks/faults/cuts.py [STEP]      each length unless given, else each STEPth
 
-The repository has a second root, and a delegated role that two wanted paths lead to. Its timestamp lists the length
-of the snapshot, its snapshot those of the targets files, and no file those of the root and the timestamp. A run of
-`tufcheck verify`, without workers and with eight, must print that file's fault and store what was trusted before it.
-`rt run` in crates/tufcheck proves and builds the program. The script ends with status 1 at the first run that does
-otherwise.
+The repository has a second root, and a role that two others delegate to, each for one of two wanted paths and by a key
+of its own, of which the role has signed with one. Its timestamp lists the length of the snapshot, its snapshot those of
+the targets files, and no file those of the root and the timestamp. A run of `tufcheck verify`, without workers and with
+eight, must print that file's fault and store what was trusted before it. `rt run` in crates/tufcheck proves and builds
+the program. The script ends with status 1 at the first run that does otherwise.
 """
 import os
 import shutil
@@ -24,22 +24,28 @@ key 2 5
 key 3 5
 key 4 5
 key 5 5
+key 6 5
 top root 1 1
 top timestamp 1 2
 top snapshot 1 3
 top targets 1 4
 write root 1 1
 write root 2 1
-delegate targets c 1 5 go paths p,q
-target c p 31 sha256
-target c q 32 sha256
+delegate targets a 1 4 go paths x/*
+delegate targets b 1 4 go paths y/*
+delegate a c 1 5 go paths x/*
+delegate b c 1 6 go paths y/*
+target c x/1 31 sha256
+target c y/1 32 sha256
+write a 1 4
+write b 1 4
 write c 1 5
 write targets 1 4
 write snapshot 1 3
 write timestamp 1 2
 """
-STOPPED = 'no "p" NotSearched\nno "q" NotSearched\n'
-REFUSED = 'no "p" LengthWrong "c"\nno "q" LengthWrong "c"\n'
+STOPPED = 'no "x/1" NotSearched\nno "y/1" NotSearched\n'
+REFUSED = 'role "a" 1\nrole "b" 1\nno "x/1" LengthWrong "c"\nno "y/1" LengthWrong "c"\n'
 # the lines of a cut file, its status, and the members of the state
 CASES = {
     "2.root": (f"root 1\nend root Malformed\n{STOPPED}", 2, ["root"]),
@@ -68,7 +74,7 @@ def cut(name, step):
         for length in lengths:
             os.truncate(f"{room}/repo/metadata/{name}.json", length)
             for workers in ("0", "8"):
-                ran = common.run(*common.verify("p", "q", state="old", repo="repo", workers=workers), cwd=room, text=True)
+                ran = common.run(*common.verify("x/1", "y/1", state="old", repo="repo", workers=workers), cwd=room, text=True)
                 seen = ran.stdout, ran.returncode, ran.stderr, common.read(f"{room}/new").decode()
                 if seen != (lines, status, "", state):
                     return f"{name}.json cut to {length} bytes, {workers} workers: status {ran.returncode}\n{ran.stdout}"

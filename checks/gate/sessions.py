@@ -90,7 +90,9 @@ def spelled(line):
     if not text:
         return read(f"cases/{name}.script").decode()
     first, last = map(int, name.split(".."))
-    return "".join(text.replace("{}", str(it)).replace("{+}", str(it + 1)) + "\n" for it in range(first, last + 1))
+    words = lambda it: (("{}", str(it)), ("{x}", f"{it:04x}"), ("{+}", str(it + 1)))
+    put = lambda it: functools.reduce(lambda line, word: line.replace(*word), words(it), text)
+    return "".join(put(it) + "\n" for it in range(first, last + 1))
 
 
 def script_of(lines):

@@ -8,7 +8,7 @@
 # second 33 million.
 set -u
 . "$(dirname "$0")/../common.sh"
-mkdir "$work/cases" && cp "$top/crates/trials/data/cases/leaf-w4-15-5.vector" "$work/cases" || exit 2
+mkdir "$work/cases" && cp "$top"/crates/trials/data/cases/leaf-{,w4-}15-5.vector "$work/cases" || exit 2
 cat > "$work/cases/tallest.rows" << 'LINES'
 The first signature and the sixth of a key of W8 and height 15.
   $ sign 8 15 abc first sixth
@@ -21,6 +21,7 @@ The first signature and the sixth of a key of W8 and height 15.
   root 430f045685ad13470cb721981647ae68ad76e2938899fc508b32c62175ef4a97
   1612 bytes of 2668
   SHA-256 d86c8d20079f7e1b448672b25c42abad33778664951485556d63a1612cabd314
+  $ same sixth cases/leaf-15-5.vector
   $ verify sixth
   yes
 

@@ -1,7 +1,7 @@
 //! The parts that are timed.
 
 use crate::trouble::Trouble;
-use cjson::{canonical, read_tree};
+use cjson::{canonical_text, read_tree};
 use deleg::matches;
 use lms::{Height, Public, Secret, verify};
 use std::alloc::Global;
@@ -66,7 +66,7 @@ pub fn canonical_speed<R: Clock>(rt: &R, alloc: Global) -> Result<u64, Trouble> 
     let start = Instant::now(rt)?;
     let mut written: u64 = 0;
     for _ in 0..TEXTS {
-        let text = canonical(alloc, &tree)?;
+        let text = canonical_text(alloc, &tree)?;
         written = written.wrapping_add(text.len() as u64);
     }
     let took = nanoseconds(rt, start)?;

@@ -1,12 +1,13 @@
 //! Canonical JSON, metadata files as documents, and readers of JSON forms.
 //!
-//! - [`canonical`] writes the canonical text of a tree (OLPC Canonical JSON), which is what is
+//! - [`canonical`] writes the canonical text of a value (OLPC Canonical JSON), which is what is
 //!   hashed and signed (TUF 1.0 section 4.1).
 //! - [`signed_bytes`] reads a metadata file as a [`Doc`] (TUF 1.0 section 4.2).
 //! - [`form::needed_member`], [`form::optional_member`] and [`members::read_members`] read the
 //!   members of an object as values of Rust types.
 //!
-//! [`read_tree`] reads a file's bytes as a [`Tree`], as `serde_json` would.
+//! [`read_tree`] reads a file's bytes as a [`Tree`], as `serde_json` would, and [`canonical_text`]
+//! writes that of a tree.
 #![tactic(auto)]
 
 mod doc;
@@ -24,4 +25,4 @@ pub use doc::{Doc, Entry, signed_bytes};
 pub use fault::{Canon, DocFault, NoMemory, ReadFault};
 pub use sorted::Sorted;
 pub use tree::{Tree, read_tree, tree_from};
-pub use write::canonical;
+pub use write::{canonical, canonical_text};

@@ -1,9 +1,10 @@
-//! The canonical text of a tree.
+//! Canonical texts.
 
 ghost use Rattle.std.specs.Prelude.{◌≡◌, ◌≢◌, [], ◌∷◌, ◌++◌, Some, None, true, false, decimal};
 ghost use Rattle.std.specs.Prelude.{OnOk, IfOk, IsUtf8};
 ghost use Rattle.std.specs.Fmt.{signed_decimal};
 ghost use Rattle.serde_json.specs.Data.{Data, boolean};
+ghost use Rattle.serde_json.specs.View as data_of;
 ghost use Rattle.serde_json.specs.View.{number_view};
 ghost use Rattle.cjson.specs.Tree.{view, items_view, members_view};
 ghost use Rattle.cjson.specs.Canon.{canon, text, number_text, escaped, quoted, comma_if};
@@ -13,32 +14,48 @@ ghost use Rattle.cjson.specs.Canon.{items_are_ordered, members_are_ordered};
 
 use crate::fault::Canon;
 use crate::sorted::Sorted;
-use crate::tree::Tree;
-use serde_json::Number;
+use crate::tree::{Tree, tree_from};
+use serde_json::{Number, Value};
 use std::alloc::{AllocError, Global};
 
-/// Returns the canonical text of a tree (OLPC Canonical JSON; TUF 1.0 section 4.1).
+/// Returns the canonical text of a value (OLPC Canonical JSON; TUF 1.0 section 4.1).
 ///
 /// There is no white space, and members are in the order of their keys' bytes. In a text only `"`
 /// and `\` are escaped, each by a `\`; all other characters are written as they are, control
-/// characters too. The result is UTF-8 of any length, and no other tree has the same.
+/// characters too. The result is UTF-8 of any length, and no other value has the same.
 ///
-/// Fails with `Float` if a number of the tree isn't whole, or is below -2^63 or above 2^64 -
+/// Fails with `Float` if a number of the value isn't whole, or is below -2^63 or above 2^64 -
 /// 1, or with `NoMemory`. A number written as `1.0`, `1e2` or `-0` isn't read as a whole number.
-#[tactic(auto, using(crate::proofs::Unique::canon_unique))]
-pub fn canonical(alloc: Global, v: &Tree) -> Result<Vec<u8>, Canon>
-    ensures ok { IfOk result (λ bytes. canon (view v.now) ≡ Some bytes.items) }
-    ensures float { result ≡ Err Canon.Float → canon (view v.now) ≡ None }
+pub fn canonical(alloc: Global, value: &Value) -> Result<Vec<u8>, Canon>
+    ensures ok { IfOk result (λ bytes. canon (data_of.view value.now) ≡ Some bytes.items) }
+    ensures float { result ≡ Err Canon.Float → canon (data_of.view value.now) ≡ None }
     ensures not_whole { result ≡ Err Canon.Float
-        → has_whole_numbers (view v.now) ≡ false }
+        → has_whole_numbers (data_of.view value.now) ≡ false }
+    ensures utf8 { IfOk result (λ bytes. IsUtf8 bytes.items) }
+
+    // No other value has this text.
+    ensures unique { IfOk result (λ bytes. (d : Data)
+        → canon d ≡ Some bytes.items → d ≡ data_of.view value.now) }
+{
+    let tree = tree_from(alloc, value)?;
+    canonical_text(alloc, &tree)
+}
+
+/// Returns the canonical text of a tree, as [`canonical`] returns that of a value.
+#[tactic(auto, using(crate::proofs::Unique::canon_unique))]
+pub fn canonical_text(alloc: Global, tree: &Tree) -> Result<Vec<u8>, Canon>
+    ensures ok { IfOk result (λ bytes. canon (view tree.now) ≡ Some bytes.items) }
+    ensures float { result ≡ Err Canon.Float → canon (view tree.now) ≡ None }
+    ensures not_whole { result ≡ Err Canon.Float
+        → has_whole_numbers (view tree.now) ≡ false }
     ensures utf8 { IfOk result (λ bytes. IsUtf8 bytes.items) }
 
     // No other tree has this text.
     ensures unique { IfOk result (λ bytes. (d : Data)
-        → canon d ≡ Some bytes.items → d ≡ view v.now) }
+        → canon d ≡ Some bytes.items → d ≡ view tree.now) }
 {
     let mut out = Vec::new(alloc);
-    write(v, &mut out)?;
+    write(tree, &mut out)?;
     Ok(out)
 }
 

@@ -1,6 +1,7 @@
 //! Carrying out a subcommand.
 
 ghost use Rattle.std.specs.Prelude.{◌≡◌, ◌≢◌, ◌≤◌, [], IfErr, IfOk, option_map};
+ghost use Rattle.report.specs.Lines.{IsStatus};
 ghost use Rattle.command.specs.Done.{IsCause, IsCauseOf, IsDone, IsFirst, OfHeld};
 ghost use Rattle.command.specs.Done.{system_of, system_with};
 ghost use Rattle.update.specs.First.{IsCauseOfFirst};
@@ -28,7 +29,7 @@ pub fn carry_out<T: Threads + Wait + Sync, W: Write>(
     subcommand: &Subcommand<'_>,
     out: W,
 ) -> (Result<u8, Failure>, W)
-    ensures known { IfOk result.0 (λ status. status ≤ 2) }
+    ensures known { IfOk result.0 IsStatus }
     ensures done { IfOk result.0 (IsDone subcommand.now
         (W.contents out) (W.contents result.1)) }
     ensures quiet { IfErr result.0 (λ f. f ≢ Failure.Memory → f ≢ Failure.Output
@@ -64,7 +65,7 @@ fn init<W: Write>(
     state: &str,
     out: W,
 ) -> (Result<u8, Failure>, W)
-    ensures known { IfOk result.0 (λ status. status ≤ 2) }
+    ensures known { IfOk result.0 IsStatus }
     ensures first { IfOk result.0 (λ status. OfHeld (λ h k. IsFirst root.now state.now
         (system_of h [] (W.contents out)) (system_of k [] (W.contents result.1)) status)) }
     ensures quiet { IfErr result.0 (λ f. f ≢ Failure.Memory → f ≢ Failure.Output

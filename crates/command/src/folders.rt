@@ -1,6 +1,7 @@
 //! Repositories in folders of the file system.
 
-ghost use Rattle.std.specs.Prelude.{◌≡◌, ◌≢◌, ◌≤◌, IfErr, IfOk, length, string_bytes};
+ghost use Rattle.std.specs.Prelude.{◌≡◌, ◌≢◌, IfErr, IfOk, length, string_bytes};
+ghost use Rattle.report.specs.Lines.{IsStatus};
 ghost use Rattle.command.specs.Done.{IsCauseOf, IsNextOf, IsReplayedOf, IsVerifiedOf};
 ghost use Rattle.replay.specs.Cycles as replay;
 ghost use Rattle.update.specs.Causes as causes;
@@ -27,7 +28,7 @@ pub fn verify_in<T: Threads + Wait + Sync, W: Write>(
     folders: FolderPaths<'_>,
     out: W,
 ) -> (Result<u8, Failure>, W)
-    ensures known { IfOk result.0 (λ status. status ≤ 2) }
+    ensures known { IfOk result.0 IsStatus }
     ensures verified { IfOk result.0 (IsVerifiedOf terms.now folders.entry
         (W.contents out) (W.contents result.1)) }
     ensures quiet { IfErr result.0 (λ f. f ≢ Failure.Memory → f ≢ Failure.Output
@@ -98,7 +99,7 @@ pub fn replay_in<T: Threads + Wait + Sync, W: Write>(
     repositories: &[String],
     out: W,
 ) -> (Result<u8, Failure>, W)
-    ensures known { IfOk result.0 (λ status. status ≤ 2) }
+    ensures known { IfOk result.0 IsStatus }
     ensures replayed { IfOk result.0 (IsReplayedOf cycles.now (length repositories.now)
         (W.contents out) (W.contents result.1)) }
     ensures quiet { IfErr result.0 (λ f. f ≢ Failure.Memory → f ≢ Failure.Output

@@ -1,6 +1,7 @@
 //! Repositories in folders of the file system, with copies of their good targets.
 
-ghost use Rattle.std.specs.Prelude.{◌≡◌, ◌≢◌, ◌≤◌, IfErr, IfOk, string_bytes};
+ghost use Rattle.std.specs.Prelude.{◌≡◌, ◌≢◌, IfErr, IfOk, string_bytes};
+ghost use Rattle.report.specs.Lines.{IsStatus};
 ghost use Rattle.command.specs.Done.{IsCauseOf, IsVerifiedIntoOf, site_at};
 ghost use Rattle.update.specs.Copies.{IsCauseToVerifyInto};
 
@@ -25,7 +26,7 @@ pub fn verify_into_in<T: Threads + Wait + Sync, W: Write>(
     into: &str,
     out: W,
 ) -> (Result<u8, Failure>, W)
-    ensures known { IfOk result.0 (λ status. status ≤ 2) }
+    ensures known { IfOk result.0 IsStatus }
     ensures verified { IfOk result.0 (IsVerifiedIntoOf terms.now folders.entry into.now
         (W.contents out) (W.contents result.1)) }
     ensures quiet { IfErr result.0 (λ f. f ≢ Failure.Memory → f ≢ Failure.Output

@@ -7,10 +7,10 @@ use std::collections::BTreeMap;
 
 /// The script that makes the repository.
 const SCRIPT: &str = "\
-key 1 5 4
-key 2 5 4
-key 3 5 4
-key 4 5 4
+key 1 5
+key 2 5
+key 3 5
+key 4 5
 top root 1 1
 top timestamp 1 2
 top snapshot 1 3

@@ -1,6 +1,7 @@
 //! The verification of a small repository, made in memory, if there are no arguments.
 
-ghost use Rattle.std.specs.Prelude.{◌≤◌, ◌∷◌, [], IfOk, codes, map, string_bytes};
+ghost use Rattle.std.specs.Prelude.{◌∷◌, [], IfOk, codes, map, string_bytes};
+ghost use Rattle.report.specs.Lines.{IsStatus};
 ghost use Rattle.command.specs.Sampled.{IsSampled};
 
 use crate::made::{first_state, repository};
@@ -19,7 +20,7 @@ const MOMENT: &str = "2026-01-01T00:00:00Z";
 pub fn sample<W: Write>(alloc: Global, out: &mut W) -> Result<u8, Failure>
     ensures sampled { IfOk result (λ status. IsSampled (codes "abc.txt" ∷ []) status
         (W.contents out.old) (W.contents out.new)) }
-    ensures known { IfOk result (λ status. status ≤ 2) }
+    ensures known { IfOk result IsStatus }
 {
     let wanted = [String::from_str(alloc, "abc.txt")?];
     verify(alloc, &wanted, out)
@@ -28,7 +29,7 @@ pub fn sample<W: Write>(alloc: Global, out: &mut W) -> Result<u8, Failure>
 fn verify<W: Write>(alloc: Global, wanted: &[String], out: &mut W) -> Result<u8, Failure>
     ensures sampled { IfOk result (λ status. IsSampled (map string_bytes wanted.now) status
         (W.contents out.old) (W.contents out.new)) }
-    ensures known { IfOk result (λ status. status ≤ 2) }
+    ensures known { IfOk result IsStatus }
 {
     let repo = repository(alloc)?;
     let now = Moment::read(MOMENT).ok_or(Failure::Now)?;

@@ -2,12 +2,12 @@
 
 use anyhow::{Context, Result, bail};
 use cjson::number::Within;
-use cjson::read_tree;
 use deleg::{Found, Search, search};
 use keys::{Direct, key_id};
 use lms::{Height, Secret};
 use meta::{Moment, Repo};
 use rolechain::Trusted;
+use serde_json::Value;
 use sessions::{Step, words_of};
 use std::alloc::Global;
 use std::collections::BTreeMap;
@@ -53,7 +53,7 @@ impl Signer {
             "{{\"keytype\":\"lms\",\"keyval\":{{\"public\":\"{public}\"}},\
 \"scheme\":\"lms-sha256\"}}"
         )?;
-        let id = key_id(alloc, &read_tree(alloc, key.as_bytes())?)?;
+        let id = key_id(alloc, &Value::from_slice(alloc, key.as_bytes())?)?;
         Ok(Signer { id, key, secret })
     }
 

@@ -7,10 +7,8 @@ ghost use Rattle.folder.specs.Measures.{IsMeasure};
 use crate::repositories::{first_state, limits_of, made, metadata, moment, string};
 use cycle::{Course, Cycle, Repo, Round, Trusted, follow_alone};
 use folder::{Folder, LoadFault, Measure, Need};
-use keys::Direct;
 use measured::{Readers, close};
 use report::tell;
-use rolechain::final_root;
 use std::alloc::{AllocError, Global};
 use std::collections::BTreeMap;
 use std::process::Abort;
@@ -245,17 +243,6 @@ fn found_files_with_consistent_names_are_read_once(rt: HostRuntime) {
     }
 }
 
-/// Returns whether the names are consistent once the cycle from the state has ended.
-fn ends_consistent<R: Abort + AllocGlobal>(
-    rt: &R,
-    trusted: &Trusted,
-    repo: &Repo,
-    wanted: &[String],
-) -> bool {
-    let course = follow_alone(&cycle_of(rt, trusted, repo, wanted));
-    course.expect(rt, "memory").has_consistent_names()
-}
-
 #[test]
 fn names_are_consistent_by_the_last_root(rt: HostRuntime) {
     let alloc = rt.alloc();
@@ -263,7 +250,8 @@ fn names_are_consistent_by_the_last_root(rt: HostRuntime) {
     let repo = made(&rt, script.expect(&rt, "memory").as_str());
     let trusted = first_state(&rt, &repo);
     assert!(rt; !trusted.root().reading().consistent());
-    assert!(rt; ends_consistent(&rt, &trusted, &repo, &wanted(&rt)));
-    let last = final_root(alloc, &trusted, &repo, moment(&rt), &mut Direct).expect(&rt, "memory");
-    assert!(rt; last.bytes() == metadata(&rt, &repo, "2.root.json"));
+    let wanted = wanted(&rt);
+    let course = follow_alone(&cycle_of(&rt, &trusted, &repo, &wanted)).expect(&rt, "memory");
+    assert!(rt; course.has_consistent_names());
+    assert!(rt; course.trusted().root().bytes() == metadata(&rt, &repo, "2.root.json"));
 }

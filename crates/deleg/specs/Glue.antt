@@ -1,5 +1,5 @@
 -- What the private functions of a search and of a pattern cite.
-use Rattle.std.specs.Prelude.{⊤, ◌≡◌, ◌==◌, ◌<◌, ◌+◌, ◌^◌, ℕ, Bool, if◌then◌else◌, List, [], ◌∷◌, ◌++◌, Option, None, Some, chars, drop, filter, length}
+use Rattle.std.specs.Prelude.{⊤, ◌≡◌, ◌==◌, ◌<◌, ◌+◌, ◌^◌, ℕ, Bool, if◌then◌else◌, List, [], ◌∷◌, ◌++◌, ◌||◌, false, true, Option, None, Some, chars, drop, filter, length}
 use Rattle.examine.specs.Checks.{file_in}
 use Rattle.deleg.specs.Search.{Edge, Accepted, Search, is_for, settled, stands_for, walk}
 use Rattle.deleg.specs.declared.pattern.Compared.TheVariants as compared
@@ -7,6 +7,19 @@ use Rattle.deleg.specs.declared.pattern.Compared.{Compared}
 use Rattle.deleg.specs.declared.query.Query.{Query}
 use Rattle.deleg.specs.declared.walk.Step.TheVariants as step
 use Rattle.deleg.specs.declared.walk.Step.{Step}
+
+-- # How the bytes of a pattern and of a path begin.
+
+-- `*` or `?`
+abbrev pub is_sign : ℕ → Bool
+is_sign p = p == 42 || p == 63
+
+-- a byte differs before the first of these
+abbrev pub begin_otherwise : List ℕ → List ℕ → Bool
+begin_otherwise [] bs = false
+begin_otherwise (p ∷ ps) [] = false
+begin_otherwise (p ∷ ps) (b ∷ bs) =
+    if is_sign p then false else if p == b then begin_otherwise ps bs else true
 
 -- # What comparing the characters before a pattern's first `*` leaves.
 

@@ -18,7 +18,7 @@ mod searching;
 mod walk;
 
 pub use accepted::{Accepted, Search};
-pub use bin::{bin_name, bin_name_by};
+pub use bin::bin_name;
 pub use edge::{Edge, bin_of, edge_at, edge_count, is_for};
 pub use found::Found;
 pub use hashed::HashedPath;

@@ -1,5 +1,5 @@
 -- Why a run ends early: usage error or system error, and the line that is printed.
-use Rattle.std.specs.Prelude.{ℕ, List, [], ◌∷◌, ◌++◌, Bool, true, false, codes, decimal}
+use Rattle.std.specs.Prelude.{◌≡◌, ◌⊎◌, ℕ, List, [], ◌∷◌, ◌++◌, Bool, true, false, codes, decimal}
 use Rattle.failure.specs.declared.failure.Failure.TheVariants.{Words, Now, State, Script, Input, Folder, Clock, Output, Memory}
 use Rattle.failure.specs.declared.failure.Failure.{Failure}
 
@@ -20,6 +20,10 @@ is_callers Now = true
 is_callers State = true
 is_callers (Script line) = true
 is_callers _ = false
+
+-- one that may come late, when something was written: out of memory, or by the output
+abbrev pub IsLate : Failure → Type 0
+IsLate f = (f ≡ Memory) ⊎ (f ≡ Output)
 
 -- the text of a failure, without the line of a script
 abbrev pub failure_word : Failure → List ℕ

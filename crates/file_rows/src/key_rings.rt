@@ -1,6 +1,6 @@
 //! Keys, their ids, and roles.
 
-use crate::plain::{Json, yes_or_no};
+use crate::plain::{value_of, yes_or_no};
 use anyhow::Result;
 use keys::{KeyRing, RoleKeys, key_id};
 use lms::Public;
@@ -9,8 +9,8 @@ use std::alloc::Global;
 
 /// Returns the id of a key object, or why it has none.
 pub fn id(alloc: Global, step: &Step) -> Result<String> {
-    let json = Json::read(alloc, step.text_behind(0))?;
-    Ok(match key_id(alloc, &json.tree) {
+    let key = value_of(alloc, step.text_behind(0))?;
+    Ok(match key_id(alloc, &key) {
         Ok(id) => format!(in alloc; "{id}\n")?,
         Err(fault) => format!(in alloc; "{fault:?}\n")?,
     })
@@ -18,8 +18,8 @@ pub fn id(alloc: Global, step: &Step) -> Result<String> {
 
 /// Returns the usable keys of an object of keys.
 pub fn ring(alloc: Global, step: &Step) -> Result<String> {
-    let json = Json::read(alloc, step.text_behind(0))?;
-    match KeyRing::read(alloc, &json.tree)? {
+    let value = value_of(alloc, step.text_behind(0))?;
+    match KeyRing::read(alloc, &value)? {
         Some(ring) => keys_of(alloc, &ring),
         None => Ok(String::from_str(alloc, "none\n")?),
     }
@@ -37,9 +37,9 @@ pub fn keys_of(alloc: Global, ring: &KeyRing) -> Result<String> {
 
 /// Returns the threshold and the ids of a role.
 pub fn role(alloc: Global, step: &Step) -> Result<String> {
-    let json = Json::read(alloc, step.text_behind(0))?;
+    let value = value_of(alloc, step.text_behind(0))?;
     let mut text = String::new(alloc);
-    match RoleKeys::read(alloc, &json.tree)? {
+    match RoleKeys::read(alloc, &value)? {
         Some(role) => push_role(&mut text, &role)?,
         None => text.push_str("none\n")?,
     }

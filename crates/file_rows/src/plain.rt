@@ -2,6 +2,7 @@
 
 use anyhow::Result;
 use cjson::{Tree, read_tree};
+use serde_json::Value;
 use std::alloc::Global;
 
 /// A tree of JSON, as a row writes it.
@@ -22,6 +23,11 @@ impl Json {
         let tree = read_tree(alloc, text.as_bytes())?;
         Ok(Json { tree })
     }
+}
+
+/// Reads the value of a text.
+pub fn value_of(alloc: Global, text: &str) -> Result<Value> {
+    Ok(Value::from_slice(alloc, text.as_bytes())?)
 }
 
 /// Returns the word for a truth.

@@ -1,17 +1,17 @@
 //! Canonical texts and documents.
 
-use crate::plain::{Json, push_plain};
+use crate::plain::{push_plain, value_of};
 use anyhow::{Context, Result, ensure};
-use cjson::{Doc, Tree, canonical, signed_bytes, tree_from};
+use cjson::{Doc, Tree, canonical, signed_bytes};
 use serde_json::Value;
 use sessions::{Step, joined};
 use std::alloc::Global;
 
-/// Returns the canonical text of a tree, or why it has none.
+/// Returns the canonical text of a value, or why it has none.
 pub fn canonical_text(alloc: Global, step: &Step) -> Result<String> {
-    let json = Json::read(alloc, step.text_behind(0))?;
+    let value = value_of(alloc, step.text_behind(0))?;
     let mut text = String::new(alloc);
-    match canonical(alloc, &json.tree) {
+    match canonical(alloc, &value) {
         Ok(bytes) => push_plain(&mut text, &bytes)?,
         Err(fault) => write!(text, "{fault:?}")?,
     }
@@ -61,8 +61,7 @@ fn push_document(alloc: Global, text: &mut String, file: &[u8], doc: &Doc) -> Re
 /// Adds the tree as `serde_json` prints its value, whose tree it has to be: then both have one
 /// canonical text.
 fn push_tree(alloc: Global, text: &mut String, value: &Value, tree: &Tree) -> Result<()> {
-    let same = tree_from(alloc, value)?;
-    let same_text = canonical(alloc, &same)? == canonical(alloc, tree)?;
+    let same_text = canonical(alloc, value)? == cjson::canonical_text(alloc, tree)?;
     ensure!(same_text, "the value has another tree");
     writeln!(text, "\ntree {}", value.to_string(alloc)?)?;
     Ok(())

@@ -1,7 +1,7 @@
 //! Whether enough of a role's keys signed a file.
 
 use crate::layers::Layers;
-use crate::plain::{Json, output};
+use crate::plain::{output, value_of};
 use anyhow::{Context, Result, bail};
 use cjson::{NoMemory, signed_bytes};
 use keys::{Ask, Direct, Judge, KeyRing, RoleKeys, enough, key_id};
@@ -53,8 +53,7 @@ fn key_text(alloc: Global, public: &Public, kind: &str, more: &str) -> Result<St
 }
 
 fn own_id(alloc: Global, key: &str) -> Result<String> {
-    let json = Json::read(alloc, key)?;
-    Ok(key_id(alloc, &json.tree)?)
+    Ok(key_id(alloc, &value_of(alloc, key)?)?)
 }
 
 /// Writes what belongs to a signer.
@@ -94,8 +93,8 @@ fn id_of(layers: &Layers<'_>, name: &str) -> Result<String> {
 fn ring(layers: &Layers<'_>) -> Result<KeyRing> {
     let members = layers.text(RING)?;
     let text = format!(in layers.alloc; "{{{members}}}")?;
-    let json = Json::read(layers.alloc, text.as_str())?;
-    Ok(KeyRing::read(layers.alloc, &json.tree)?.context("no ring")?)
+    let value = value_of(layers.alloc, text.as_str())?;
+    Ok(KeyRing::read(layers.alloc, &value)?.context("no ring")?)
 }
 
 /// Returns the role that lists signers, whose names are joined by commas.
@@ -105,8 +104,8 @@ fn role(layers: &Layers<'_>, threshold: &str, names: &str) -> Result<RoleKeys> {
         push_id(layers, &mut ids, name)?;
     }
     let text = format!(in layers.alloc; "{{\"keyids\":[{ids}],\"threshold\":{threshold}}}")?;
-    let json = Json::read(layers.alloc, text.as_str())?;
-    Ok(RoleKeys::read(layers.alloc, &json.tree)?.context("no role")?)
+    let value = value_of(layers.alloc, text.as_str())?;
+    Ok(RoleKeys::read(layers.alloc, &value)?.context("no role")?)
 }
 
 fn push_id(layers: &Layers<'_>, ids: &mut String, name: &str) -> Result<()> {

@@ -43,8 +43,8 @@ impl Temporary for Piece {
     }
 }
 
-/// A destination in memory, at the path `to`, of which contracts follow all: whether temporary files
-/// may be left, whether copies are flushed, and whether a call fails. No path is blocked.
+/// A destination in memory, at the path `to`, of which contracts follow all: whether temporary
+/// files may be left, whether copies are flushed, and whether a call fails. No path is blocked.
 #[derive(Clone, Copy)]
 pub struct Kept {
     begins: bool,

@@ -2,7 +2,7 @@
 
 ghost use Rattle.std.specs.Prelude.{◌<◌, All, length};
 
-use cjson::{Doc, canonical, signed_bytes, tree_from};
+use cjson::{Doc, canonical, signed_bytes};
 use lms::{Height, Public, verify};
 use seals::{MakeFault, Signer, seal, secret};
 use serde_json::json;
@@ -36,7 +36,7 @@ fn sealed<R: Abort + AllocGlobal>(
         "version": 1
     });
     let value = value.expect(rt, "memory");
-    canonical(alloc, &tree_from(alloc, &value).expect(rt, "memory")).expect(rt, "memory");
+    canonical(alloc, &value).expect(rt, "memory");
     seal(alloc, &value, signers, by)
 }
 

@@ -1,9 +1,10 @@
 //! A count of signers whose judge is out of memory.
 
 use crate::judges::Counting;
-use cjson::{NoMemory, Tree, read_tree, signed_bytes};
+use cjson::{NoMemory, signed_bytes};
 use keys::{KeyRing, RoleKeys, enough, key_id};
 use lms::{Height, Secret};
+use serde_json::Value;
 use std::process::Abort;
 
 /// The canonical text of what is signed.
@@ -33,7 +34,7 @@ impl Signer {
 \"keyval\":{{\"public\":\"{public}\"}}}}"
         );
         let key = key.expect(rt, "memory");
-        let id = key_id(alloc, &tree(rt, key.as_str())).expect(rt, "an id");
+        let id = key_id(alloc, &value_of(rt, key.as_str())).expect(rt, "an id");
         let sig = secret.sign(SIGNED).expect(rt, "a signature");
         let sig = hex::encode(alloc, sig).expect(rt, "memory");
         let member = format!(in alloc; "\"{id}\":{key}");
@@ -46,13 +47,13 @@ impl Signer {
     }
 }
 
-fn tree<R: Abort + AllocGlobal>(rt: &R, json: &str) -> Tree {
-    read_tree(rt.alloc(), json.as_bytes()).expect(rt, "a tree")
+fn value_of<R: Abort + AllocGlobal>(rt: &R, json: &str) -> Value {
+    Value::from_slice(rt.alloc(), json.as_bytes()).expect(rt, "a value")
 }
 
 fn ring<R: Abort + AllocGlobal>(rt: &R, one: &Signer, two: &Signer) -> KeyRing {
     let json = format!(in rt.alloc(); "{{{},{}}}", one.member, two.member);
-    let value = tree(rt, json.expect(rt, "memory").as_str());
+    let value = value_of(rt, json.expect(rt, "memory").as_str());
     let ring = KeyRing::read(rt.alloc(), &value).expect(rt, "memory");
     ring.expect(rt, "a ring")
 }
@@ -62,7 +63,7 @@ fn role<R: Abort + AllocGlobal>(rt: &R, one: &Signer, two: &Signer) -> RoleKeys 
         "{{\"keyids\":[\"{}\",\"{}\"],\"threshold\":2}}",
         one.id, two.id
     );
-    let value = tree(rt, json.expect(rt, "memory").as_str());
+    let value = value_of(rt, json.expect(rt, "memory").as_str());
     let role = RoleKeys::read(rt.alloc(), &value).expect(rt, "memory");
     role.expect(rt, "a role")
 }

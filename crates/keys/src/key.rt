@@ -1,13 +1,15 @@
 //! A single usable key.
 
 ghost use Rattle.std.specs.Prelude.{◌≡◌, IfOk, string_bytes};
+ghost use Rattle.serde_json.specs.View as data_of;
 ghost use Rattle.cjson.specs.Tree.{view};
 ghost use Rattle.keys.specs.Keys as spec;
 
 use cjson::text::{Text, is_text};
-use cjson::{Canon, NoMemory, Tree, canonical};
+use cjson::{Canon, NoMemory, Tree, canonical_text, tree_from};
 use hex::FromHex;
 use lms::Public;
+use serde_json::Value;
 use sha2::{Digest, Sha256};
 use std::alloc::Global;
 
@@ -29,10 +31,18 @@ impl Drop for Key {
 /// Returns the id of a key object: the SHA-256 of its canonical text, in 64 lower-case hexadecimal
 /// digits (TUF 1.0 section 4.2). Fails with `Float` if a number of the object isn't whole, since it
 /// then has no canonical text, or with `NoMemory`.
-pub fn key_id(alloc: Global, key: &Tree) -> Result<String, Canon>
-    ensures digest { spec.GivesText (spec.key_id (view key.now)) result string_bytes }
+pub fn key_id(alloc: Global, key: &Value) -> Result<String, Canon>
+    ensures digest { spec.GivesText (spec.key_id (data_of.view key.now)) result string_bytes }
 {
-    let text = canonical(alloc, key)?;
+    let tree = tree_from(alloc, key)?;
+    id_of(alloc, &tree)
+}
+
+/// Returns the id of a key object that is a tree.
+fn id_of(alloc: Global, key: &Tree) -> Result<String, Canon>
+    ensures { spec.GivesText (spec.key_id (view key.now)) result string_bytes }
+{
+    let text = canonical_text(alloc, key)?;
     let digest: [u8; 32] = Sha256::digest(text.as_slice());
     Ok(hex::encode(alloc, digest)?)
 }
@@ -70,7 +80,7 @@ fn is_lms(key: &Tree) -> bool
 fn is_own_id(alloc: Global, id: &str, key: &Tree) -> Result<bool, NoMemory>
     ensures { IfOk result (λ b. b ≡ spec.is_own_id id.now (view key.now)) }
 {
-    match key_id(alloc, key) {
+    match id_of(alloc, key) {
         Ok(found) => Ok(found.as_str() == id),
         Err(Canon::Float) => Ok(false),
         Err(Canon::NoMemory) => Err(NoMemory),

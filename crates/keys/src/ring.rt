@@ -1,7 +1,7 @@
 //! The usable keys of a file, by id.
 
 ghost use Rattle.std.specs.Prelude.{◌≡◌, IfOk};
-ghost use Rattle.cjson.specs.Tree.{view};
+ghost use Rattle.serde_json.specs.View.{view};
 ghost use Rattle.cjson.specs.Form.{Reads};
 ghost use Rattle.keys.specs.Keys as spec;
 
@@ -9,7 +9,8 @@ use crate::key::{Key, usable_key};
 use cjson::form::{FromJson, if_formed};
 use cjson::list::Items;
 use cjson::members::{FromMember, read_members};
-use cjson::{NoMemory, ReadFault, Tree};
+use cjson::{NoMemory, ReadFault, Tree, tree_from};
+use serde_json::Value;
 use std::alloc::Global;
 use std::marker::Model;
 
@@ -39,10 +40,11 @@ impl Model for KeyRing {
 impl KeyRing {
     /// Reads an object of keys. Returns None if the value or one of its members isn't an object.
     /// Fails only if out of memory.
-    pub fn read(alloc: Global, value: &Tree) -> Result<Option<KeyRing>, NoMemory>
+    pub fn read(alloc: Global, value: &Value) -> Result<Option<KeyRing>, NoMemory>
         ensures read { IfOk result (λ o. o ≡ spec.ring (view value.now)) }
     {
-        if_formed(KeyRing::from_json(alloc, value))
+        let tree = tree_from(alloc, value)?;
+        if_formed(KeyRing::from_json(alloc, &tree))
     }
 
     /// Returns the keys, in the order of their ids.

@@ -2,14 +2,15 @@
 
 ghost use Rattle.std.specs.Prelude.{◌≡◌, ℕ, List, IfOk, bytes_eq};
 ghost use Rattle.std.specs.List.{list_any};
-ghost use Rattle.cjson.specs.Tree.{view};
+ghost use Rattle.serde_json.specs.View.{view};
 ghost use Rattle.keys.specs.Keys as spec;
 
 use cjson::form::{FromJson, if_formed, needed_member};
 use cjson::list::Items;
 use cjson::number::Positive;
 use cjson::text::Text;
-use cjson::{NoMemory, ReadFault, Tree};
+use cjson::{NoMemory, ReadFault, Tree, tree_from};
+use serde_json::Value;
 use std::alloc::Global;
 use std::collections::BTreeSet;
 
@@ -31,10 +32,11 @@ impl RoleKeys {
     /// Reads the object of a role. Returns None if `keyids` isn't a list of texts or `threshold`
     /// isn't a whole number from 1 to 9223372036854775807. Ignores other members. Fails only if out
     /// of memory.
-    pub fn read(alloc: Global, value: &Tree) -> Result<Option<RoleKeys>, NoMemory>
+    pub fn read(alloc: Global, value: &Value) -> Result<Option<RoleKeys>, NoMemory>
         ensures read { IfOk result (λ o. o ≡ spec.role_keys (view value.now)) }
     {
-        if_formed(RoleKeys::from_json(alloc, value))
+        let tree = tree_from(alloc, value)?;
+        if_formed(RoleKeys::from_json(alloc, &tree))
     }
 
     /// Returns the set of the listed ids, in which a look-up takes a few comparisons. Fails only if

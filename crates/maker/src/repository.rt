@@ -11,7 +11,7 @@ use crate::objects::{
 use crate::refusal::Refusal;
 use crate::ring::{ids_of, new_signer, place_of, places_of, put_keys};
 use crate::words::Words;
-use cjson::{canonical, tree_from};
+use cjson::canonical;
 use meta::names;
 use seals::{Signer, seal_text};
 use serde_json::{Map, Value};
@@ -375,8 +375,7 @@ impl Repository {
             return Err(Refusal::Line);
         }
         let by = places_of(self.alloc, &self.signers, keys)?;
-        let tree = tree_from(self.alloc, &signed)?;
-        let text = canonical(self.alloc, &tree)?;
+        let text = canonical(self.alloc, &signed)?;
         Ok(seal_text(self.alloc, &signed, &text, &mut self.signers, &by)?)
     }
 }

@@ -4,7 +4,6 @@ ghost use Rattle.std.specs.Prelude.{◌<◌, IfSome, IfOk, All, length};
 
 use crate::objects::{key_object, put};
 use crate::refusal::Refusal;
-use cjson::tree_from;
 use keys::key_id;
 use lms::{Height, Public, Width};
 use seals::{Signer, secret_of};
@@ -20,8 +19,7 @@ pub fn new_signer(
 ) -> Result<Signer, Refusal> {
     let secret = secret_of(alloc, byte, width, height)?;
     let object = key_object(alloc, &secret.public())?;
-    let tree = tree_from(alloc, &object)?;
-    let id = key_id(alloc, &tree)?;
+    let id = key_id(alloc, &object)?;
     Ok(Signer { id, secret })
 }
 

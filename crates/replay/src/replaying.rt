@@ -1,9 +1,10 @@
 //! One cycle after another, each on a repository in two folders.
 
-ghost use Rattle.std.specs.Prelude.{◌≡◌, ◌≢◌, ◌≤◌, ◌<◌, true, IfErr, IfOk, IfSome, OnErr};
+ghost use Rattle.std.specs.Prelude.{◌≡◌, ◌≢◌, ◌<◌, true, IfErr, IfOk, IfSome, OnErr};
 ghost use Rattle.std.specs.Prelude.{OnOk, length, map, slice_get, string_bytes};
 ghost use Rattle.std.specs.List.{AllZip};
 ghost use Rattle.folder.specs.Folders.{IsSameFolder};
+ghost use Rattle.report.specs.Lines.{IsStatus};
 ghost use Rattle.update.specs.Causes.{IsCauseToRead};
 ghost use Rattle.replay.specs.Cycles.{AreOutcomesOn, IsCause, IsReplayed, IsUntouchedOrCycled};
 ghost use Rattle.replay.specs.Cycles.{first_of, from_state, last_state, mirror_of};
@@ -63,7 +64,7 @@ pub fn replay<
     alloc: Global,
     cycles: &Cycles<'_>,
 ) -> Result<u8, Failure>
-    ensures known { IfOk result (λ status. status ≤ 2) }
+    ensures known { IfOk result IsStatus }
     ensures locked { OnOk result (cycles.now.settings.locking ≡ Locking.Needed
         → (⟦<Host<S, Vec<Folders<M, T>>, W> as HasWorld>⟧.world host.new).locks
         cycles.now.settings.state.now ≡ true) }

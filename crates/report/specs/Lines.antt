@@ -1,7 +1,7 @@
 -- The lines that a run prints, and its exit status.
 use Rattle.std.specs.List.{enumerate_from, list_all, slice_get}
 use Rattle.std.specs.Option.{option_map_or}
-use Rattle.std.specs.Prelude.{ℕ, Bool, not, ◌&&◌, ◌==◌, nat_le, List, [], ◌∷◌, ◌++◌, if◌then◌else◌, flat_map, zip, codes, decimal, ◌-◌, true, false, length}
+use Rattle.std.specs.Prelude.{ℕ, ◌≤◌, Bool, not, ◌&&◌, ◌==◌, nat_le, List, [], ◌∷◌, ◌++◌, if◌then◌else◌, flat_map, zip, codes, decimal, ◌-◌, true, false, length}
 use Rattle.hex.specs.Hex.{encode_lower}
 use Rattle.meta.specs.declared.fault.Fault.TheVariants.{NotListed, TooLong, LengthWrong, HashWrong, NoKnownHash, Malformed, Unsigned, VersionWrong, Rollback, Expired, Missing}
 pub use Rattle.rolechain.specs.declared.end.Step.TheVariants.{Root, Timestamp, Snapshot, Targets}
@@ -125,6 +125,10 @@ abbrev pub status_of : End → Bool → ℕ
 status_of Ready true = 0
 status_of Ready false = 1
 status_of (Stopped step fault) all_good = 2
+
+-- one of these
+abbrev pub IsStatus : ℕ → Type 0
+IsStatus status = status ≤ 2
 
 abbrev pub outcome_status : Outcome → ℕ
 outcome_status o = status_of o.end (list_all is_good o.verdicts)

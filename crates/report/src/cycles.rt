@@ -1,8 +1,10 @@
 //! The lines of one cycle after another.
 
-ghost use Rattle.std.specs.Prelude.{◌≡◌, ◌≤◌, ◌⊎◌, ℕ, ◌++◌, IfErr, IfOk, OnOk, map, string_bytes};
+ghost use Rattle.failure.specs.Failures.{IsLate};
+ghost use Rattle.std.specs.Prelude.{◌≡◌, ◌≤◌, ℕ, ◌++◌, IfErr, IfOk, OnOk, map, string_bytes};
 ghost use Rattle.std.specs.Io.KnownBytes.{Appends};
 ghost use Rattle.report.specs.Lines as spec;
+ghost use Rattle.report.specs.Lines.{IsStatus};
 
 use crate::lines::{outcome_status, push_outcome, put};
 use cycle::Outcome;
@@ -22,8 +24,8 @@ pub fn tell_cycles<W: Write>(
     ensures written { OnOk result (Appends (W.contents out.old) (W.contents out.new)
         (spec.cycles_text (map string_bytes wanted.now) outcomes.now)) }
     ensures status { IfOk result (λ status. status ≡ spec.last_status outcomes.now) }
-    ensures known { IfOk result (λ status. status ≤ 2) }
-    ensures refused { IfErr result (λ f. (f ≡ Failure.Memory) ⊎ (f ≡ Failure.Output)) }
+    ensures known { IfOk result IsStatus }
+    ensures refused { IfErr result IsLate }
 {
     let text = text_of(alloc, outcomes, wanted)?;
     put(out, text.as_str())?;

@@ -1,7 +1,8 @@
 //! The lines that name the files to fetch.
 
-ghost use Rattle.std.specs.Prelude.{◌≡◌, ◌⊎◌, ◌++◌, IfErr, IfOk, OnOk, flat_map, string_bytes};
+ghost use Rattle.std.specs.Prelude.{◌≡◌, ◌++◌, IfErr, IfOk, OnOk, flat_map, string_bytes};
 ghost use Rattle.std.specs.Io.KnownBytes.{Appends};
+ghost use Rattle.failure.specs.Failures.{IsLate};
 ghost use Rattle.report.specs.Fetching as spec;
 
 use crate::lines::put;
@@ -24,7 +25,7 @@ pub fn tell_needs<W: Write>(
 ) -> Result<(), Failure>
     ensures written { OnOk result (Appends (W.contents out.old) (W.contents out.new)
         (spec.needs_text only needs.now)) }
-    ensures refused { IfErr result (λ f. (f ≡ Failure.Memory) ⊎ (f ≡ Failure.Output)) }
+    ensures refused { IfErr result IsLate }
 {
     let text = text_of(alloc, needs, only)?;
     put(out, text.as_str())

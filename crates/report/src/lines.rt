@@ -1,11 +1,13 @@
 //! The lines that a run prints, and its exit status.
 
-ghost use Rattle.std.specs.Prelude.{◌≡◌, ◌≤◌, ◌⊎◌, ◌∷◌, ◌++◌, [], List, ℕ, IfErr, IfOk, OnOk};
+ghost use Rattle.failure.specs.Failures.{IsLate};
+ghost use Rattle.std.specs.Prelude.{◌≡◌, ◌≤◌, ◌∷◌, ◌++◌, [], List, ℕ, IfErr, IfOk, OnOk};
 ghost use Rattle.std.specs.Prelude.{codes, decimal, flat_map, map, string_bytes};
 ghost use Rattle.std.specs.Io.KnownBytes.{Appends};
 ghost use Rattle.failure.specs.Failures as words;
 ghost use Rattle.report.specs.Lines as spec;
 ghost use Rattle.std.specs.List.{list_all};
+ghost use Rattle.report.specs.Lines.{IsStatus};
 
 use crate::quote::quote_name;
 use cycle::{Accepted, End, Fault, Outcome, Step, Verdict};
@@ -26,8 +28,8 @@ pub fn tell<W: Write>(
     ensures written { OnOk result (Appends (W.contents out.old) (W.contents out.new)
         (spec.outcome_text outcome.now (map string_bytes wanted.now))) }
     ensures status { IfOk result (λ status. status ≡ spec.outcome_status outcome.now) }
-    ensures known { IfOk result (λ status. status ≤ 2) }
-    ensures refused { IfErr result (λ f. (f ≡ Failure.Memory) ⊎ (f ≡ Failure.Output)) }
+    ensures known { IfOk result IsStatus }
+    ensures refused { IfErr result IsLate }
 {
     let mut text = String::new(alloc);
     push_outcome(alloc, &mut text, outcome, wanted)?;
@@ -50,8 +52,8 @@ pub fn tell_stored<W: Write>(
         (spec.stored_outcome_text outcome.now (map string_bytes wanted.now) stored.now)) }
     ensures status { IfOk result
         (λ status. status ≡ spec.stored_outcome_status outcome.now stored.now) }
-    ensures known { IfOk result (λ status. status ≤ 2) }
-    ensures refused { IfErr result (λ f. (f ≡ Failure.Memory) ⊎ (f ≡ Failure.Output)) }
+    ensures known { IfOk result IsStatus }
+    ensures refused { IfErr result IsLate }
 {
     let mut text = String::new(alloc);
     push_head(alloc, &mut text, outcome)?;
@@ -318,7 +320,7 @@ fn fault_name(fault: Fault) -> &'static str
 /// was written. Fails with `Memory` or `Output`.
 pub fn put<W: Write>(out: &mut W, text: &str) -> Result<(), Failure>
     ensures written { OnOk result (Appends (W.contents out.old) (W.contents out.new) text.now) }
-    ensures refused { IfErr result (λ f. (f ≡ Failure.Memory) ⊎ (f ≡ Failure.Output)) }
+    ensures refused { IfErr result IsLate }
 {
     match out.write_all(text.as_bytes()) {
         Ok(()) => out.flush().map_err(|e| of_io(&e, Failure::Output)),

@@ -1,9 +1,10 @@
 //! The lines that show a trusted state.
 
-ghost use Rattle.std.specs.Prelude.{◌≡◌, ◌≤◌, ◌⊎◌, ◌++◌, Option, IfErr, IfOk, OnOk};
+ghost use Rattle.std.specs.Prelude.{◌≡◌, ◌≤◌, ◌++◌, Option, IfErr, IfOk, OnOk};
 ghost use Rattle.std.specs.Prelude.{flat_map, option_map, string_bytes};
 ghost use Rattle.std.specs.Io.KnownBytes.{Appends};
 ghost use Rattle.std.specs.List.{list_any};
+ghost use Rattle.failure.specs.Failures.{IsLate};
 ghost use Rattle.report.specs.Shown as spec;
 
 use crate::lines::{put, step_name};
@@ -30,7 +31,7 @@ pub fn show<W: Write>(
         (spec.shown_text trusted.now)) }
     ensures status { IfOk result (λ status. status ≡ spec.shown_status before trusted.now) }
     ensures known { IfOk result (λ status. status ≤ 1) }
-    ensures refused { IfErr result (λ f. (f ≡ Failure.Memory) ⊎ (f ≡ Failure.Output)) }
+    ensures refused { IfErr result IsLate }
 {
     let files = headers(trusted);
     let text = text_of(alloc, &files)?;

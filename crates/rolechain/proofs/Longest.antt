@@ -1,16 +1,13 @@
--- The last root that a cycle trusts is the last of the longest chain, and that of its first step.
+-- The last root that a cycle trusts is the last of the longest chain.
 use Rattle.std.proofs.Common.{◌≡◌, ℕ, zero, suc, Bool, true, false, Option, Some, None, Result, Ok, Err, inl, inr, refl, sym, ap, ◌∙◌, subst, arith}
-use Rattle.std.specs.Prelude.{⊤, if◌then◌else◌}
+use Rattle.std.specs.Prelude.{if◌then◌else◌}
 use Rattle.cjson.specs.Document.{◌>>=◌}
-use Rattle.cjson.specs.declared.fault.NoMemory.{NoMemory}
 use Rattle.moment.specs.Moment.{Moment}
 use Rattle.meta.specs.Metadata.{Root, Timestamp}
 use Rattle.meta.specs.Content.{Part}
 use Rattle.meta.specs.declared.fault.Fault.{Fault}
 use Rattle.examine.specs.Checks.{Files, expiry_check}
-use Rattle.rolechain.specs.Advance.{State, Advanced, or_stop, is_rotated, with_root, with_newer, with_snapshot, with_targets, successor, followed, most_roots, unexpired, root_step, newer_timestamp, timestamp_step, listed_snapshot, snapshot_step, listed_targets, targets_step, steps, ended, advanced, Leaves, Ends, IsLongestChain, IsRootStep}
-use Rattle.rolechain.specs.declared.end.End.{End}
-use Rattle.rolechain.specs.declared.end.Halt.{Halt}
+use Rattle.rolechain.specs.Advance.{State, Advanced, or_stop, is_rotated, with_root, with_newer, with_snapshot, with_targets, successor, followed, most_roots, unexpired, root_step, newer_timestamp, timestamp_step, listed_snapshot, snapshot_step, listed_targets, targets_step, steps, ended, advanced, IsLongestChain, IsRootStep}
 use Rattle.rolechain.specs.declared.end.Halt.TheVariants as halt
 use Rattle.rolechain.specs.declared.end.Step.{Step}
 use Rattle.rolechain.specs.declared.end.Step.TheVariants as step
@@ -120,25 +117,3 @@ module _ (files : Files) (now : Moment) where
 
 pub advanced-longest : (files : Files) (now : Moment) (s : State) → IsLongestChain files most_roots s.root (advanced files now s).state.root
 advanced-longest files now s = ended-longest files now most_roots s.root (steps files now s) (steps-longest files now s)
-
--- ---- the root of the first step
-
-kept_at_end : (r : Part Root) (o : Result State Advanced) → Keeps r o → r ≡ (ended o).state.root
-kept_at_end r (Ok s) h = h
-kept_at_end r (Err a) h = h
-
-module _ (files : Files) (now : Moment) where
-  abbrev later : State → Result State Advanced
-  later s = timestamp_step files now s >>= λ t. snapshot_step files now t >>= targets_step files now
-
-  root_step-root : (s t : State) (answer : Result ⊤ Halt) (end : Result End NoMemory) (e : End) → end ≡ Ok e → Leaves (root_step files now s) answer t → Ends answer end
-      → t.root ≡ (ended (root_step files now s >>= later)).state.root
-  root_step-root s t (Ok done) end e is h so = kept_at_end t.root (later t) (later-keeps files now t) ∙ sym (ap (λ x. (ended (x >>= later)).state.root) h)
-  root_step-root s t (Err (halt.Stopped at fault)) end e is h so = sym (ap (λ x. (ended (x >>= later)).state.root) h)
-  root_step-root s t (Err halt.NoMemory) (Ok f) e is h so = absurd so
-  root_step-root s t (Err halt.NoMemory) (Err f) e is h so = absurd (cc)
-
-  pub advanced-root : (s t : State) (answer : Result ⊤ Halt) (end : Result End NoMemory) (e : End) → end ≡ Ok e → Leaves (root_step files now s) answer t → Ends answer end
-      → t.root ≡ (advanced files now s).state.root
-  unfolding steps
-  advanced-root s t answer end e is h so = root_step-root s t answer end e is h so

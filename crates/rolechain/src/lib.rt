@@ -19,4 +19,4 @@ pub use fault::StateFault;
 pub use role::{Role, examine_role};
 pub use roots::{LAST_VERSION, MOST_ROOTS};
 pub use state::Trusted;
-pub use workflow::{advance, final_root};
+pub use workflow::advance;

@@ -14,7 +14,7 @@ use crate::steps::{snapshot_step, targets_step, timestamp_step};
 use cjson::NoMemory;
 use examine::Context;
 use keys::Judge;
-use meta::{Moment, Part, Repo, Root};
+use meta::{Moment, Repo};
 use std::alloc::Global;
 
 /// Runs one cycle of the client workflow, from the trusted state up to the top-level targets file
@@ -51,28 +51,6 @@ pub fn advance<J: Judge>(
     // (reading a field of the state shows its invariant: the clause `parts`)
     let _root = &state.root;
     Ok((state, end))
-}
-
-/// Follows the chain of roots alone, as [`advance`] does first (TUF 1.0 section 5.3). Returns the
-/// root that is trusted once a whole cycle has ended. Fails only if out of memory.
-pub fn final_root<J: Judge>(
-    alloc: Global,
-    trusted: &Trusted,
-    repo: &Repo,
-    now: Moment,
-    judge: &mut J,
-) -> Result<Part<Root>, NoMemory>
-    ensures root { IfOk result (λ p. p
-        ≡ (spec.advanced (file_in repo.now.metadata) now trusted.now).state.root) }
-{
-    let context = Context {
-        alloc,
-        files: &repo.metadata,
-        moment: now,
-    };
-    let mut state = trusted.copy()?;
-    let _end = end_of(root_step(&context, &mut state, judge))?;
-    state.root().copy()
 }
 
 /// Returns how a cycle ended whose steps have this result.

@@ -13,7 +13,7 @@ ghost use Rattle.seals.specs.Sealed.{used_of};
 
 use crate::fault::MakeFault;
 use crate::signer::Signer;
-use cjson::{Canon, canonical, tree_from};
+use cjson::{Canon, canonical};
 use serde_json::{Value, json};
 use std::alloc::{AllocError, Global};
 
@@ -82,8 +82,7 @@ fn text_of(alloc: Global, value: &Value) -> Result<Vec<u8>, MakeFault>
     ensures text { IfOk result (λ text. canon (view value.now) ≡ Some text.items) }
     ensures err { OnErr result (result ≡ Err MakeFault.NoMemory) }
 {
-    let tree = tree_from(alloc, value)?;
-    match canonical(alloc, &tree) {
+    match canonical(alloc, value) {
         Ok(text) => Ok(text),
         Err(Canon::NoMemory) => Err(MakeFault::NoMemory),
         Err(Canon::Float) => unreachable!(),

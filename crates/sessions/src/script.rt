@@ -7,7 +7,7 @@ use std::fs;
 
 /// Returns the script of the lines, each ended by a line feed. `@NAME` means the lines of the file
 /// `NAME.script` among the cases, and `@FIRST..LAST TEXT` a line TEXT for each number, in which
-/// `{}` is the number and `{+}` the one after it.
+/// `{}` is the number, `{x}` the same in four hexadecimal digits, and `{+}` the one after it.
 pub fn script_of(rt: &HostRuntime, alloc: Global, lines: &[String]) -> Result<String> {
     let mut script = String::new(alloc);
     for line in lines {
@@ -52,8 +52,10 @@ fn push_repeats(alloc: Global, script: &mut String, range: &str, line: &str) -> 
 
 fn push_numbered(alloc: Global, script: &mut String, number: u32, line: &str) -> Result<()> {
     let next = format!(in alloc; "{}", number.saturating_add(1))?;
+    let digits = format!(in alloc; "{number:04x}")?;
     let number = format!(in alloc; "{number}")?;
-    let line = line.replace(alloc, "{}", number.as_str())?;
+    let line = line.replace(alloc, "{x}", digits.as_str())?;
+    let line = line.as_str().replace(alloc, "{}", number.as_str())?;
     let line = line.as_str().replace(alloc, "{+}", next.as_str())?;
     push_line(script, line.as_str())
 }

@@ -2,7 +2,7 @@
 
 use crate::shell::Shell;
 use anyhow::{Context, Result, bail};
-use cjson::{Doc, canonical, signed_bytes, tree_from};
+use cjson::{Doc, canonical, signed_bytes};
 use lms::Height;
 use seals::{Signer, seal, secret};
 use serde_json::Value;
@@ -75,8 +75,7 @@ fn sealed(alloc: Global, text: &[u8], signer: Signer) -> Result<Vec<u8>> {
         bail!("no object");
     };
     let value = Value::Object(members);
-    let tree = tree_from(alloc, &value)?;
-    let Ok(_) = canonical(alloc, &tree) else {
+    let Ok(_) = canonical(alloc, &value) else {
         bail!("no canonical text");
     };
     Ok(seal(alloc, &value, &mut [signer], &[0])?)

@@ -1,7 +1,9 @@
 //! The verification of a repository in two folders, with copies of its good targets.
 
-ghost use Rattle.std.specs.Prelude.{◌≡◌, ◌≢◌, ◌≤◌, ◌⊎◌, Err, IfErr, IfOk, OnErr, OnOk, false, true};
+ghost use Rattle.failure.specs.Failures.{IsLate};
+ghost use Rattle.std.specs.Prelude.{◌≡◌, ◌≢◌, Err, IfErr, IfOk, OnErr, OnOk, false, true};
 ghost use Rattle.system.specs.Locks.{StaysLocked};
+ghost use Rattle.report.specs.Lines.{IsStatus};
 ghost use Rattle.update.specs.Copies.{IsCauseIntoFrom, IsCauseToVerifyInto, may_be_copied};
 ghost use Rattle.update.specs.Copies.{IsUntouchedOrBegun, IsUntouchedOrBegunFrom, OutsideKept};
 ghost use Rattle.update.specs.Copies.{IsVerifiedInto, IsVerifiedIntoFrom};
@@ -45,7 +47,7 @@ impl<S: System, M: Folder, T: Folder, W: Write> Host<S, Folders<M, T>, W> {
         terms: &Terms<'_>,
         to: &mut D,
     ) -> Result<u8, Failure>
-        ensures known { IfOk result (λ status. status ≤ 2) }
+        ensures known { IfOk result IsStatus }
         ensures flushed { OnOk result (D.is_flushed to.new ≡ true) }
         ensures nothing_left { D.is_left to.old ≡ false → D.is_left to.new ≡ false }
         ensures paths { may_be_copied terms.now.wanted ≡ false → result ≡ Err Failure.Words }
@@ -82,7 +84,7 @@ impl<S: System, M: Folder, T: Folder, W: Write> Host<S, Folders<M, T>, W> {
         wanted: &'a Wanted,
         to: &mut D,
     ) -> Result<u8, Failure>
-        ensures known { IfOk result (λ status. status ≤ 2) }
+        ensures known { IfOk result IsStatus }
         ensures flushed { OnOk result (D.is_flushed to.new ≡ true) }
         ensures locked { StaysLocked (⟦<Self as HasWorld>⟧.world self.old).locks
             (⟦<Self as HasWorld>⟧.world self.new).locks }
@@ -131,7 +133,7 @@ fn flush<D: Destination>(
 ) -> Result<(), Failure>
     ensures flushed { OnOk result (D.is_flushed to.new ≡ true) }
     ensures same_site { D.site to.new ≡ D.site to.old }
-    ensures refused { IfErr result (λ f. (f ≡ Failure.Memory) ⊎ (f ≡ Failure.Output)) }
+    ensures refused { IfErr result IsLate }
 {
     match to.flush(alloc, paths, stored) {
         Ok(()) => Ok(()),

@@ -1,6 +1,6 @@
 //! The copies of good targets, stored for their paths.
 
-ghost use Rattle.std.specs.Prelude.{◌≡◌, ◌≢◌, ◌⊎◌, List, ℕ, Option, Some, false, true};
+ghost use Rattle.std.specs.Prelude.{◌≡◌, ◌≢◌, List, ℕ, Option, Some, false, true};
 ghost use Rattle.std.specs.Prelude.{IfErr, IfOk, IfSome, OnErr, OnOk, length, map};
 ghost use Rattle.std.specs.Prelude.{bytes_eq, if◌then◌else◌, string_bytes};
 ghost use Rattle.std.specs.BTreeSet.{contains_text};
@@ -12,6 +12,7 @@ ghost use Rattle.cycle.specs.Workflow.{Target};
 ghost use Rattle.folder.specs.Folders.{path_below};
 ghost use Rattle.system.specs.Blocked as blocked;
 ghost use Rattle.system.specs.Locks.{StaysLocked};
+ghost use Rattle.failure.specs.Failures.{IsLate};
 ghost use Rattle.update.specs.Copies.{IsFlag, OutsideKept, is_blocked, is_free};
 ghost use Rattle.update.specs.Stored.{AreInstalled, AreSomeInstalled, DecidesOne, IsLentFor};
 ghost use Rattle.update.specs.Stored.{IsStoredAs, placing_of};
@@ -66,7 +67,7 @@ pub(crate) fn store_copies<S: System, D: Destination>(
         (S.keeps system.old) (S.keeps system.new) }
     ensures same_obstacles { S.obstacles system.new ≡ S.obstacles system.old }
     ensures locked { StaysLocked (S.locks system.old) (S.locks system.new) }
-    ensures refused { IfErr result (λ f. (f ≡ Failure.Memory) ⊎ (f ≡ Failure.Output)) }
+    ensures refused { IfErr result IsLate }
 {
     let mut flags = candidates(places.alloc, wanted, verdicts)?;
     let mut decided = Decided {
@@ -119,7 +120,7 @@ fn store_copy<S: System, D: Destination>(
     ensures same_obstacles { S.obstacles system.new ≡ S.obstacles system.old }
     ensures locked { StaysLocked (S.locks system.old) (S.locks system.new) }
     ensures unchanged { OnErr result (S.keeps system.new ≡ S.keeps system.old) }
-    ensures refused { IfErr result (λ f. (f ≡ Failure.Memory) ⊎ (f ≡ Failure.Output)) }
+    ensures refused { IfErr result IsLate }
 {
     if has_path(&decided.stored, path) {
         return Ok(true);
@@ -161,7 +162,7 @@ fn install<S: System, D: Destination>(
     ensures same_obstacles { S.obstacles system.new ≡ S.obstacles system.old }
     ensures unchanged { OnErr result (S.keeps system.new ≡ S.keeps system.old) }
     ensures locked { StaysLocked (S.locks system.old) (S.locks system.new) }
-    ensures refused { IfErr result (λ f. (f ≡ Failure.Memory) ⊎ (f ≡ Failure.Output)) }
+    ensures refused { IfErr result IsLate }
 {
     let place = match places.to.place_for(places.alloc, path) {
         Ok(place) => place,
@@ -180,7 +181,7 @@ fn install<S: System, D: Destination>(
 fn refused_by(error: &io::Error) -> Result<bool, Failure>
     ensures path { IfOk result (λ is_stored.
         (is_stored ≡ false) × (blocked.is_of_path (error_kind error.now) ≡ true)) }
-    ensures refused { IfErr result (λ f. (f ≡ Failure.Memory) ⊎ (f ≡ Failure.Output)) }
+    ensures refused { IfErr result IsLate }
 {
     if is_of_path(error) {
         return Ok(false);

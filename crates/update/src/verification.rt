@@ -1,7 +1,8 @@
 //! The verification of a repository in two folders.
 
-ghost use Rattle.std.specs.Prelude.{◌≡◌, ◌≢◌, ◌≤◌, true, IfErr, IfOk, OnErr, OnOk};
+ghost use Rattle.std.specs.Prelude.{◌≡◌, ◌≢◌, true, IfErr, IfOk, OnErr, OnOk};
 ghost use Rattle.system.specs.Locks.{StaysLocked};
+ghost use Rattle.report.specs.Lines.{IsStatus};
 ghost use Rattle.update.specs.Causes.{IsCause, IsCauseFrom};
 ghost use Rattle.update.specs.Runs.{IsUntouchedOrStored, IsUntouchedOrStoredFrom};
 ghost use Rattle.update.specs.Runs.{IsVerified, IsVerifiedFrom};
@@ -35,7 +36,7 @@ impl<S: System, M: Folder, T: Folder + Sync, W: Write> Host<S, Folders<M, T>, W>
         alloc: Global,
         terms: &Terms<'_>,
     ) -> Result<u8, Failure>
-        ensures known { IfOk result (λ status. status ≤ 2) }
+        ensures known { IfOk result IsStatus }
         ensures locked { OnOk result (terms.now.settings.locking ≡ Locking.Needed
             → (⟦<Self as HasWorld>⟧.world self.new).locks terms.now.settings.state.now ≡ true) }
         ensures verified { IfOk result (IsVerified terms.now
@@ -58,11 +59,12 @@ impl<S: System, M: Folder, T: Folder + Sync, W: Write> Host<S, Folders<M, T>, W>
     /// the status: 2 if the update stopped, else 1 if some target is refused, else 0. Prints
     /// nothing before the state is stored.
     ///
-    /// Of the metadata folder, files whose names end in `.json` are read when they are looked up, at
-    /// most 5,000,001 bytes of each. Of the target folder the names are listed. After the searches each target file that
-    /// they found is read once, in pieces, no further than the greatest length that is listed of it
-    /// and one byte, by `start.workers` threads. Status, lines and state are those of the workflow
-    /// for all files of which the same was seen, whatever else they have.
+    /// Of the metadata folder, files whose names end in `.json` are read when they are looked up,
+    /// at most 5,000,001 bytes of each. Of the target folder the names are listed. After the
+    /// searches each target file that they found is read once, in pieces, no further than the
+    /// greatest length that is listed of it and one byte, by `start.workers` threads. Status, lines
+    /// and state are those of the workflow for all files of which the same was seen, whatever else
+    /// they have.
     ///
     /// On failure either nothing was stored or printed, or the new state was stored whole; the
     /// latter only if out of memory or by an output error. What is stored for other paths stays.
@@ -73,7 +75,7 @@ impl<S: System, M: Folder, T: Folder + Sync, W: Write> Host<S, Folders<M, T>, W>
         start: &'a Start<'_>,
         wanted: &'a Wanted,
     ) -> Result<u8, Failure>
-        ensures known { IfOk result (λ status. status ≤ 2) }
+        ensures known { IfOk result IsStatus }
         ensures locked { StaysLocked (⟦<Self as HasWorld>⟧.world self.old).locks
             (⟦<Self as HasWorld>⟧.world self.new).locks }
         ensures verified { IfOk result (IsVerifiedFrom start.now wanted.now

@@ -13,7 +13,7 @@ use crate::form::needed_member;
 use crate::list::Items;
 use crate::sorted::Sorted;
 use crate::tree::{Tree, read_tree};
-use crate::write::canonical;
+use crate::write::canonical_text;
 use std::alloc::Global;
 
 /// The document that a file is (TUF 1.0 section 4.2), or its first fault in the order of
@@ -37,7 +37,7 @@ pub fn signed_bytes(alloc: Global, file: &[u8]) -> Result<Doc, DocFault>
 {
     let tree = read_json(alloc, file)?;
     let canonical = match signed_of(&tree) {
-        Some(signed) => canonical(alloc, signed)?,
+        Some(signed) => canonical_text(alloc, signed)?,
         None => return Err(DocFault::NotObject),
     };
     let listed = read_entries(alloc, &tree)?;

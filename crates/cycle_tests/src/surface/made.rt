@@ -1,6 +1,6 @@
 //! Test repositories.
 
-use cjson::{NoMemory, canonical, signed_bytes, tree_from};
+use cjson::{NoMemory, canonical, signed_bytes};
 use lms::{Height, Secret, verify};
 use maker::{MakeFault, Signer, make, seal, secret};
 use serde_json::json;
@@ -28,7 +28,7 @@ fn files_are_sealed(rt: HostRuntime) {
     let id = String::from_str(alloc, "one").expect(&rt, "memory");
     let mut signers = [Signer { id, secret: key }];
     let value = json!(in alloc; { "_type": "mirrors" }).expect(&rt, "memory");
-    canonical(alloc, &tree_from(alloc, &value).expect(&rt, "memory")).expect(&rt, "memory");
+    canonical(alloc, &value).expect(&rt, "memory");
     let file: Result<Vec<u8>, MakeFault> = seal(alloc, &value, &mut signers, &[0]);
     let doc = signed_bytes(alloc, file.expect(&rt, "a file").as_slice()).expect(&rt, "a document");
     assert_eq!(rt; doc.entries().len(), 1);

@@ -1,6 +1,7 @@
 //! Canonical texts and documents.
 
-use cjson::{Canon, Doc, DocFault, Entry, Tree, canonical, read_tree, signed_bytes};
+use cjson::{Canon, Doc, DocFault, Entry, Tree, canonical, canonical_text, signed_bytes};
+use serde_json::Value;
 
 /// A file with an entry.
 const FILE: &[u8] =
@@ -15,7 +16,7 @@ fn documents(rt: HostRuntime) {
     let tree: &Tree = doc.tree();
     let bytes: &[u8] = doc.bytes();
     let entries: &[Entry] = doc.entries();
-    let text: Result<Vec<u8>, Canon> = canonical(rt.alloc(), tree);
+    let text: Result<Vec<u8>, Canon> = canonical_text(rt.alloc(), tree);
     let [entry] = entries else {
         panic!(rt; "one entry");
     };
@@ -41,6 +42,14 @@ fn faults(rt: HostRuntime) {
         let found = signed_bytes(rt.alloc(), file.as_bytes()).err();
         assert_eq!(rt; found, Some(fault), "{file}");
     }
-    let number = read_tree(rt.alloc(), b"1.5").expect(&rt, "a tree");
-    assert_eq!(rt; canonical(rt.alloc(), &number).err(), Some(Canon::Float));
+}
+
+#[test]
+fn values(rt: HostRuntime) {
+    for (value, text) in [(" [ 1 ]", Ok("[1]")), ("1.5", Err(Canon::Float))] {
+        let value = Value::from_slice(rt.alloc(), value.as_bytes()).expect(&rt, "a value");
+        let found: Result<Vec<u8>, Canon> = canonical(rt.alloc(), &value);
+        let found = found.as_ref().map(|found| found.as_slice());
+        assert!(rt; found == text.as_ref().map(|text| text.as_bytes()));
+    }
 }

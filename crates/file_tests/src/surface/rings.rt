@@ -1,19 +1,21 @@
 //! Keys of a file, thresholds and judges.
 
-use cjson::{Canon, NoMemory, read_tree, signed_bytes};
+use cjson::{Canon, NoMemory, signed_bytes};
 use keys::{
     Algorithm, Ask, DigestAsk, Direct, Judge, KeyRing, RoleKeys, SignatureAsk, enough, key_id,
 };
 use lms::{Height, Secret, Width};
+use serde_json::Value;
 use sha2::{Digest, Sha256};
 
 #[test]
 fn rings_and_roles(rt: HostRuntime) {
     let alloc = rt.alloc();
-    let keys = read_tree(alloc, b"{\"k\":{}}").expect(&rt, "a tree");
+    let keys = Value::from_slice(alloc, b"{\"k\":{}}").expect(&rt, "a value");
     let ring: Result<Option<KeyRing>, NoMemory> = KeyRing::read(alloc, &keys);
     let ring = ring.expect(&rt, "memory").expect(&rt, "a ring");
-    let role = read_tree(alloc, b"{\"keyids\":[\"k\"],\"threshold\":2}").expect(&rt, "a tree");
+    let role = Value::from_slice(alloc, b"{\"keyids\":[\"k\"],\"threshold\":2}");
+    let role = role.expect(&rt, "a value");
     let role: Result<Option<RoleKeys>, NoMemory> = RoleKeys::read(alloc, &role);
     let role = role.expect(&rt, "memory").expect(&rt, "a role");
     assert_eq!(rt; (role.ids.as_slice().len(), role.threshold.get()), (1, 2));
@@ -32,7 +34,7 @@ fn rings_and_roles(rt: HostRuntime) {
 /// What `printf {} | sha256sum` prints.
 #[test]
 fn ids(rt: HostRuntime) {
-    let key = read_tree(rt.alloc(), b"{}").expect(&rt, "a tree");
+    let key = Value::from_slice(rt.alloc(), b"{}").expect(&rt, "a value");
     let id: Result<String, Canon> = key_id(rt.alloc(), &key);
     assert_eq!(rt;
         id.expect(&rt, "memory").as_str(),

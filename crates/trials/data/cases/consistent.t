@@ -2,7 +2,7 @@ Names of files where snapshots are consistent.
 
 A target's file has its digest in its name, and no other name is tried.
   $ make
-  > @keys
+  > @wide
   > consistent yes
   > target targets d/e - sha256
   > write root 1 1

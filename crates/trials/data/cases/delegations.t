@@ -65,8 +65,8 @@ It doesn't begin with ba79.
 
 After a terminating delegation nothing else is tried.
   $ make
-  > @one
-  > key 5 5 4
+  > @wide
+  > key 5 5
   > delegate targets a 1 5 go paths p
   > delegate targets b 1 5 stop paths p
   > delegate targets c 1 5 go paths p
@@ -74,7 +74,8 @@ After a terminating delegation nothing else is tried.
   > write a 1 5
   > write b 1 5
   > write c 1 5
-  > @top
+  > write root 1 1
+  > @files
   $ init old
   root 1
   $ verify old new p
@@ -87,12 +88,13 @@ After a terminating delegation nothing else is tried.
 
 No more roles are visited than the limit allows, the top-level role among them.
   $ make
-  > @one
-  > key 5 5 4
+  > @wide
+  > key 5 5
   > delegate targets a 1 5 go paths p
   > delegate a a 1 5 go paths p
   > write a 1 5
-  > @top
+  > write root 1 1
+  > @files
   $ init old
   root 1
   $ verify old new --limit 1 p
@@ -101,16 +103,7 @@ No more roles are visited than the limit allows, the top-level role among them.
   no "p" LimitReached
   [1]
 
-A role that delegates to itself is visited once.
-  $ make
-  > @one
-  > key 5 5 4
-  > delegate targets a 1 5 go paths p
-  > delegate a a 1 5 go paths p
-  > write a 1 5
-  > @top
-  $ init old
-  root 1
+The same with the limit 2: a role that delegates to itself is visited once.
   $ verify old new --limit 2 p
   root 1
   end ready

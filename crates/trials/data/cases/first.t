@@ -6,7 +6,7 @@ Without arguments a sample repository is made and verified in memory.
 
 A folder is verified twice. The state that is read stays, and the new one is there even before its name was.
   $ make
-  > @keys
+  > @wide
   > write root 1 1
   > @files
   $ init one
@@ -22,6 +22,15 @@ A folder is verified twice. The state that is read stays, and the new one is the
   end ready
   ok "abc.txt" 3 "targets"
   $ same two three
+
+What the targets file signs, and the brace behind it: 209 bytes and one.
+  $ copy metadata/targets.json part
+  $ change part
+  > {..."signed":
+  >
+  $ put signed
+  > {"_type":"targets","expires":"2030-01-01T00:00:00Z","spec_version":"1.0.0","targets":{"abc.txt":{"hashes":{"sha256":"ba7816bf8f01cfea414140de5dae2223b00361a396177a9cb410ff61f20015ad"},"length":3}},"version":1}}
+  $ same part signed
 
 The first state has the root alone, and the second one all four files, in the order of their names.
   $ keeps one
@@ -39,7 +48,7 @@ The state may be written in place of the old one.
   end ready
   $ same one two
 
-No wanted path, one with an odd character, several, one twice, and one of no character.
+No wanted path, one with an odd character, several, one twice, ten by more than twenty arguments, and one of no character.
   $ verify two new
   root 1
   end ready
@@ -53,6 +62,20 @@ No wanted path, one with an odd character, several, one twice, and one of no cha
   end ready
   ok "abc.txt" 3 "targets"
   no "abc" NotFound
+  ok "abc.txt" 3 "targets"
+  [1]
+  $ tufcheck verify --state two --metadata metadata --targets targets --now 2026-01-01T00:00:00Z --limit 8 --out new abc.txt a b c d e f g h abc.txt
+  root 1
+  end ready
+  ok "abc.txt" 3 "targets"
+  no "a" NotFound
+  no "b" NotFound
+  no "c" NotFound
+  no "d" NotFound
+  no "e" NotFound
+  no "f" NotFound
+  no "g" NotFound
+  no "h" NotFound
   ok "abc.txt" 3 "targets"
   [1]
   $ verify two new ""

@@ -1,52 +1,64 @@
 Files that are cut off, or made to cost: each is verified by no worker and by eight.
 
-A repository with a second root and a delegated role, in which one file at a time is cut off at each multiple of 97 bytes.
-The timestamp lists how long the snapshot is, the snapshot how long the targets files are, and nothing how long the root and
-the timestamp are. The files have 4,211, 2,925, 3,047, 3,325 and 3,003 bytes.
+A repository with a second root, and two roles that delegate to c, each by a key of its own, of which c has signed with one.
+One file at a time is cut off at each multiple of 50 bytes. The timestamp lists how long the snapshot is, the snapshot how
+long the targets files are, and nothing how long the root and the timestamp are. The files have 4,211, 2,925, 3,295, 3,464
+and 3,007 bytes.
   $ make
   > @wide
   > write root 1 1
   > write root 2 1
   > key 5 5
-  > delegate targets c 1 5 go paths p,q
-  > target c p 31 sha256
-  > target c q 32 sha256
+  > key 6 5
+  > delegate targets a 1 4 go paths x/*
+  > delegate targets b 1 4 go paths y/*
+  > delegate a c 1 5 go paths x/*
+  > delegate b c 1 6 go paths y/*
+  > target c x/1 31 sha256
+  > target c y/1 32 sha256
+  > write a 1 4
+  > write b 1 4
   > write c 1 5
   > @files
   $ init old
   root 1
-  $ cuts 97 metadata/2.root.json 0,8 old new p
-  44 lengths, status 2
+  $ cuts 50 metadata/2.root.json 0,8 old new x/1
+  85 lengths, status 2
   root 1
   end root Malformed
-  no "p" NotSearched
-  $ cuts 97 metadata/timestamp.json 0,8 old new p
-  31 lengths, status 2
+  no "x/1" NotSearched
+  $ cuts 50 metadata/timestamp.json 0,8 old new x/1
+  59 lengths, status 2
   root 2
   end timestamp Malformed
-  no "p" NotSearched
-  $ cuts 97 metadata/snapshot.json 0,8 old new p
-  32 lengths, status 2
+  no "x/1" NotSearched
+  $ cuts 50 metadata/snapshot.json 0,8 old new x/1
+  66 lengths, status 2
   root 2
   end snapshot LengthWrong
-  no "p" NotSearched
-  $ cuts 97 metadata/targets.json 0,8 old new p
-  35 lengths, status 2
+  no "x/1" NotSearched
+  $ cuts 50 metadata/targets.json 0,8 old new x/1
+  70 lengths, status 2
   root 2
   end targets LengthWrong
-  no "p" NotSearched
-  $ cuts 97 metadata/c.json 0,8 old new p q
-  31 lengths, status 1
+  no "x/1" NotSearched
+  $ cuts 50 metadata/c.json 0,8 old new x/1 y/1
+  61 lengths, status 1
   root 2
   end ready
-  no "p" LengthWrong "c"
-  no "q" LengthWrong "c"
-  $ by 0,8 old new p q
+  role "a" 1
+  role "b" 1
+  no "x/1" LengthWrong "c"
+  no "y/1" LengthWrong "c"
+  $ by 0,8 old new x/1 y/1
   root 2
   end ready
+  role "a" 1
+  role "b" 1
   role "c" 1
-  ok "p" 1 "c"
-  ok "q" 1 "c"
+  ok "x/1" 1 "c"
+  no "y/1" Unsigned "c"
+  [1]
 
 Lists in lists, and the file counted as level 1 and what it signs as level 2: to level 127, and to level 128.
   $ copy metadata/timestamp.json good
@@ -185,7 +197,7 @@ Entries under the key's id before the good one, in a targets file that nothing l
   $ change metadata/targets.json
   > {"signatures":[
   > {"signatures":[
-  > @1000..1999 {"keyid":"3b6b7ff7d893c980c6d823ccb94d8d0d854789cb6da72104831251d469b73554","sig":"{}"},
+  > @0..999 {"keyid":"3b6b7ff7d893c980c6d823ccb94d8d0d854789cb6da72104831251d469b73554","sig":"{x}"},
   $ by 0,8 old new abc.txt
   root 1
   end ready
@@ -194,14 +206,14 @@ Entries under the key's id before the good one, in a targets file that nothing l
   $ change metadata/targets.json
   > {"signatures":[
   > {"signatures":[
-  > @1000..5099 {"keyid":"3b6b7ff7d893c980c6d823ccb94d8d0d854789cb6da72104831251d469b73554","sig":"{}"},
+  > @0..4099 {"keyid":"3b6b7ff7d893c980c6d823ccb94d8d0d854789cb6da72104831251d469b73554","sig":"{x}"},
   $ by 0,8 old new abc.txt
   root 1
   end ready
   ok "abc.txt" 3 "targets"
   $ change metadata/targets.json
-  > ,"sig":"0
-  > ,"sig":"1
+  > ,"sig":"00000000
+  > ,"sig":"10000000
   $ by 0,8 old new abc.txt
   root 1
   end targets Unsigned

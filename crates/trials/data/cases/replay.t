@@ -2,12 +2,9 @@ Repositories that are verified one after another, each from the state of the one
 
 The same repository twice, and then with one letter of targets.json changed.
   $ make
-  > @one
-  > target targets abc.txt 616263 sha256
+  > @wide
   > write root 1 1
-  > write targets 1 1
-  > write snapshot 1 1
-  > write timestamp 1 1
+  > @files
   $ tufcheck make script same/one
   $ tufcheck make script same/two
   $ tufcheck make script same/three
@@ -100,13 +97,13 @@ How many files are remembered, and how many threads check ahead, changes no line
   $ same last d
 
 A newer repository, and then the first one again, which is older than the state that the second left.
-  $ make
-  > @one
+  $ put script
+  > @wide
   > target targets abc.txt 616263 sha256
   > write root 1 1
-  > write targets 1 1
-  > write snapshot 1 1
-  > write timestamp 2 1
+  > write targets 1 4
+  > write snapshot 1 3
+  > write timestamp 2 2
   $ tufcheck make script same/newer
   $ tufcheck replay --state first --now 2026-01-01T00:00:00Z --out last abc.txt same/one same/newer same/two
   cycle 1

@@ -2,7 +2,7 @@ A cycle over one repository, and then one over another, which begins from what t
 
 A lower timestamp.
   $ make
-  > @keys
+  > @wide
   > write root 1 1
   > write targets 1 4
   > write snapshot 1 3
@@ -12,8 +12,9 @@ A lower timestamp.
   $ verify one two
   root 1
   end ready
+  $ state right root=metadata/1.root.json snapshot=metadata/snapshot.json targets=metadata/targets.json timestamp=metadata/timestamp.json
   $ make
-  > @keys
+  > @wide
   > write targets 1 4
   > write snapshot 1 3
   > write timestamp 4 2
@@ -21,12 +22,11 @@ A lower timestamp.
   root 1
   end timestamp Rollback
   [2]
-  $ keeps three
-  root snapshot targets timestamp
+  $ same three right
 
 A lower timestamp that is expired too. It begins from the same state.
   $ make
-  > @keys
+  > @wide
   > write targets 1 4
   > write snapshot 1 3
   > expires 2025-01-01T00:00:00Z
@@ -35,12 +35,11 @@ A lower timestamp that is expired too. It begins from the same state.
   root 1
   end timestamp Rollback
   [2]
-  $ keeps three
-  root snapshot targets timestamp
+  $ same three right
 
 An equal timestamp with a bad signature. It begins from the same state.
   $ make
-  > @keys
+  > @wide
   > write targets 1 4
   > write snapshot 1 3
   > write timestamp 5 3
@@ -48,12 +47,11 @@ An equal timestamp with a bad signature. It begins from the same state.
   root 1
   end timestamp Unsigned
   [2]
-  $ keeps three
-  root snapshot targets timestamp
+  $ same three right
 
-An equal timestamp of other bytes. It begins from the same state.
+An equal timestamp of other bytes: the old one stays. It begins from the same state.
   $ make
-  > @keys
+  > @wide
   > write targets 1 4
   > write snapshot 1 3
   > expires 2031-01-01T00:00:00Z
@@ -61,8 +59,7 @@ An equal timestamp of other bytes. It begins from the same state.
   $ verify two three
   root 1
   end ready
-  $ keeps three
-  root snapshot targets timestamp
+  $ same three right
 
 A lower listed snapshot.
   $ make
@@ -114,8 +111,8 @@ A lower listed targets file.
 
 A name that is no longer listed. The new state has the new timestamp, and the old snapshot.
   $ make
-  > @keys
-  > key 5 5 4
+  > @wide
+  > key 5 5
   > write root 1 1
   > write targets 1 4
   > delegate targets a 1 5 go paths x
@@ -132,7 +129,7 @@ A name that is no longer listed. The new state has the new timestamp, and the ol
   $ copy metadata/snapshot.json old/snapshot
   $ copy metadata/targets.json old/targets
   $ make
-  > @keys
+  > @wide
   > write targets 1 4
   > write snapshot 2 3
   > write timestamp 2 2

@@ -2,7 +2,7 @@ Roots that follow the first one.
 
 An expired root on the way.
   $ make
-  > @keys
+  > @wide
   > write root 1 1
   > expires 2025-01-01T00:00:00Z
   > write root 2 1
@@ -14,12 +14,12 @@ An expired root on the way.
   $ verify old new
   root 3
   end ready
-  $ keeps new
-  root snapshot targets timestamp
+  $ state right root=metadata/3.root.json snapshot=metadata/snapshot.json targets=metadata/targets.json timestamp=metadata/timestamp.json
+  $ same new right
 
 An expired last root.
   $ make
-  > @one
+  > @wide
   > write root 1 1
   > expires 2025-01-01T00:00:00Z
   > write root 2 1
@@ -31,8 +31,8 @@ An expired last root.
   root 3
   end root Expired
   [2]
-  $ keeps new
-  root
+  $ state right root=metadata/3.root.json
+  $ same new right
 
 Signed by the new keys only.
   $ make

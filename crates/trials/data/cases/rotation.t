@@ -149,9 +149,9 @@ Rotation after a fast forward.
   $ keeps three
   root snapshot targets timestamp
 
-Rotation and then an unsigned root.
+Rotation and then an unsigned root. The new state has the last root that is signed, and the old targets file.
   $ make
-  > @keys
+  > @wide
   > write root 1 1
   > write targets 1 4
   > write snapshot 1 3
@@ -161,21 +161,22 @@ Rotation and then an unsigned root.
   $ verify one two
   root 1
   end ready
+  $ copy metadata/targets.json before
   $ make
-  > @keys
-  > key 5 5 4
+  > @wide
+  > key 5 5
   > top timestamp 1 5
   > write root 2 1
   > write root 3 2
-  > write targets 1 4
-  > write snapshot 1 3
-  > write timestamp 1 5
+  > write targets 2 4
+  > write snapshot 2 3
+  > write timestamp 2 5
   $ verify two three
   root 2
   end root Unsigned
   [2]
-  $ keeps three
-  root targets
+  $ state right root=metadata/2.root.json targets=before
+  $ same three right
 
 The same ids in another order, with another threshold.
   $ make

@@ -1,5 +1,5 @@
 use Rattle.std.proofs.Common.{rules}
-use Rattle.keys.proofs.key.key_id.Goals as goal
+use Rattle.keys.proofs.key.id_of.Goals as goal
 
 pub returns-in_err-text : goal.returns-in_err-text
 returns-in_err-text = search rules
