@@ -41,8 +41,8 @@ impl<S: System, F: HasMirrors, W: Write> Host<S, F, W> {
     }
 
     /// Prints the bytes of the step's file in the trusted state in a file, as they are, and returns
-    /// 0. If the state has none, prints nothing and returns 1. Stores nothing. Fails with `State` if
-    /// the state file can't be read or has no state, and if out of memory or by an output error.
+    /// 0. If the state has none, prints nothing and returns 1. Stores nothing. Fails with `State`
+    /// if the state file can't be read or has no state, and if out of memory or by an output error.
     #[tactic(auto, using(crate::proofs::Viewing::viewing))]
     pub fn show_file(&mut self, alloc: Global, state: &str, step: Step) -> Result<u8, Failure>
         ensures known { IfOk result (λ status. status ≤ 1) }
