@@ -5,6 +5,7 @@ _tufcheck() {
     --state | --out | --paths-from) mapfile -t COMPREPLY < <(compgen -f -- "$word"); return ;;
     --metadata | --targets | --into) mapfile -t COMPREPLY < <(compgen -d -- "$word"); return ;;
     --now | --before | --limit | --workers | --keep) return ;;
+    --file) mapfile -t COMPREPLY < <(compgen -W "root timestamp snapshot targets" -- "$word"); return ;;
     --only) mapfile -t COMPREPLY < <(compgen -W "metadata targets" -- "$word"); return ;;
     esac
     if ((COMP_CWORD == 1)); then
@@ -16,7 +17,7 @@ _tufcheck() {
     verify) mapfile -t COMPREPLY < <(compgen -W "--state --unlocked --metadata --targets --now --limit --workers --paths-from --null --every --into --progress --out --help -h" -- "$word") ;;
     replay) mapfile -t COMPREPLY < <(compgen -W "--state --unlocked --now --limit --workers --keep --paths-from --null --progress --out --help -h" -d -- "$word") ;;
     next) mapfile -t COMPREPLY < <(compgen -W "--state --metadata --targets --now --limit --paths-from --null --only --progress --help -h" -- "$word") ;;
-    show) mapfile -t COMPREPLY < <(compgen -W "--before --help -h" -f -- "$word") ;;
+    show) mapfile -t COMPREPLY < <(compgen -W "--before --file --help -h" -f -- "$word") ;;
     make) mapfile -t COMPREPLY < <(compgen -W "--help -h" -f -- "$word") ;;
     help) mapfile -t COMPREPLY < <(compgen -W "init verify replay next show make" -- "$word") ;;
     esac

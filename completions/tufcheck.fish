@@ -28,3 +28,4 @@ complete -c tufcheck -n '__fish_seen_subcommand_from verify' -l into -x -a '(__f
 complete -c tufcheck -n '__fish_seen_subcommand_from verify replay next' -l progress -d 'Print what was done so far to standard error'
 complete -c tufcheck -n '__fish_seen_subcommand_from next' -l only -x -a 'metadata targets' -d 'The only folder whose files are printed'
 complete -c tufcheck -n '__fish_seen_subcommand_from show' -l before -x -d 'The moment before which no file should expire'
+complete -c tufcheck -n '__fish_seen_subcommand_from show' -l file -x -a 'root timestamp snapshot targets' -d 'The trusted file whose bytes are printed'

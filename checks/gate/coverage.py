@@ -6,9 +6,9 @@
 An edit is in a function if it changes a line of its body, or of a function of the same crate that it calls, directly or
 through others. Functions are told apart by file and line: a call is taken to be of the function that its file imports,
 has itself, or that alone has the name, and else of none. Functions that only borrow, wrap or copy a value, in one
-expression of at most five lines and with no call of another function of the crate, are left out. Beside each function it
-names an edit of `checks/bodies` that is in it, if there is one. With `--all` it prints the functions that have an edit
-too, each with the first one. It takes a second, and exits with status 1 if TESTS doesn't name a function that has none.
+expression of at most five lines and with no call of another function of the crate, are left out. Beside each function
+it names an edit of `checks/bodies` that is in it, if there is one. With `--all` it prints the functions that have an
+edit too, each with the first one. It takes a second, and exits with status 1 if TESTS doesn't name one without an edit.
 """
 import re
 import sys
@@ -20,7 +20,9 @@ PAGE = TOP / "docs" / "TESTS.md"
 HEAD = re.compile(r'( *)(pub(?:\(\w+\))? )?(?:const )?(?:extern "C" )?fn (\w+)')
 IMPL = re.compile(r"impl\b(?:<[^{]*?>)? (?:[\w:<>', ]+ for )?(\w+)")
 IMPORT = re.compile(r"use crate::([\w:]+)::(?:\{([^}]*)\}|(\w+));")
-CALL = re.compile(r"((?:self)?\.)?\b(?:(\w+)::)?(\w+)(?:::<[^(]*?>)?\(|(\b)(\w+)::(\w+)\b")
+# A call, with what stands before the name; and a function that is named, as where it is passed on.
+CALL = re.compile(r"((?:self)?\.)?\b(?:(\w+)::)?(\w+)(?:::<[^(]*?>)?\(")
+NAMED = re.compile(r"()\b(\w+)::(\w+)\b")
 
 
 class Function:
@@ -32,7 +34,7 @@ class Function:
         text = "\n".join(lines[first : last + 1])
         self.has_clause = " ensures " in text
         self.body = text[text.find("\n" + head[1] + "{\n") + 1 :].split("\n")[1:-1]
-        self.calls = {(dot, owner or other, name or last) for dot, owner, name, _, other, last in CALL.findall(text)}
+        self.calls = {*CALL.findall(text), *NAMED.findall(text)}
 
     def title(self):
         return f"{self.owner}::{self.name}" if self.owner else self.name
@@ -47,10 +49,18 @@ def functions_of(file, text):
         elif line == "}":
             owner = ""
         if head := HEAD.match(line):
-            last = next((n for n in range(at, len(lines)) if lines[n] == head[1] + "}" or lines[n].endswith(";")
-                         and n > at and lines[n].startswith(head[1] + "    ") and "ensures" in lines[n]), at)
-            found.append(Function(file, at, last, head, owner, lines))
+            found.append(Function(file, at, end_of(lines, at, head[1]), head, owner, lines))
     return found
+
+
+def end_of(lines, at, blanks):
+    """The last line of the function that begins there, which has no body if another one begins before it ends."""
+    for number in range(at + 1, len(lines)):
+        if lines[number] == blanks + "}":
+            return number
+        if lines[number] == "}" or HEAD.match(lines[number]):
+            return number - 1
+    return at
 
 
 def imports_of(text):

@@ -11,13 +11,13 @@ use Rattle.update.specs.Fetching.{IsCauseOfNext, IsNext}
 use Rattle.update.specs.declared.fetching.Wants.{Wants}
 use Rattle.update.specs.First.{IsCauseOfFirst, IsRefused, IsTrusted}
 use Rattle.update.specs.Runs.{IsVerified}
-use Rattle.update.specs.Shown.{IsCauseToShow, IsShown}
+use Rattle.update.specs.Shown.{IsCauseToShow, IsCauseToShowFile, IsFileShown, IsShown}
 use Rattle.update.specs.World.{Mirror, World}
 use Rattle.replay.specs.declared.replaying.Cycles.{Cycles}
 use Rattle.update.specs.declared.start.Terms.{Terms}
 use Rattle.command.specs.declared.subcommand.FolderPaths.{FolderPaths}
 use Rattle.command.specs.declared.subcommand.Subcommand.{Subcommand}
-use Rattle.command.specs.declared.subcommand.Subcommand.TheVariants.{Init, Verify, VerifyInto, Replay, Next, Show, Make}
+use Rattle.command.specs.declared.subcommand.Subcommand.TheVariants.{Init, Verify, VerifyInto, Replay, Next, Show, ShowFile, Make}
 
 -- # What a run works on.
 
@@ -115,6 +115,8 @@ IsDone (Replay cycles repositories) old new status =
 IsDone (Next wants folders) old new status = IsNextOf wants folders old new status
 IsDone (Show state before) old new status = IsShown state.now (option_map (λ t. t.now) before)
     (system_with [] old) (system_with [] new) status
+IsDone (ShowFile state file) old new status =
+    IsFileShown state.now file (system_with [] old) (system_with [] new) status
 IsDone (Make script folder) old new status = (status ≡ 0) × (new ≡ old)
 
 -- # Why it fails.
@@ -142,4 +144,5 @@ IsCause (Replay cycles repositories) old new f =
 IsCause (Next wants folders) old new f = IsCauseOf (λ w v. IsCauseOfNext wants w v f) old new
 IsCause (Show state before) old new f =
     IsCauseToShow state.now (option_map (λ t. t.now) before) (system_with [] old) f
+IsCause (ShowFile state file) old new f = IsCauseToShowFile state.now (system_with [] old) f
 IsCause (Make script folder) old new f = ⊤

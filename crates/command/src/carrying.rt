@@ -5,13 +5,14 @@ ghost use Rattle.report.specs.Lines.{IsStatus};
 ghost use Rattle.command.specs.Done.{IsCause, IsCauseOf, IsDone, IsFirst, OfHeld};
 ghost use Rattle.command.specs.Done.{system_of, system_with};
 ghost use Rattle.update.specs.First.{IsCauseOfFirst};
-ghost use Rattle.update.specs.Shown.{IsCauseToShow, IsShown};
+ghost use Rattle.update.specs.Shown.{IsCauseToShow, IsCauseToShowFile, IsFileShown, IsShown};
 
 use crate::folders::{next_in, replay_in, verify_in};
 use crate::into::verify_into_in;
 use crate::making::make;
 use crate::runtime::Runtime;
 use crate::subcommand::Subcommand;
+use cycle::Step;
 use failure::Failure;
 use std::alloc::Global;
 use std::io::Write;
@@ -21,9 +22,9 @@ use system::Machine;
 use update::Host;
 
 /// Carries out a subcommand on the file system, and returns its status: 0 if all wanted targets
-/// are accepted, 1 if one is refused or a file that is shown expires too soon, 2 if the update
-/// stopped or the root is refused. Prints the lines of the outcome to `out`, which is returned too.
-/// Fails as the run does that the subcommand names.
+/// are accepted, 1 if one is refused or a file that is shown expires too soon or isn't there, 2 if
+/// the update stopped or the root is refused. Prints the lines of the outcome to `out`, which is
+/// returned too. Fails as the run does that the subcommand names.
 pub fn carry_out<T: Threads + Wait + Sync, W: Write>(
     run: &Runtime<'_, T>,
     subcommand: &Subcommand<'_>,
@@ -52,6 +53,7 @@ pub fn carry_out<T: Threads + Wait + Sync, W: Write>(
         } => replay_in(run, cycles, repositories.as_slice(), out),
         Subcommand::Next { wants, folders } => next_in(run, wants, *folders, out),
         Subcommand::Show { state, before } => show(rt, alloc, state, *before, out),
+        Subcommand::ShowFile { state, file } => show_file(rt, alloc, state, *file, out),
         Subcommand::Make { script, folder } => (make(rt, alloc, script, folder), out),
     }
 }
@@ -106,5 +108,31 @@ fn show<W: Write>(
         out,
     };
     let done = host.show(alloc, state, before);
+    (done, host.out)
+}
+
+/// Prints the step's file in the trusted state of a path.
+#[tactic(auto, using(crate::proofs::Doing::quiet_of))]
+fn show_file<W: Write>(
+    rt: &HostRuntime,
+    alloc: Global,
+    state: &str,
+    file: Step,
+    out: W,
+) -> (Result<u8, Failure>, W)
+    ensures known { IfOk result.0 (λ status. status ≤ 1) }
+    ensures shown { IfOk result.0 (IsFileShown state.now file
+        (system_with [] (W.contents out)) (system_with [] (W.contents result.1))) }
+    ensures quiet { IfErr result.0 (λ f. f ≢ Failure.Memory → f ≢ Failure.Output
+        → W.contents result.1 ≡ W.contents out) }
+    ensures cause { IfErr result.0 (IsCauseToShowFile state.now
+        (system_with [] (W.contents out))) }
+{
+    let mut host = Host {
+        system: Machine::new(rt),
+        folders: (),
+        out,
+    };
+    let done = host.show_file(alloc, state, file);
     (done, host.out)
 }

@@ -5,6 +5,7 @@ use crate::listed::given_paths;
 use crate::subcommand::{FolderPaths, Subcommand};
 use crate::terms::{all_of, number, settings, wants, word};
 use clap::ArgMatches;
+use cycle::Step;
 use failure::Failure;
 use replay::Cycles;
 use std::alloc::Global;
@@ -51,10 +52,28 @@ fn make_of<'a>(words: &ArgMatches<'a>) -> Result<Subcommand<'a>, Failure> {
 }
 
 fn show_of<'a>(words: &ArgMatches<'a>) -> Result<Subcommand<'a>, Failure> {
-    Ok(Subcommand::Show {
-        state: word(words, "STATE")?,
-        before: words.get_str("before"),
-    })
+    let state = word(words, "STATE")?;
+    match words.get_str("file") {
+        Some(name) => Ok(Subcommand::ShowFile {
+            state,
+            file: step_of(name)?,
+        }),
+        None => Ok(Subcommand::Show {
+            state,
+            before: words.get_str("before"),
+        }),
+    }
+}
+
+/// Returns the step whose file has that name.
+fn step_of(name: &str) -> Result<Step, Failure> {
+    match name {
+        "root" => Ok(Step::Root),
+        "timestamp" => Ok(Step::Timestamp),
+        "snapshot" => Ok(Step::Snapshot),
+        "targets" => Ok(Step::Targets),
+        _ => Err(Failure::Words),
+    }
 }
 
 fn next_of<'a>(

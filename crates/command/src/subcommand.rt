@@ -1,5 +1,6 @@
 //! The subcommands and their arguments.
 
+use cycle::Step;
 use replay::Cycles;
 use update::{Terms, Wants};
 
@@ -58,6 +59,13 @@ pub enum Subcommand<'a> {
         /// The text of the moment before which a file expires too soon.
         before: Option<&'a str>,
     },
+    /// Prints one file of a trusted state.
+    ShowFile {
+        /// The path of the state file.
+        state: &'a str,
+        /// The step whose file it is.
+        file: Step,
+    },
     /// Makes a repository from a script.
     Make {
         /// The path of the script.
@@ -83,6 +91,7 @@ impl<'a> Drop for Subcommand<'a> {
             } => {}
             Subcommand::Next { wants, folders } => {}
             Subcommand::Show { state, before } => {}
+            Subcommand::ShowFile { state, file } => {}
             Subcommand::Make { script, folder } => {}
         }
     }

@@ -6,7 +6,7 @@ use keys::{Ask, Judge};
 
 /// Watches the checks of the sequential run. No contract depends on it.
 pub trait Watch {
-    /// Called when the sequential run has decided a check.
+    /// Learns that the sequential run has decided a check.
     fn checked(&self);
 }
 

@@ -30,7 +30,7 @@ fn has_wrong_hash(target: &Target, measure: &Measure) -> bool
     )
 }
 
-/// Whether a digest is listed, and the measure has another one or none.
+/// Returns whether a digest is listed, and the measure has another one or none.
 fn differs_from(listed: Option<&[u8]>, found: Option<&[u8]>) -> bool
     ensures { result ≡ spec.differs_from (option_map (λ d. d.now) listed.entry)
         (option_map (λ d. d.now) found.entry) }

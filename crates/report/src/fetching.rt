@@ -31,7 +31,7 @@ pub fn tell_needs<W: Write>(
     put(out, text.as_str())
 }
 
-/// The lines of the files.
+/// Returns the lines of the files.
 fn text_of(alloc: Global, needs: &[Need], only: Option<Place>) -> Result<String, AllocError>
     ensures { IfOk result (λ text. string_bytes text ≡ flat_map (spec.line_of only) needs.now) }
 {
@@ -44,7 +44,7 @@ fn text_of(alloc: Global, needs: &[Need], only: Option<Place>) -> Result<String,
     Ok(text)
 }
 
-/// Whether the file is in that folder, or no folder is given.
+/// Returns whether the file is in that folder, or no folder is given.
 fn is_of(only: Option<Place>, need: &Need) -> bool
     ensures { result ≡ spec.is_of only need.now }
 {

@@ -5,7 +5,8 @@
 //! - [`show`] prints what a trusted state has, and when it expires; [`moment_text`] returns the
 //!   text of a moment.
 //! - [`tell_needs`] prints the names of the files to fetch.
-//! - [`root_line`], [`push_end`] and [`push_verdict`] make single lines, and [`put`] writes a text.
+//! - [`root_line`], [`push_end`] and [`push_verdict`] make single lines, and [`put`] and
+//!   [`put_bytes`] write.
 #![tactic(auto)]
 
 mod cycles;
@@ -17,6 +18,6 @@ mod shown;
 
 pub use cycles::tell_cycles;
 pub use fetching::tell_needs;
-pub use lines::{push_end, push_verdict, put, root_line, tell, tell_stored};
+pub use lines::{push_end, push_verdict, put, put_bytes, root_line, tell, tell_stored};
 pub use moments::moment_text;
 pub use shown::show;

@@ -322,7 +322,15 @@ pub fn put<W: Write>(out: &mut W, text: &str) -> Result<(), Failure>
     ensures written { OnOk result (Appends (W.contents out.old) (W.contents out.new) text.now) }
     ensures refused { IfErr result IsLate }
 {
-    match out.write_all(text.as_bytes()) {
+    put_bytes(out, text.as_bytes())
+}
+
+/// Writes all bytes, as [`put`] writes a text.
+pub fn put_bytes<W: Write>(out: &mut W, bytes: &[u8]) -> Result<(), Failure>
+    ensures written { OnOk result (Appends (W.contents out.old) (W.contents out.new) bytes.now) }
+    ensures refused { IfErr result IsLate }
+{
+    match out.write_all(bytes) {
         Ok(()) => out.flush().map_err(|e| of_io(&e, Failure::Output)),
         Err(e) => Err(of_io(&e, Failure::Output)),
     }

@@ -18,9 +18,9 @@ const LAST_DAY: i32 = 2_932_896;
 
 const SECONDS_OF_DAY: u32 = 86_400;
 
-/// The text of the moment, `YYYY-MM-DDTHH:MM:SSZ`, as `expires` has it (TUF 1.0 section 4.2.1). It
-/// is empty for a moment outside the years 0 to 9999, which no text spells. Fails only if out of
-/// memory.
+/// Returns the text of the moment, `YYYY-MM-DDTHH:MM:SSZ`, as `expires` has it (TUF 1.0 section
+/// 4.2.1), or the empty text for a moment outside the years 0 to 9999, which no text spells. Fails
+/// only if out of memory.
 pub fn moment_text(alloc: Global, moment: Moment) -> Result<String, AllocError>
     ensures text { IfOk result (λ text. string_bytes text ≡ spec.moment_text moment) }
     ensures spelled { IfOk result (λ text. (other : List ℕ) → IsMomentText other moment
@@ -32,7 +32,7 @@ pub fn moment_text(alloc: Global, moment: Moment) -> Result<String, AllocError>
     }
 }
 
-/// The date of a moment that has a text.
+/// Returns the date of a moment that has a text.
 fn date_of(moment: Moment) -> Option<Date>
     ensures date { MatchOption result (spec.has_text moment ≡ false)
         (λ d. (epoch_day d ≡ moment.day) × (spec.has_text moment ≡ true)) }
@@ -50,7 +50,7 @@ fn date_of(moment: Moment) -> Option<Date>
     Some(date)
 }
 
-/// The text of a moment on that date.
+/// Returns the text of a moment on that date.
 #[tactic(auto, using(crate::proofs::Spelling::dated, crate::proofs::Spelling::second_below))]
 fn text_on(alloc: Global, date: Date, moment: Moment) -> Result<String, AllocError>
     requires day { epoch_day date ≡ moment.day }
@@ -61,7 +61,7 @@ fn text_on(alloc: Global, date: Date, moment: Moment) -> Result<String, AllocErr
     text_at(alloc, year, date.month, date.day, moment.second())
 }
 
-/// `YYYY-MM-DDTHH:MM:SSZ` of a date and a second of the day.
+/// Returns a date and a second of the day as `YYYY-MM-DDTHH:MM:SSZ`.
 fn text_at(alloc: Global, year: u16, month: u8, day: u8, second: u32) -> Result<String, AllocError>
     requires year_fits { year < 10_000 }
     requires month_fits { month < 100 }

@@ -39,7 +39,7 @@ pub fn show<W: Write>(
     Ok(status_of(&files, before))
 }
 
-/// The step of each file, with its header if the file is trusted.
+/// Returns the step of each file, with its header if the file is trusted.
 fn headers(trusted: &Trusted) -> [(Step, Option<Header>); 4]
     ensures files { result ≡ spec.headers trusted.now }
 {
@@ -78,7 +78,7 @@ fn targets_header(trusted: &Trusted) -> Option<Header>
     }
 }
 
-/// The lines of the files that are trusted.
+/// Returns the lines of the files that are trusted.
 fn text_of(alloc: Global, files: &[(Step, Option<Header>)]) -> Result<String, AllocError>
     ensures lines { IfOk result (λ text. string_bytes text
         ≡ flat_map spec.file_text files.now) }
@@ -120,7 +120,7 @@ fn push_header(
     writeln!(text, "{step} {version} {expires}")
 }
 
-/// The status of these files.
+/// Returns the status of these files.
 fn status_of(files: &[(Step, Option<Header>)], before: Option<Moment>) -> u8
     ensures status { result ≡ spec.status_of before files.now }
     ensures known { result ≤ 1 }
@@ -131,7 +131,7 @@ fn status_of(files: &[(Step, Option<Header>)], before: Option<Moment>) -> u8
     }
 }
 
-/// Whether one of the files is trusted and expires before the moment.
+/// Returns whether one of the files is trusted and expires before the moment.
 fn are_due(files: &[(Step, Option<Header>)], moment: Moment) -> bool
     ensures { result ≡ list_any (spec.is_due moment) files.now }
 {

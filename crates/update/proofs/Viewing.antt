@@ -7,7 +7,8 @@ use Rattle.moment.specs.Moment.{Moment}
 use Rattle.report.specs.Shown.{shown_status, shown_text}
 use Rattle.update.specs.Causes.{IsNoState}
 use Rattle.update.specs.Runs.{IsRead, State}
-use Rattle.update.specs.Shown.{IsBefore, IsCauseToShow, IsNoBefore, IsShown}
+use Rattle.rolechain.specs.declared.end.Step.{Step}
+use Rattle.update.specs.Shown.{IsBefore, IsCauseToShow, IsCauseToShowFile, IsFileShown, IsGivenOut, IsNoBefore, IsShown, file_of}
 use Rattle.update.specs.World.{World}
 
 -- the lines and the status of an answer
@@ -34,5 +35,21 @@ pub no_output : (state : List ℕ) (before : Option (List ℕ)) (old : World) (f
 no_output state before old f (inl is) = subst (IsCauseToShow state before old) (sym is) tt
 no_output state before old f (inr is) = subst (IsCauseToShow state before old) (sym is) tt
 
+-- ---- one file
+
+pub file_shown : {E : Type 0} (state : List ℕ) (step : Step) (old new : World) (trusted : State) (r : Result ℕ E) → IsRead (old.gives state) trusted
+    → IfOk r (IsGivenOut (file_of step trusted) old.printed new.printed) → IfOk r (IsFileShown state step old new)
+file_shown state step old new trusted (Ok status) read given = record { trusted = trusted; read = read; given = given }
+file_shown state step old new trusted (Err e) read given = tt
+
+pub file_no_state : (state : List ℕ) (old : World) (f : Failure) → (f ≡ failure.Memory) ⊎ (f ≡ failure.State)
+    → (f ≢ failure.Memory → IsNoState (old.gives state) (old.refuses state)) → IsCauseToShowFile state old f
+file_no_state state old f (inl memory) none = subst (IsCauseToShowFile state old) (sym memory) tt
+file_no_state state old f (inr other) none = subst (IsCauseToShowFile state old) (sym other) (none (λ memory. cc (other, memory)))
+
+pub file_no_output : (state : List ℕ) (old : World) (f : Failure) → (f ≡ failure.Memory) ⊎ (f ≡ failure.Output) → IsCauseToShowFile state old f
+file_no_output state old f (inl is) = subst (IsCauseToShowFile state old) (sym is) tt
+file_no_output state old f (inr is) = subst (IsCauseToShowFile state old) (sym is) tt
+
 -- all of these
-pub ruleset viewing = (shown, no_before, no_state, no_output)
+pub ruleset viewing = (shown, no_before, no_state, no_output, file_shown, file_no_state, file_no_output)

@@ -189,7 +189,7 @@ fn refused_by(error: &io::Error) -> Result<bool, Failure>
     Err(of_io(error, Failure::Output))
 }
 
-/// Whether the set has the path.
+/// Returns whether the set has the path.
 fn has_path(set: &BTreeSet<String>, path: &str) -> bool
     ensures { result ≡ contains_text set.now path.now }
 {

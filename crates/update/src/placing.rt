@@ -33,7 +33,7 @@ pub(crate) fn candidates(
     Ok(flags)
 }
 
-/// Whether the verdict at the index is good.
+/// Returns whether the verdict at the index is good.
 fn is_good_at(verdicts: &[Verdict], i: usize) -> bool
     ensures { result ≡ spec.is_good_at verdicts.now i }
 {
@@ -83,7 +83,8 @@ fn unsorted<'a>(
     Ok(paths)
 }
 
-/// Whether the verdict of the path is good and a copy may have it, among these sorted paths.
+/// Returns whether the verdict of the path is good and a copy may have it, among these sorted
+/// paths.
 fn is_candidate(
     alloc: Global,
     is_good: bool,
@@ -100,7 +101,7 @@ fn is_candidate(
     Ok(!is_folder_of_one(alloc, paths, path)?)
 }
 
-/// Whether one of these sorted paths is below the path.
+/// Returns whether one of these sorted paths is below the path.
 fn is_folder_of_one(alloc: Global, paths: &[&str], path: &str) -> Result<bool, AllocError>
     requires sorted { IsSorted (λ a b. slice_cmp nat_cmp a.now b.now) paths.now }
     ensures test { IfOk result
@@ -120,7 +121,7 @@ fn first_from(texts: &[&str], start: &str) -> usize
     texts.partition_point(|text| *text < start)
 }
 
-/// Whether there is a text at the index, and it begins with `start`.
+/// Returns whether there is a text at the index, and it begins with `start`.
 fn begins_with(texts: &[&str], i: usize, start: &str) -> bool
     ensures { result ≡ begins_at start.now (lent_texts texts.now) i }
 {

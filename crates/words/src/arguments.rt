@@ -19,8 +19,13 @@ pub enum Form {
     Value(&'static str),
     /// A value, which is required, with its name in the help.
     Needed(&'static str),
-    /// A folder, by one of these names.
-    Folder(&'static [&'static str]),
+    /// One of these words, with the value's name in the help. Names the arguments that it conflicts
+    /// with.
+    Choice {
+        value: &'static str,
+        of: &'static [&'static str],
+        conflicts: &'static [&'static str],
+    },
     /// A number of this range, ends included, or else the default.
     Number {
         least: u64,
@@ -45,7 +50,15 @@ fn argument_of<'a>(alloc: Global, row: &Argument) -> Result<Arg<'a>, AllocError>
         Form::Switch { needs, conflicts } => switch(arg.long(row.name), needs, conflicts),
         Form::Value(name) => Ok(arg.long(row.name).value_name(name)),
         Form::Needed(name) => Ok(arg.long(row.name).value_name(name).required(true)),
-        Form::Folder(names) => Ok(arg.long(row.name).value_name("FOLDER").value_parser(names)),
+        Form::Choice {
+            value,
+            of,
+            conflicts,
+        } => arg
+            .long(row.name)
+            .value_name(value)
+            .value_parser(of)
+            .conflicts_with_all(conflicts),
         Form::Number {
             least,
             most,

@@ -83,6 +83,15 @@ pub const SHOW: &[Argument] = &[
         form: Form::Value("TEXT"),
         help: "Status 1 if a file expires before this moment, as YYYY-MM-DDTHH:MM:SSZ",
     },
+    Argument {
+        name: "file",
+        form: Form::Choice {
+            value: "FILE",
+            of: &["root", "timestamp", "snapshot", "targets"],
+            conflicts: &["before"],
+        },
+        help: "Print this file's bytes; status 1 if it isn't trusted",
+    },
 ];
 
 /// The arguments of `make`.
@@ -203,7 +212,11 @@ const KEEP: Argument = Argument {
 
 const ONLY: Argument = Argument {
     name: "only",
-    form: Form::Folder(&["metadata", "targets"]),
+    form: Form::Choice {
+        value: "FOLDER",
+        of: &["metadata", "targets"],
+        conflicts: &[],
+    },
     help: "Print the files of that folder alone",
 };
 

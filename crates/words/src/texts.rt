@@ -117,15 +117,17 @@ It prints, for the root and for each other file that is trusted,
   timestamp VERSION EXPIRES
   snapshot VERSION EXPIRES
   targets VERSION EXPIRES
-where EXPIRES is the moment at which the file expires, as YYYY-MM-DDTHH:MM:SSZ. It stores nothing.
+where EXPIRES is the moment at which the file expires, as YYYY-MM-DDTHH:MM:SSZ. With --file it
+prints the bytes of that file instead. It stores nothing.
 
 EXAMPLES:
   tufcheck show state
   tufcheck show state --before 2026-01-08T00:00:00Z
+  tufcheck show state --file root > root.json
 
 EXIT STATUS:
-  0  the state was shown, and no file in it expires before the moment of --before
-  1  the state was shown, and some file in it does
+  0  the state or the file was shown, and no file in it expires before the moment of --before
+  1  the state was shown, and some file in it does; or it has no such file
   3  the command line, the moment or the state file was refused
   4  the output or memory failed";
 

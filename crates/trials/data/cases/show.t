@@ -227,6 +227,35 @@ The moment is read before the state. What can't be read, or is no state, is a mi
   ...
   [3]
 
+The bytes of one file, and none of a file that isn't trusted.
+  $ put root
+  > {"signatures":[],"signed":{"_type":"root","consistent_snapshot":false,"expires":"2030-01-01T00:00:00Z","keys":{},"roles":{"root":{"keyids":[],"threshold":1},"snapshot":{"keyids":[],"threshold":1},"targets":{"keyids":[],"threshold":1},"timestamp":{"keyids":[],"threshold":1}},"spec_version":"1.0.0","version":5}}
+  $ state plain root=root
+  $ tufcheck show plain --file root
+  {"signatures":[],"signed":{"_type":"root","consistent_snapshot":false,"expires":"2030-01-01T00:00:00Z","keys":{},"roles":{"root":{"keyids":[],"threshold":1},"snapshot":{"keyids":[],"threshold":1},"targets":{"keyids":[],"threshold":1},"timestamp":{"keyids":[],"threshold":1}},"spec_version":"1.0.0","version":5}}
+  (no line feed)
+  $ tufcheck show plain --file timestamp
+  [1]
+  $ tufcheck show plain --file snapshot
+  [1]
+  $ tufcheck show --file targets plain
+  [1]
+  $ state full root=root snapshot=metadata/snapshot.json targets=metadata/targets.json timestamp=metadata/timestamp.json
+  $ tufcheck show full --file timestamp
+  {"signatures":[...
+  (no line feed)
+  $ tufcheck show plain --file role
+  ! error: ...
+  ...
+  [3]
+  $ tufcheck show plain --file root --before 2030-01-01T00:00:00Z
+  ! error: ...
+  ...
+  [3]
+  $ narrow 9 show plain --file root
+  ! tufcheck: output
+  [4]
+
 An output that refuses.
   $ narrow 0 show two
   ! tufcheck: output
