@@ -1,6 +1,6 @@
 //! The verification of a job.
 
-ghost use Rattle.std.specs.Prelude.{◌≡◌, ◌≤◌, ◌⊎◌, false, pos};
+ghost use Rattle.std.specs.Prelude.{◌≡◌, ◌≤◌, ◌⊎◌, false, pos, true};
 ghost use Rattle.embed.specs.declared.fault.JobFault.{JobFault};
 ghost use Rattle.tufcheck_c.specs.Answers as spec;
 
@@ -34,7 +34,10 @@ pub extern "C" fn tufcheck_verify(alloc: Global, job: &Job, answer: &mut Answer)
     ensures verified { spec.IfStatus result (λ status. spec.IsAnswered job.now status answer.new) }
     ensures errors { (f : JobFault) → result ≡ spec.number_of f → spec.HasCause job.now f }
     ensures room_needed { result ≡ spec.no_room → spec.IsShort job.now answer.new }
+    ensures bounded { spec.IfStatus result (λ _. spec.has_room answer.new ≡ true) }
     ensures unchanged_on_error { spec.IfError result (spec.KeepsRooms answer.old answer.new) }
+    ensures same_summary { (f : JobFault) → result ≡ spec.number_of f
+        → answer.new.summary ≡ answer.old.summary }
     ensures same_rooms { spec.SameRooms answer.old answer.new }
     ensures status_range { spec.IsResult 2 result }
 {
@@ -53,6 +56,7 @@ fn write(answer: &mut Answer, verification: &Verification) -> i32
     ensures written { spec.IfStatus result
         (λ status. spec.IsWritten verification.now status answer.new) }
     ensures summary { answer.new.summary ≡ verification.now.summary }
+    ensures bounded { spec.IfStatus result (λ _. spec.has_room answer.new ≡ true) }
     ensures cases { (result ≡ pos verification.now.status)
         ⊎ ((result ≡ spec.no_room) × (spec.has_room answer.new ≡ false)) }
     ensures unchanged { spec.IfError result (spec.KeepsRooms answer.old answer.new) }

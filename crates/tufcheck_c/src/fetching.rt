@@ -1,6 +1,6 @@
 //! The files that a caller has to fetch next.
 
-ghost use Rattle.std.specs.Prelude.{◌≡◌, ◌≤◌, ◌⊎◌, false, pos};
+ghost use Rattle.std.specs.Prelude.{◌≡◌, ◌≤◌, ◌⊎◌, false, pos, true};
 ghost use Rattle.embed.specs.declared.fault.JobFault.{JobFault};
 ghost use Rattle.tufcheck_c.specs.Answers as spec;
 
@@ -28,7 +28,10 @@ pub extern "C" fn tufcheck_next(alloc: Global, job: &Job, needs: &mut Needs) -> 
     ensures next { spec.IfStatus result (λ status. spec.IsNeeded job.now status needs.new) }
     ensures errors { (f : JobFault) → result ≡ spec.number_of f → spec.HasCause job.now f }
     ensures room_needed { result ≡ spec.no_room → spec.IsNeedsShort job.now needs.new }
+    ensures bounded { spec.IfStatus result (λ _. spec.has_needs_room needs.new ≡ true) }
     ensures unchanged_on_error { spec.IfError result (spec.KeepsNeeds needs.old needs.new) }
+    ensures same_summary { (f : JobFault) → result ≡ spec.number_of f
+        → needs.new.summary ≡ needs.old.summary }
     ensures same_rooms { spec.SameNeeds needs.old needs.new }
     ensures status_range { spec.IsResult 2 result }
 {
@@ -46,6 +49,7 @@ fn write(needs: &mut Needs, missing: &Missing) -> i32
     ensures written { spec.IfStatus result
         (λ status. spec.AreWritten missing.now status needs.new) }
     ensures summary { needs.new.summary ≡ missing.now.summary }
+    ensures bounded { spec.IfStatus result (λ _. spec.has_needs_room needs.new ≡ true) }
     ensures cases { (result ≡ pos missing.now.status)
         ⊎ ((result ≡ spec.no_room) × (spec.has_needs_room needs.new ≡ false)) }
     ensures unchanged { spec.IfError result (spec.KeepsNeeds needs.old needs.new) }

@@ -1,6 +1,6 @@
 //! The state of a first root.
 
-ghost use Rattle.std.specs.Prelude.{◌≡◌, pos, take};
+ghost use Rattle.std.specs.Prelude.{◌≡◌, ◌≤◌, length, pos, take};
 ghost use Rattle.embed.specs.declared.fault.JobFault.{JobFault};
 ghost use Rattle.tufcheck_c.specs.Answers as spec;
 
@@ -22,7 +22,9 @@ pub extern "C" fn tufcheck_first(
     ensures errors { (f : JobFault) → result ≡ spec.number_of f → spec.IsNoRoot root.now f }
     ensures room_needed { result ≡ spec.no_room
         → spec.IsFirstShort root.now state.new len.new }
+    ensures bounded { result ≡ pos 0 → len.new ≤ length state.new }
     ensures unchanged_on_error { spec.IfError result (state.new ≡ state.old) }
+    ensures same_len { (f : JobFault) → result ≡ spec.number_of f → len.new ≡ len.old }
     ensures status_range { spec.IsResult 0 result }
 {
     match first_state(alloc, root) {

@@ -1,6 +1,6 @@
 //! What roles list of the wanted paths of a job.
 
-ghost use Rattle.std.specs.Prelude.{◌≡◌, ◌≤◌, ◌⊎◌, false, pos};
+ghost use Rattle.std.specs.Prelude.{◌≡◌, ◌≤◌, ◌⊎◌, false, pos, true};
 ghost use Rattle.embed.specs.declared.fault.JobFault.{JobFault};
 ghost use Rattle.tufcheck_c.specs.Answers as spec;
 
@@ -30,7 +30,10 @@ pub extern "C" fn tufcheck_list(alloc: Global, job: &Job, listed: &mut Listed) -
     ensures listed { spec.IfStatus result (λ status. spec.IsListed job.now status listed.new) }
     ensures errors { (f : JobFault) → result ≡ spec.number_of f → spec.HasCause job.now f }
     ensures room_needed { result ≡ spec.no_room → spec.IsListedShort job.now listed.new }
+    ensures bounded { spec.IfStatus result (λ _. spec.has_listed_room listed.new ≡ true) }
     ensures unchanged_on_error { spec.IfError result (spec.KeepsListed listed.old listed.new) }
+    ensures same_summary { (f : JobFault) → result ≡ spec.number_of f
+        → listed.new.summary ≡ listed.old.summary }
     ensures same_rooms { spec.SameListed listed.old listed.new }
     ensures status_range { spec.IsResult 2 result }
 {
@@ -47,6 +50,7 @@ fn write(listed: &mut Listed, listing: &Listing) -> i32
     requires range { listing.now.status ≤ 2 }
     ensures written { spec.IfStatus result (λ status. spec.IsPut listing.now status listed.new) }
     ensures summary { listed.new.summary ≡ listing.now.summary }
+    ensures bounded { spec.IfStatus result (λ _. spec.has_listed_room listed.new ≡ true) }
     ensures cases { (result ≡ pos listing.now.status)
         ⊎ ((result ≡ spec.no_room) × (spec.has_listed_room listed.new ≡ false)) }
     ensures unchanged { spec.IfError result (spec.KeepsListed listed.old listed.new) }
