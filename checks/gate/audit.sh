@@ -333,7 +333,7 @@ elif [ -n "$quick" ] || [ -z "$kit" ]; then
 fi
 
 # 7. What nobody proved
-grep -o '`checks/[a-z.-]*`' "$page" | tr -d '\`' | sort -u | while read -r file; do
+grep -o '`checks/[a-z./-]*`' "$page" | tr -d '\`' | sort -u | while read -r file; do
     [ -x "$file" ] || echo "$file isn't there"
 done > "$work/seen"
 [ ! -s "$work/seen" ]
