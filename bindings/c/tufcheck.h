@@ -45,9 +45,12 @@ extern "C" {
  * all metadata files of the job, and 64. */
 #define TUFCHECK_STATE_MOST 15056821
 
-/* Results of the calls. From 0 on there is an answer. Below 0 there is none, and no room is written.
+/* Each family of numbers is its own: no kind, end, fault or place has the number of one of another
+ * family, or of a result, so that a comparison with the wrong family is never true.
+ *
+ * Results of the calls. From 0 on there is an answer. Below 0 there is none, and no room is written.
  * tufcheck_next and tufcheck_list say below what 0 and 1 mean there. */
-enum {
+enum tufcheck_result {
     TUFCHECK_GOOD = 0,        /* the cycle is ready, and every wanted target is accepted */
     TUFCHECK_REFUSED = 1,     /* the cycle is ready, and some wanted target is refused */
     TUFCHECK_STOPPED = 2,     /* the cycle stopped at summary.end, for summary.fault */
@@ -60,43 +63,44 @@ enum {
 };
 
 /* How a cycle ends: summary.end. */
-enum {
-    TUFCHECK_READY = 1,
-    TUFCHECK_AT_ROOT = 2,
-    TUFCHECK_AT_TIMESTAMP = 3,
-    TUFCHECK_AT_SNAPSHOT = 4,
-    TUFCHECK_AT_TARGETS = 5
+enum tufcheck_end {
+    TUFCHECK_READY = 33,
+    TUFCHECK_AT_ROOT = 34,
+    TUFCHECK_AT_TIMESTAMP = 35,
+    TUFCHECK_AT_SNAPSHOT = 36,
+    TUFCHECK_AT_TARGETS = 37
 };
 
-/* Kinds of verdicts. */
-enum {
-    TUFCHECK_ACCEPTED = 1,       /* the file has the length and the digests that a role lists */
-    TUFCHECK_NOT_FOUND = 2,      /* no role lists the path */
-    TUFCHECK_LIMIT_REACHED = 3,  /* the search would visit more roles than the limit */
-    TUFCHECK_ROLE_REFUSED = 4,   /* the search came to a role whose own file is refused */
-    TUFCHECK_FILE_REFUSED = 5,   /* a role lists the path, but its file is refused */
-    TUFCHECK_NOT_SEARCHED = 6    /* the cycle stopped before any search */
+/* Kinds of verdicts, and of rows of a listing. */
+enum tufcheck_kind {
+    TUFCHECK_ACCEPTED = 17,       /* the file has the length and the digests that a role lists */
+    TUFCHECK_NOT_FOUND = 18,      /* no role lists the path */
+    TUFCHECK_LIMIT_REACHED = 19,  /* the search would visit more roles than the limit */
+    TUFCHECK_ROLE_REFUSED = 20,   /* the search came to a role whose own file is refused */
+    TUFCHECK_FILE_REFUSED = 21,   /* a role lists the path, but its file is refused */
+    TUFCHECK_NOT_SEARCHED = 22,   /* the cycle stopped before any search */
+    TUFCHECK_LISTED = 23          /* in a listing: a role lists the path */
 };
 
 /* Why a file is refused: the first check that it fails. */
-enum {
-    TUFCHECK_NOT_LISTED = 1,    /* the snapshot doesn't list the role's file */
-    TUFCHECK_MISSING = 2,       /* the job has no file of its name */
-    TUFCHECK_TOO_LONG = 3,      /* it is longer than the limit of its kind */
-    TUFCHECK_LENGTH_WRONG = 4,  /* it has another length than is listed */
-    TUFCHECK_HASH_WRONG = 5,    /* it has another digest than is listed */
-    TUFCHECK_NO_KNOWN_HASH = 6, /* no digest of a known kind is listed */
-    TUFCHECK_MALFORMED = 7,     /* it isn't a file of its kind */
-    TUFCHECK_UNSIGNED = 8,      /* fewer keys signed it than the threshold */
-    TUFCHECK_VERSION_WRONG = 9, /* it has another version than is expected */
-    TUFCHECK_ROLLBACK = 10,     /* it is older than what is trusted */
-    TUFCHECK_EXPIRED = 11       /* it has expired */
+enum tufcheck_fault {
+    TUFCHECK_NOT_LISTED = 65,    /* the snapshot doesn't list the role's file */
+    TUFCHECK_MISSING = 66,       /* the job has no file of its name */
+    TUFCHECK_TOO_LONG = 67,      /* it is longer than the limit of its kind */
+    TUFCHECK_LENGTH_WRONG = 68,  /* it has another length than is listed */
+    TUFCHECK_HASH_WRONG = 69,    /* it has another digest than is listed */
+    TUFCHECK_NO_KNOWN_HASH = 70, /* no digest of a known kind is listed */
+    TUFCHECK_MALFORMED = 71,     /* it isn't a file of its kind */
+    TUFCHECK_UNSIGNED = 72,      /* fewer keys signed it than the threshold */
+    TUFCHECK_VERSION_WRONG = 73, /* it has another version than is expected */
+    TUFCHECK_ROLLBACK = 74,      /* it is older than what is trusted */
+    TUFCHECK_EXPIRED = 75        /* it has expired */
 };
 
 /* Where a file belongs that is to be fetched. */
-enum {
-    TUFCHECK_METADATA = 1,
-    TUFCHECK_TARGETS = 2
+enum tufcheck_place {
+    TUFCHECK_METADATA = 49,
+    TUFCHECK_TARGETS = 50
 };
 
 typedef struct tufcheck_bytes {
@@ -178,7 +182,7 @@ typedef struct tufcheck_answer {
 
 /* What roles list of a wanted path. */
 typedef struct tufcheck_listed {
-    uint32_t kind;   /* TUFCHECK_ACCEPTED here means that a role lists the path */
+    uint32_t kind;   /* TUFCHECK_LISTED, or why no role lists the path */
     uint32_t fault;  /* of a role's refused file, or 0 */
     uint64_t length; /* the listed length in bytes, or 0 */
     size_t role_at;

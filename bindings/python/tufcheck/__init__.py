@@ -38,7 +38,7 @@ __all__ = [
 
 class _Number(enum.IntEnum):
     """A number of the library. One that this module doesn't know, as a library of a later version
-    may have, is a value ``UNKNOWN_13``; none means that a target is accepted."""
+    may have, is a value ``UNKNOWN_99``; none means that a target is accepted."""
 
     @classmethod
     def _missing_(cls, value: object) -> Optional[_Number]:
@@ -63,51 +63,53 @@ class Status(enum.IntEnum):
 class End(_Number):
     """How a cycle ends: ready, or the step at which it stopped."""
 
-    READY = 1
-    ROOT = 2
-    TIMESTAMP = 3
-    SNAPSHOT = 4
-    TARGETS = 5
+    READY = 33
+    ROOT = 34
+    TIMESTAMP = 35
+    SNAPSHOT = 36
+    TARGETS = 37
 
 
 class Kind(_Number):
-    """The kind of a verdict."""
+    """The kind of a verdict, or of a row of a listing."""
 
-    ACCEPTED = 1
+    ACCEPTED = 17
     """The file has the length and the digests that a role lists."""
-    NOT_FOUND = 2
+    NOT_FOUND = 18
     """No role lists the path."""
-    LIMIT_REACHED = 3
+    LIMIT_REACHED = 19
     """The search would visit more roles than the limit."""
-    ROLE_REFUSED = 4
+    ROLE_REFUSED = 20
     """The search came to a role whose own file is refused."""
-    FILE_REFUSED = 5
+    FILE_REFUSED = 21
     """A role lists the path, but its file is refused."""
-    NOT_SEARCHED = 6
+    NOT_SEARCHED = 22
     """The cycle stopped before any search."""
+    LISTED = 23
+    """In a listing: a role lists the path."""
 
 
 class Fault(_Number):
     """Why a file is refused: the first check that it fails."""
 
-    NOT_LISTED = 1
-    MISSING = 2
-    TOO_LONG = 3
-    LENGTH_WRONG = 4
-    HASH_WRONG = 5
-    NO_KNOWN_HASH = 6
-    MALFORMED = 7
-    UNSIGNED = 8
-    VERSION_WRONG = 9
-    ROLLBACK = 10
-    EXPIRED = 11
+    NOT_LISTED = 65
+    MISSING = 66
+    TOO_LONG = 67
+    LENGTH_WRONG = 68
+    HASH_WRONG = 69
+    NO_KNOWN_HASH = 70
+    MALFORMED = 71
+    UNSIGNED = 72
+    VERSION_WRONG = 73
+    ROLLBACK = 74
+    EXPIRED = 75
 
 
 class Place(_Number):
     """Where a file belongs that is to be fetched."""
 
-    METADATA = 1
-    TARGETS = 2
+    METADATA = 49
+    TARGETS = 50
 
 
 class TufcheckError(Exception):
@@ -181,7 +183,7 @@ class Listed:
     """What roles list of a wanted path. It is true exactly if a role lists it."""
 
     kind: Kind
-    """`Kind.ACCEPTED` means here that a role lists the path."""
+    """`Kind.LISTED`, or why no role lists the path."""
     fault: Optional[Fault]
     length: int
     role: str
@@ -189,7 +191,7 @@ class Listed:
     sha512: Optional[bytes]
 
     def __bool__(self) -> bool:
-        return self.kind is Kind.ACCEPTED
+        return self.kind is Kind.LISTED
 
 
 @dataclass(frozen=True)

@@ -4,10 +4,11 @@
 
 #include <inttypes.h>
 
-static const char *const ENDS[] = {"", "ready", "root", "timestamp", "snapshot", "targets"};
-static const char *const KINDS[] = {"", "", "NotFound", "LimitReached", "", "", "NotSearched"};
-static const char *const FAULTS[] = {"",          "NotListed", "Missing",      "TooLong",  "LengthWrong", "HashWrong",
-                                     "NoKnownHash", "Malformed", "Unsigned", "VersionWrong", "Rollback", "Expired"};
+/* The words of each family, from its first number on. */
+static const char *const ENDS[] = {"ready", "root", "timestamp", "snapshot", "targets"};
+static const char *const KINDS[] = {"", "NotFound", "LimitReached", "", "", "NotSearched"};
+static const char *const FAULTS[] = {"NotListed",   "Missing",   "TooLong",  "LengthWrong",  "HashWrong", "NoKnownHash",
+                                     "Malformed", "Unsigned", "VersionWrong", "Rollback", "Expired"};
 
 /* Rooms of these sizes, each in a block of its own. */
 static tufcheck_answer rooms(size_t state, size_t verdicts, size_t roles, size_t names)
@@ -50,7 +51,7 @@ static void print_verdict(tufcheck_bytes path, const tufcheck_verdict *row, cons
     if (row->kind == TUFCHECK_ACCEPTED)
         printf(" %" PRIu64 " ", row->length);
     else
-        printf(" %s", row->fault ? FAULTS[row->fault] : KINDS[row->kind]);
+        printf(" %s", row->fault ? FAULTS[row->fault - TUFCHECK_NOT_LISTED] : KINDS[row->kind - TUFCHECK_ACCEPTED]);
     if (row->kind == TUFCHECK_ROLE_REFUSED)
         putchar(' ');
     if (row->kind == TUFCHECK_ACCEPTED || row->kind == TUFCHECK_ROLE_REFUSED)
@@ -61,8 +62,10 @@ static void print_verdict(tufcheck_bytes path, const tufcheck_verdict *row, cons
 static void print_all(const tufcheck_job *job, const tufcheck_answer *answer)
 {
     const tufcheck_summary *summary = &answer->summary;
-    printf("root %" PRIu64 "\nend %s", summary->root_version, ENDS[summary->end]);
-    printf(summary->fault ? " %s\n" : "\n", FAULTS[summary->fault]);
+    printf("root %" PRIu64 "\nend %s", summary->root_version, ENDS[summary->end - TUFCHECK_READY]);
+    if (summary->fault)
+        printf(" %s", FAULTS[summary->fault - TUFCHECK_NOT_LISTED]);
+    putchar('\n');
     for (size_t i = 0; i < summary->role_count; i++) {
         fputs("role ", stdout);
         quoted(answer->names + answer->roles[i].name_at, answer->roles[i].name_len);

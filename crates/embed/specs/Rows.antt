@@ -19,30 +19,30 @@ use Rattle.embed.specs.declared.rows.NeedRow.{NeedRow}
 use Rattle.embed.specs.declared.rows.RoleRow.{RoleRow}
 use Rattle.embed.specs.declared.rows.VerdictRow.{VerdictRow}
 
--- # Numbers of faults and ends. None of them is 0.
+-- # Numbers of faults and ends. No number of one kind is one of another kind, or a result.
 
 abbrev pub fault_number : Fault → ℕ
-fault_number fault.NotListed = 1
-fault_number fault.Missing = 2
-fault_number fault.TooLong = 3
-fault_number fault.LengthWrong = 4
-fault_number fault.HashWrong = 5
-fault_number fault.NoKnownHash = 6
-fault_number fault.Malformed = 7
-fault_number fault.Unsigned = 8
-fault_number fault.VersionWrong = 9
-fault_number fault.Rollback = 10
-fault_number fault.Expired = 11
+fault_number fault.NotListed = 65
+fault_number fault.Missing = 66
+fault_number fault.TooLong = 67
+fault_number fault.LengthWrong = 68
+fault_number fault.HashWrong = 69
+fault_number fault.NoKnownHash = 70
+fault_number fault.Malformed = 71
+fault_number fault.Unsigned = 72
+fault_number fault.VersionWrong = 73
+fault_number fault.Rollback = 74
+fault_number fault.Expired = 75
 
 abbrev pub step_number : Step → ℕ
-step_number step.Root = 2
-step_number step.Timestamp = 3
-step_number step.Snapshot = 4
-step_number step.Targets = 5
+step_number step.Root = 34
+step_number step.Timestamp = 35
+step_number step.Snapshot = 36
+step_number step.Targets = 37
 
--- 1 is ready, else the step that stopped the cycle
+-- 33 is ready, else the step that stopped the cycle
 abbrev pub end_number : End → ℕ
-end_number Ready = 1
+end_number Ready = 33
 end_number (Stopped step fault) = step_number step
 
 -- the fault that stopped the cycle, or 0
@@ -53,12 +53,12 @@ end_fault (Stopped step fault) = fault_number fault
 -- # Verdicts.
 
 abbrev pub kind_number : Verdict → ℕ
-kind_number (Good role length) = 1
-kind_number NotFound = 2
-kind_number LimitReached = 3
-kind_number (RoleRefused role fault) = 4
-kind_number (FileRefused fault) = 5
-kind_number NotSearched = 6
+kind_number (Good role length) = 17
+kind_number NotFound = 18
+kind_number LimitReached = 19
+kind_number (RoleRefused role fault) = 20
+kind_number (FileRefused fault) = 21
+kind_number NotSearched = 22
 
 -- the fault, if there is one, or 0
 abbrev pub verdict_fault : Verdict → ℕ
@@ -110,13 +110,13 @@ role_names all = flat_map (λ a. a.role) all
 -- # Searches, before any target file is read.
 
 abbrev pub found_kind : Found → ℕ
-found_kind (found.Listed role t visited) = 1
-found_kind found.NotFound = 2
-found_kind found.LimitReached = 3
-found_kind (found.RoleRefused role fault) = 4
+found_kind (found.Listed role t visited) = 23
+found_kind found.NotFound = 18
+found_kind found.LimitReached = 19
+found_kind (found.RoleRefused role fault) = 20
 
 abbrev pub search_kind : Option Search → ℕ
-search_kind s = option_map_or (λ s. found_kind s.found) s 6
+search_kind s = option_map_or (λ s. found_kind s.found) s 22
 
 abbrev pub found_fault : Found → ℕ
 found_fault (found.RoleRefused role fault) = fault_number fault
@@ -165,8 +165,8 @@ listed_names all = flat_map search_role all
 -- # Files to fetch.
 
 abbrev pub place_number : Place → ℕ
-place_number place.Metadata = 1
-place_number place.Targets = 2
+place_number place.Metadata = 49
+place_number place.Targets = 50
 
 -- a file whose name begins at `at` in the names
 abbrev pub need_row : ℕ → Need → NeedRow

@@ -110,8 +110,8 @@ fn need_row(at: usize, need: &Need) -> NeedRow
 {
     NeedRow {
         place: match need.place {
-            Place::Metadata => 1,
-            Place::Targets => 2,
+            Place::Metadata => 49,
+            Place::Targets => 50,
         },
         optional: need.optional,
         most: need.most,

@@ -133,13 +133,13 @@ fn kind_of(search: &Option<Search>) -> (u32, u32)
     ensures fault { result.1 ≡ row.search_fault search.now }
 {
     let Some(search) = search else {
-        return (6, 0);
+        return (22, 0);
     };
     match &search.found {
-        Found::Listed { .. } => (1, 0),
-        Found::NotFound => (2, 0),
-        Found::LimitReached => (3, 0),
-        Found::RoleRefused { fault, .. } => (4, fault_number(*fault)),
+        Found::Listed { .. } => (23, 0),
+        Found::NotFound => (18, 0),
+        Found::LimitReached => (19, 0),
+        Found::RoleRefused { fault, .. } => (20, fault_number(*fault)),
     }
 }
 

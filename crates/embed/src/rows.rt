@@ -9,8 +9,8 @@ use cycle::{End, Fault, Step, Trusted};
 #[repr(C)]
 #[derive(Clone, Copy)]
 pub struct VerdictRow {
-    /// 1: the file is accepted; 2: no role lists it; 3: the search reached its limit; 4: a role's
-    /// file is refused; 5: the file is refused; 6: the cycle stopped before any search.
+    /// 17: the file is accepted; 18: no role lists it; 19: the search reached its limit; 20: a
+    /// role's file is refused; 21: the file is refused; 22: the cycle stopped before any search.
     pub kind: u32,
     /// The number of the fault of a refused file, or 0.
     pub fault: u32,
@@ -38,7 +38,7 @@ pub struct RoleRow {
 #[repr(C)]
 #[derive(Clone, Copy)]
 pub struct ListedRow {
-    /// As in [`VerdictRow`], where 1 is that a role lists the path. Never 5.
+    /// 23: a role lists the path; else 18, 19, 20 or 22, as in [`VerdictRow`].
     pub kind: u32,
     /// The number of the fault of a role's refused file, or 0.
     pub fault: u32,
@@ -62,7 +62,7 @@ pub struct ListedRow {
 #[repr(C)]
 #[derive(Clone, Copy)]
 pub struct NeedRow {
-    /// 1: a metadata file; 2: a target file.
+    /// 49: a metadata file; 50: a target file.
     pub place: u32,
     /// Whether the file may be absent for good, as the root of the next version.
     pub optional: bool,
@@ -78,7 +78,7 @@ pub struct NeedRow {
 #[repr(C)]
 #[derive(Clone, Copy)]
 pub struct Summary {
-    /// 1: ready; 2 to 5: stopped at the root, the timestamp, the snapshot or the targets.
+    /// 33: ready; 34 to 37: stopped at the root, the timestamp, the snapshot or the targets.
     pub end: u32,
     /// The number of the fault that stopped the cycle, or 0.
     pub fault: u32,
@@ -119,7 +119,7 @@ fn end_numbers(end: End) -> (u32, u32)
     ensures fault { result.1 ≡ spec.end_fault end }
 {
     match end {
-        End::Ready => (1, 0),
+        End::Ready => (33, 0),
         End::Stopped(step, fault) => (step_number(step), fault_number(fault)),
     }
 }
@@ -128,28 +128,28 @@ fn step_number(step: Step) -> u32
     ensures { result ≡ spec.step_number step }
 {
     match step {
-        Step::Root => 2,
-        Step::Timestamp => 3,
-        Step::Snapshot => 4,
-        Step::Targets => 5,
+        Step::Root => 34,
+        Step::Timestamp => 35,
+        Step::Snapshot => 36,
+        Step::Targets => 37,
     }
 }
 
-/// Returns the number of a fault, 1 to 11.
+/// Returns the number of a fault, 65 to 75.
 pub(crate) fn fault_number(fault: Fault) -> u32
     ensures { result ≡ spec.fault_number fault }
 {
     match fault {
-        Fault::NotListed => 1,
-        Fault::Missing => 2,
-        Fault::TooLong => 3,
-        Fault::LengthWrong => 4,
-        Fault::HashWrong => 5,
-        Fault::NoKnownHash => 6,
-        Fault::Malformed => 7,
-        Fault::Unsigned => 8,
-        Fault::VersionWrong => 9,
-        Fault::Rollback => 10,
-        Fault::Expired => 11,
+        Fault::NotListed => 65,
+        Fault::Missing => 66,
+        Fault::TooLong => 67,
+        Fault::LengthWrong => 68,
+        Fault::HashWrong => 69,
+        Fault::NoKnownHash => 70,
+        Fault::Malformed => 71,
+        Fault::Unsigned => 72,
+        Fault::VersionWrong => 73,
+        Fault::Rollback => 74,
+        Fault::Expired => 75,
     }
 }

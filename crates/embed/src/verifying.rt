@@ -138,12 +138,12 @@ fn verdict_row(at: usize, verdict: &Verdict) -> VerdictRow
     ensures { result ≡ row.verdict_row at verdict.now }
 {
     let (kind, fault, length) = match verdict {
-        Verdict::Good { length, .. } => (1, 0, *length),
-        Verdict::NotFound => (2, 0, 0),
-        Verdict::LimitReached => (3, 0, 0),
-        Verdict::RoleRefused { fault, .. } => (4, fault_number(*fault), 0),
-        Verdict::FileRefused(fault) => (5, fault_number(*fault), 0),
-        Verdict::NotSearched => (6, 0, 0),
+        Verdict::Good { length, .. } => (17, 0, *length),
+        Verdict::NotFound => (18, 0, 0),
+        Verdict::LimitReached => (19, 0, 0),
+        Verdict::RoleRefused { fault, .. } => (20, fault_number(*fault), 0),
+        Verdict::FileRefused(fault) => (21, fault_number(*fault), 0),
+        Verdict::NotSearched => (22, 0, 0),
     };
     VerdictRow {
         kind,

@@ -89,7 +89,7 @@ pub enum Fault {
     Unknown(u32),
 }
 
-/// The kind of a verdict.
+/// The kind of a verdict, or of a row of a listing.
 #[derive(Clone, Copy, Debug, PartialEq, Eq)]
 #[non_exhaustive]
 pub enum Kind {
@@ -105,6 +105,8 @@ pub enum Kind {
     FileRefused,
     /// The cycle stopped before any search.
     NotSearched,
+    /// In a listing: a role lists the path.
+    Listed,
     /// A number that this crate doesn't know.
     Unknown(u32),
 }
@@ -176,7 +178,7 @@ pub struct Outcome {
 #[derive(Clone, Debug, PartialEq, Eq)]
 #[non_exhaustive]
 pub struct Listed {
-    /// [`Kind::Accepted`] means here that a role lists the path.
+    /// [`Kind::Listed`], or why no role lists the path.
     pub kind: Kind,
     pub fault: Option<Fault>,
     pub length: u64,
@@ -474,31 +476,32 @@ fn status_of(result: i32) -> Result<Option<Status>, Error> {
 
 fn end_of(number: u32) -> End {
     match number {
-        1 => End::Ready,
-        2 => End::Root,
-        3 => End::Timestamp,
-        4 => End::Snapshot,
-        5 => End::Targets,
+        33 => End::Ready,
+        34 => End::Root,
+        35 => End::Timestamp,
+        36 => End::Snapshot,
+        37 => End::Targets,
         _ => End::Unknown(number),
     }
 }
 
 fn kind_of(number: u32) -> Kind {
     match number {
-        1 => Kind::Accepted,
-        2 => Kind::NotFound,
-        3 => Kind::LimitReached,
-        4 => Kind::RoleRefused,
-        5 => Kind::FileRefused,
-        6 => Kind::NotSearched,
+        17 => Kind::Accepted,
+        18 => Kind::NotFound,
+        19 => Kind::LimitReached,
+        20 => Kind::RoleRefused,
+        21 => Kind::FileRefused,
+        22 => Kind::NotSearched,
+        23 => Kind::Listed,
         _ => Kind::Unknown(number),
     }
 }
 
 fn place_of(number: u32) -> Place {
     match number {
-        1 => Place::Metadata,
-        2 => Place::Targets,
+        49 => Place::Metadata,
+        50 => Place::Targets,
         _ => Place::Unknown(number),
     }
 }
@@ -506,17 +509,17 @@ fn place_of(number: u32) -> Place {
 fn fault_of(number: u32) -> Option<Fault> {
     Some(match number {
         0 => return None,
-        1 => Fault::NotListed,
-        2 => Fault::Missing,
-        3 => Fault::TooLong,
-        4 => Fault::LengthWrong,
-        5 => Fault::HashWrong,
-        6 => Fault::NoKnownHash,
-        7 => Fault::Malformed,
-        8 => Fault::Unsigned,
-        9 => Fault::VersionWrong,
-        10 => Fault::Rollback,
-        11 => Fault::Expired,
+        65 => Fault::NotListed,
+        66 => Fault::Missing,
+        67 => Fault::TooLong,
+        68 => Fault::LengthWrong,
+        69 => Fault::HashWrong,
+        70 => Fault::NoKnownHash,
+        71 => Fault::Malformed,
+        72 => Fault::Unsigned,
+        73 => Fault::VersionWrong,
+        74 => Fault::Rollback,
+        75 => Fault::Expired,
         _ => Fault::Unknown(number),
     })
 }
@@ -527,10 +530,10 @@ mod tests {
 
     #[test]
     fn numbers_are_those_of_the_header() {
-        assert_eq!([1, 2, 5].map(end_of), [End::Ready, End::Root, End::Targets]);
-        assert_eq!([1, 2, 6].map(kind_of), [Kind::Accepted, Kind::NotFound, Kind::NotSearched]);
-        assert_eq!([1, 2].map(place_of), [Place::Metadata, Place::Targets]);
-        assert_eq!([1, 11].map(fault_of), [Some(Fault::NotListed), Some(Fault::Expired)]);
+        assert_eq!([33, 34, 37].map(end_of), [End::Ready, End::Root, End::Targets]);
+        assert_eq!([17, 22, 23].map(kind_of), [Kind::Accepted, Kind::NotSearched, Kind::Listed]);
+        assert_eq!([49, 50].map(place_of), [Place::Metadata, Place::Targets]);
+        assert_eq!([65, 75].map(fault_of), [Some(Fault::NotListed), Some(Fault::Expired)]);
         assert_eq!(fault_of(0), None);
         assert_eq!(status_of(0), Ok(Some(Status::Good)));
         assert_eq!(status_of(-6), Ok(None));
@@ -538,12 +541,12 @@ mod tests {
 
     #[test]
     fn unknown_numbers_are_unknown() {
-        for number in [0, 7, 12, u32::MAX] {
+        for number in [0, 1, 2, 76, u32::MAX] {
             assert_eq!(end_of(number), End::Unknown(number));
             assert_eq!(kind_of(number), Kind::Unknown(number));
             assert_eq!(place_of(number), Place::Unknown(number));
         }
-        assert_eq!(fault_of(12), Some(Fault::Unknown(12)));
+        assert_eq!(fault_of(76), Some(Fault::Unknown(76)));
         assert_eq!(fault_of(u32::MAX), Some(Fault::Unknown(u32::MAX)));
         for result in [3, -3, -7, i32::MIN, i32::MAX] {
             assert_eq!(status_of(result), Err(Error::Unknown(result)));
