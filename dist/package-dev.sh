@@ -6,9 +6,7 @@
 #
 # Both have libtufcheck.a and libtufcheck.so.1, the header, the pkg-config file, the Python module, the sources of the Rust
 # crates, the example updaters, the page on the library, and the licenses. The folder glibc-hwcaps/x86-64-v3 has the build
-# for x86-64-v3, whose libtufcheck.so.1 the loader takes on such a processor; the other build is for x86-64-v2. The library
-# contains an object of the Rattle kit (see the page); ALLOCATOR=none in the environment leaves it out, and then there is
-# no libtufcheck.so.1.
+# for x86-64-v3, whose libtufcheck.so.1 the loader takes on such a processor; the other build is for x86-64-v2.
 #
 # The same files make the same bytes: times are SOURCE_DATE_EPOCH or else the last commit's, the owner is 0, and names are
 # sorted. (Another gzip, tar, dpkg or linker may do otherwise.) The status is 0, or 1 if something is refused, which is
@@ -43,15 +41,14 @@ mkdir -p "$out" && rm -f "$out/$name.tar.gz" "$out/$deb" "$out/SHA256SUMS-dev" |
 
 # placed CPU FOLDER: one build of the library
 placed() {
-    install -D -m 644 "$work/$1/libtufcheck.a" "$2/libtufcheck.a" || return 1
-    [ ! -f "$work/$1/libtufcheck.so.1" ] || install -m 644 "$work/$1/libtufcheck.so.1" "$2/libtufcheck.so.1"
+    install -D -m 644 -t "$2" "$work/$1"/libtufcheck.{a,so.1}
 }
 
 # laid ROOT LIB PYTHON SHARE DOC INCLUDE LIBDIR: the files of a release below ROOT; the last two go into the pkg-config file
 laid() {
     local lib=$1/$2 doc=$1/$5 crate
     placed v2 "$lib" && placed v3 "$lib/glibc-hwcaps/x86-64-v3" || return 1
-    [ ! -f "$lib/libtufcheck.so.1" ] || ln -s libtufcheck.so.1 "$lib/libtufcheck.so" || return 1
+    ln -s libtufcheck.so.1 "$lib/libtufcheck.so" || return 1
     mkdir -p "$lib/pkgconfig" &&
         sed "s,@INCLUDE@,$6,; s,@LIB@,$7,; s,@VERSION@,$version," "$top/bindings/c/tufcheck.pc.in" > "$lib/pkgconfig/tufcheck.pc" &&
         install -D -m 644 "$top/bindings/c/tufcheck.h" "$1/include/tufcheck.h" &&
@@ -77,8 +74,7 @@ laid "$work/$name" lib python . . '${pcfiledir}/../../include' '${pcfiledir}/..'
 dated "$work/$name"
 tar -C "$work" --sort=name --format=ustar --owner=0 --group=0 --numeric-owner --mtime="@$when" -cf "$work/release.tar" "$name" || exit 1
 gzip -9n < "$work/release.tar" > "$out/$name.tar.gz" || exit 1
-[ "${ALLOCATOR:-}" = none ] ||
-    echo "note: the library contains the kit's object heap.pic.o; docs/EMBEDDING.md says what that means"
+echo "note: the library contains code of the kit's standard library; docs/EMBEDDING.md says what that means"
 
 if command -v dpkg-deb > "$work/found"; then
     root=$work/deb

@@ -7,7 +7,9 @@
 # PROGRAM in the environment name others. It needs cc and binutils. What is here of the rest is tried too: g++, pkg-config,
 # rustc, valgrind. What isn't is said in a line `not tried`.
 #
-#   1. The library shows the calls of the header and nothing else, and needs the C library's memory calls alone.
+#   1. The library shows the calls of the header and nothing else, and needs the C library's memory calls alone. Its allocator
+#      keeps sizes, alignments and bytes, and says that there is no block (library/heap.c); so does that of the kit, if `rt`
+#      is here.
 #   2. Each field of the header is where the library has it; the header is C99 and C++, without warnings.
 #   3. The example updaters of C, Python and Rust fetch repositories of examples/ from a folder, and verify them.
 #   4. Drawn histories (those of second.py) have the lines, the status and the state of the program, from Python and from C,
@@ -57,6 +59,19 @@ export TUFCHECK_LIBRARY=$work/lib/libtufcheck.so.1 PYTHONPATH=$top/bindings/pyth
 } > "$work/has"
 diff <(sed 's/ memcmp//' "$work/wanted") <(sed 's/ memcmp//' "$work/has") > "$work/seen"
 done_ $? "names: $(tail -1 "$work/has")"
+
+# allocates WHAT FILE..: whether these have the functions that library/heap.c tries
+allocates() {
+    local what=$1
+    shift
+    cc -std=c11 -Wall -Wextra -Werror -O1 -g -o "$work/heap" "$here/heap.c" "$@" -Wl,--wrap=malloc,--wrap=realloc > "$work/seen" 2>&1 &&
+        "$work/heap" > "$work/seen" 2>&1
+    done_ $? "$what"
+}
+allocates "the library's allocator" "$top/bindings/c/heap.c"
+if has rt "the kit's allocator"; then
+    allocates "the kit's allocator" "$(dirname "$(rt doc)")/c/liblibc_c.a"
+fi
 
 # 2. Layout.
 cc -std=c11 -Wall -Wextra -pedantic -Werror -c -o "$work/layout.o" "$top/bindings/c/layout.c" > "$work/seen" 2>&1
