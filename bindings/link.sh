@@ -4,8 +4,8 @@
 #   bindings/link.sh FOLDER [BUILT]
 #
 # FOLDER is made. BUILT is crates/tufcheck_c/out/libtufcheck_c.a unless given. The built library calls three functions for
-# memory: bindings/c/heap.c has them, over malloc, realloc and free. All becomes one object that shows only the calls of
-# the header.
+# memory: bindings/c/heap.c has them, over malloc, realloc and free. bindings/c/texts.c has the call tufcheck_text. All
+# becomes one object that shows only the calls of the header.
 #
 # It needs ar, ld, objcopy (binutils) and cc. It prints the names that the library shows and those that it needs. The status
 # is 0, 3 without FOLDER, or that of the command that failed.
@@ -21,8 +21,10 @@ work=$(mktemp -d)
 trap 'rm -rf "$work"' EXIT
 cd "$work"
 ar x "$built"
-cc -std=c99 -Wall -Wextra -pedantic -O2 -fPIC -c -o heap.o "$top/bindings/c/heap.c"
-ld -r -o tufcheck.o tufcheck_c.o heap.o
+for name in heap texts; do
+    cc -std=c99 -Wall -Wextra -pedantic -O2 -fPIC -c -o $name.o "$top/bindings/c/$name.c"
+done
+ld -r -o tufcheck.o tufcheck_c.o heap.o texts.o
 objcopy --wildcard --keep-global-symbol='tufcheck_*' tufcheck.o
 rm -f "$folder/libtufcheck.a"
 ar rcsD "$folder/libtufcheck.a" tufcheck.o

@@ -32,6 +32,20 @@ static void fail(const char *what, const char *why)
     exit(4);
 }
 
+/* Prints a name in quotes, without bytes that a terminal takes for commands. Whoever signs a
+ * delegated role writes names. */
+static void print_name(FILE *out, const uint8_t *name, size_t len)
+{
+    putc('"', out);
+    for (size_t i = 0; i < len; i++) {
+        if (name[i] >= 0x20 && name[i] < 0x7f && name[i] != '"' && name[i] != '\\')
+            putc(name[i], out);
+        else
+            fprintf(out, "\\x%02x", name[i]);
+    }
+    putc('"', out);
+}
+
 static void *room(size_t count, size_t size)
 {
     /* One more than is needed, so that the pointer is never null. */
@@ -125,8 +139,11 @@ static int fetch(const char *repository, const tufcheck_need *need, const uint8_
     char *path = room(strlen(repository) + strlen(folder) + need->name_len + 3, 1);
     sprintf(path, "%s/%s/%.*s", repository, folder, (int)need->name_len, (const char *)name);
     int error = read_file(path, need->most, into);
-    if (error != 0 && error != ENOENT)
-        fprintf(stderr, "example_updater: %s: %s\n", path, strerror(error));
+    if (error != 0 && error != ENOENT) {
+        fputs("example_updater: ", stderr);
+        print_name(stderr, (const uint8_t *)path, strlen(path));
+        fprintf(stderr, ": %s\n", strerror(error));
+    }
     free(path);
     return error == 0;
 }
@@ -162,10 +179,8 @@ static void next(const tufcheck_job *job, tufcheck_needs *needs)
         needs->names = room(needs->name_room, 1);
         result = tufcheck_next(job, needs);
     }
-    if (result < 0) {
-        fprintf(stderr, "example_updater: tufcheck_next: %" PRId32 "\n", result);
-        exit(4);
-    }
+    if (result < 0)
+        fail("tufcheck_next", tufcheck_text(result));
 }
 
 /* Fetches the files that are optional, or those that aren't. Returns how many were found. */
@@ -179,7 +194,9 @@ static size_t fetch_some(const char *repository, const tufcheck_needs *needs, in
         tufcheck_bytes bytes;
         if (need->optional != optional || !fetch(repository, need, name, &bytes))
             continue;
-        printf("fetched %.*s\n", (int)need->name_len, (const char *)name);
+        printf("fetched %s ", tufcheck_text((int32_t)need->place));
+        print_name(stdout, name, need->name_len);
+        putchar('\n');
         add(need->place == TUFCHECK_METADATA ? metadata : targets, name, need->name_len, bytes);
         found++;
     }
@@ -227,10 +244,8 @@ static int32_t verify(const tufcheck_job *job, tufcheck_answer *answer)
         answer->names = room(answer->name_room, 1);
         result = tufcheck_verify(job, answer);
     }
-    if (result < 0) {
-        fprintf(stderr, "example_updater: tufcheck_verify: %" PRId32 "\n", result);
-        exit(4);
-    }
+    if (result < 0)
+        fail("tufcheck_verify", tufcheck_text(result));
     return result;
 }
 
@@ -248,8 +263,9 @@ static tufcheck_bytes state_of(const char *root, const char *path)
     if (!begins)
         return state;
     uint8_t *text = room(2 * first.len + 64, 1);
-    if (tufcheck_first(first.data, first.len, text, 2 * first.len + 64, &state.len) != 0)
-        fail(root, "not a root file");
+    int32_t result = tufcheck_first(first.data, first.len, text, 2 * first.len + 64, &state.len);
+    if (result != 0)
+        fail(root, tufcheck_text(result));
     state.data = text;
     return state;
 }
@@ -300,18 +316,41 @@ static void install(const tufcheck_job *job, const tufcheck_bytes *path, const c
     free(place);
 }
 
+/* Prints the text of an end or a kind, and that of a fault. A fault of 0 is none. */
+static void print_texts(uint32_t number, uint32_t fault)
+{
+    fputs(tufcheck_text((int32_t)number), stdout);
+    if (fault != 0)
+        printf(": %s", tufcheck_text((int32_t)fault));
+}
+
+/* Prints a line for a wanted path. */
+static void print_verdict(const tufcheck_bytes *path, const tufcheck_verdict *row,
+                          const uint8_t *names)
+{
+    print_name(stdout, path->data, path->len);
+    fputs(": ", stdout);
+    print_texts(row->kind, row->fault);
+    if (row->kind == TUFCHECK_ACCEPTED)
+        printf(", %" PRIu64 " bytes", row->length);
+    if (row->role_len != 0) {
+        fputs(", role ", stdout);
+        print_name(stdout, names + row->role_at, row->role_len);
+    }
+    putchar('\n');
+}
+
 /* Prints the outcome, and installs what is accepted. */
 static void finish(const tufcheck_job *job, const tufcheck_answer *answer, const char *new,
                    const char *out)
 {
-    printf("root %" PRIu64 ", end %" PRIu32 ", fault %" PRIu32 "\n", answer->summary.root_version,
-           answer->summary.end, answer->summary.fault);
-    for (size_t i = 0; i < answer->summary.verdict_count; i++) {
-        const tufcheck_verdict *row = &answer->verdicts[i];
-        printf("%s: kind %" PRIu32 ", fault %" PRIu32 ", %" PRIu64 " bytes, role %.*s\n",
-               (const char *)job->wanted[i].data, row->kind, row->fault, row->length,
-               (int)row->role_len, (const char *)answer->names + row->role_at);
-        if (row->kind == TUFCHECK_ACCEPTED)
+    const tufcheck_summary *summary = &answer->summary;
+    printf("root %" PRIu64 ", ", summary->root_version);
+    print_texts(summary->end, summary->fault);
+    putchar('\n');
+    for (size_t i = 0; i < summary->verdict_count; i++) {
+        print_verdict(&job->wanted[i], &answer->verdicts[i], answer->names);
+        if (answer->verdicts[i].kind == TUFCHECK_ACCEPTED)
             install(job, &job->wanted[i], new, out);
     }
 }

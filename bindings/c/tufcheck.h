@@ -226,6 +226,12 @@ typedef struct tufcheck_needs {
 /* The version of the library, as that of this header. */
 uint32_t tufcheck_version(void);
 
+/* The text of a result, end, kind, fault or place, in English and in ASCII, with a NUL at its end;
+ * of any other number "unknown number". It is never null, stays as long as the library is loaded,
+ * and isn't to be freed. Its words may change from version to version: compare numbers. The texts of
+ * 0, 1 and 2 are true of each call, and that of 0 also of a fault that is 0. */
+const char *tufcheck_text(int32_t number);
+
 /* Writes the text of the state of a first root, which the caller trusts, to state, and its length
  * to len. Returns 0, TUFCHECK_NO_STATE, TUFCHECK_NO_MEMORY or TUFCHECK_NO_ROOM; for the last one len
  * is the length of the text. Twice the length of the root and 64 is always room enough. */

@@ -12,6 +12,7 @@ repositories are signed by the Python beside this script. In short:
   - a state that can't be read is an error, and never begins anew; one that can't be written stays as it was, and then
     nothing is installed;
   - a wanted path with a part that is empty, `.` or `..` is a usage error, and a metadata file of such a name isn't fetched;
+  - no control character of a name is printed;
   - of `a` and `a/b` one is installed, or both aren't, with a status that isn't 0.
 
 It prints a line for each case and updater: `ok`, `fail` with what was seen, or `not tried` with what is missing. Cases that
@@ -26,6 +27,7 @@ import shutil
 import subprocess
 import sys
 import tempfile
+import unicodedata
 
 sys.path.insert(0, os.path.dirname(os.path.dirname(os.path.abspath(__file__))))
 import tuf
@@ -121,7 +123,9 @@ class Run:
     def __call__(self, folder, *paths, state="state"):
         words = [*self.words, f"{folder}/metadata/1.root.json", state, folder, MOMENT, "out", *paths]
         done = subprocess.run(words, stdout=subprocess.PIPE, stderr=subprocess.STDOUT, timeout=600)
-        self.status, self.said = done.returncode, done.stdout.decode(errors="replace").strip().replace("\n", "; ")
+        text = done.stdout.decode(errors="replace")
+        self.status, self.said = done.returncode, text.strip().replace("\n", "; ")
+        want(not any(unicodedata.category(it) == "Cc" and it != "\n" for it in text), f"printed {text!r}")
 
     def wants(self, status, installed):
         want(self.status == status, f"status {self.status}, not {status}: {self.said}")
@@ -247,6 +251,13 @@ def role(run, name):
     run.wants(1, {})
 
 
+def controls(run):
+    """A role whose name has control characters."""
+    delegated("repo", "\x1b[2J\u009b2J\x7flow")
+    run("repo", "p")
+    run.wants(0, {"p": b"low"})
+
+
 def beside(run, paths):
     """`a` and `a/b`, whose files are both there."""
     contents = {"a": b"one", "a/b": b"two"}
@@ -287,6 +298,7 @@ def cases():
     yield "wanted paths that lead elsewhere", strange
     for name in ROLES:
         yield f"a role `{name}`", lambda run: role(run, name)
+    yield "a role whose name has control characters", controls
     for paths in (("a", "a/b"), ("a/b", "a")):
         yield f"`{paths[1]}` beside `{paths[0]}`", lambda run: beside(run, paths)
         yield f"`{paths[1]}` beside `{paths[0]}`, one file", lambda run: beside_plain(run, paths)

@@ -10,7 +10,8 @@
 #   1. The library shows the calls of the header and nothing else, and needs the C library's memory calls alone. Its allocator
 #      keeps sizes, alignments and bytes, and says that there is no block (library/heap.c); so does that of the kit, if `rt`
 #      is here.
-#   2. Each field of the header is where the library has it; the header is C99 and C++, without warnings.
+#   2. Each field of the header is where the library has it; the header is C99 and C++, without warnings. Each number of the
+#      header has a text of its own, and no other number has one (library/texts.c).
 #   3. The example updaters of C, Python and Rust fetch repositories of examples/ from a folder, and verify them.
 #   4. Drawn histories (those of second.py) have the lines, the status and the state of the program, from Python and from C,
 #      with bytes, with digests and after fetching (library/compare.py).
@@ -50,7 +51,7 @@ export TUFCHECK_LIBRARY=$work/lib/libtufcheck.so.1 PYTHONPATH=$top/bindings/pyth
 
 # 1. Names.
 {
-    for name in first list next verify version; do echo "shows tufcheck_$name"; done
+    for name in first list next text verify version; do echo "shows tufcheck_$name"; done
     echo "needs free malloc memcmp memcpy memmove memset realloc"
 } > "$work/wanted"
 {
@@ -83,6 +84,11 @@ if has g++ "header in C++"; then
     g++ -std=c++98 -x c++ -Wall -Wextra -Werror -Wno-long-long -I "$top/bindings/c" -c -o "$work/header.o" "$work/header.c" > "$work/seen" 2>&1
     done_ $? "header in C++"
 fi
+cc -std=c99 -Wall -Wextra -pedantic -Werror -I "$top/bindings/c" -o "$work/texts" "$here/texts.c" "$work/lib/libtufcheck.a" > "$work/seen" 2>&1 &&
+    sed -n 's/^    TUFCHECK_[A-Z_]* = \(-*[0-9]*\).*/\1/p' "$top/bindings/c/tufcheck.h" | sort -n > "$work/wanted" &&
+    "$work/texts" > "$work/has" && diff "$work/wanted" <(cut -f 1 "$work/has") > "$work/seen" &&
+    [ -z "$(cut -f 2 "$work/has" | sort | uniq -d | tee "$work/seen")" ]
+done_ $? "texts: $(wc -l < "$work/has") numbers"
 
 # 3. Examples.
 flags="-I$top/bindings/c -L$work/lib -ltufcheck"
