@@ -22,7 +22,7 @@ trap 'rm -rf "$work"' EXIT
 cd "$work"
 ar x "$built"
 for name in heap texts; do
-    cc -std=c99 -Wall -Wextra -pedantic -O2 -fPIC -c -o $name.o "$top/bindings/c/$name.c"
+    cc -std=c99 -Wall -Wextra -pedantic -O2 -fPIC -fvisibility=hidden -c -o $name.o "$top/bindings/c/$name.c"
 done
 ld -r -o tufcheck.o tufcheck_c.o heap.o texts.o
 objcopy --wildcard --keep-global-symbol='tufcheck_*' tufcheck.o

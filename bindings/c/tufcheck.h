@@ -1,5 +1,5 @@
 /* tufcheck: verifies a repository of The Update Framework (TUF 1.0) with LMS signatures (RFC 8554),
- * from files that the caller has in memory. C99 and C++.
+ * from files that the caller has in memory. In C from C89 on, with stdint.h, and in C++.
  *
  * An updater calls tufcheck_first once, with the root file that it was shipped with, and keeps the
  * state. For each update it calls tufcheck_next, fetches the files that this names, adds them to
@@ -28,8 +28,41 @@
 #include <stddef.h>
 #include <stdint.h>
 
+/* What stands before a call and behind it. A compiler that knows these attributes warns if a result
+ * isn't looked at, or if a pointer is null. In C++ no call throws. */
+#ifndef TUFCHECK_API
+#if defined(__GNUC__)
+#define TUFCHECK_API __attribute__((visibility("default")))
+#else
+#define TUFCHECK_API
+#endif
+#endif
+#if defined(__GNUC__)
+#define TUFCHECK_RESULT __attribute__((warn_unused_result))
+#define TUFCHECK_NONNULL __attribute__((nonnull))
+#else
+#define TUFCHECK_RESULT
+#define TUFCHECK_NONNULL
+#endif
+#if defined(__cplusplus) && __cplusplus >= 201103L
+#define TUFCHECK_NOEXCEPT noexcept
+#elif defined(__cplusplus)
+#define TUFCHECK_NOEXCEPT throw()
+#else
+#define TUFCHECK_NOEXCEPT
+#endif
+
+/* A pointer for a length or a count of 0. */
 #ifdef __cplusplus
+extern "C++" {
+struct tufcheck_nothing {
+    template <typename T> operator T *() const { return reinterpret_cast<T *>(16); }
+};
+}
+#define TUFCHECK_NOTHING tufcheck_nothing()
 extern "C" {
+#else
+#define TUFCHECK_NOTHING ((void *)16)
 #endif
 
 /* The version of this header: 1,000,000 times its first number, 1,000 times its second number, and
@@ -37,9 +70,6 @@ extern "C" {
  * equal. */
 #define TUFCHECK_VERSION 1000000
 #define TUFCHECK_VERSION_TEXT "1.0.0"
-
-/* A pointer for a length or a count of 0. */
-#define TUFCHECK_NOTHING ((void *)16)
 
 /* No text of a state is longer, in bytes. Nor is it longer than that of the state before and twice
  * all metadata files of the job, and 64. */
@@ -224,32 +254,36 @@ typedef struct tufcheck_needs {
 } tufcheck_needs;
 
 /* The version of the library, as that of this header. */
-uint32_t tufcheck_version(void);
+TUFCHECK_API TUFCHECK_RESULT uint32_t tufcheck_version(void) TUFCHECK_NOEXCEPT;
 
 /* The text of a result, end, kind, fault or place, in English and in ASCII, with a NUL at its end;
  * of any other number "unknown number". It is never null, stays as long as the library is loaded,
  * and isn't to be freed. Its words may change from version to version: compare numbers. The texts of
  * 0, 1 and 2 are true of each call, and that of 0 also of a fault that is 0. */
-const char *tufcheck_text(int32_t number);
+TUFCHECK_API TUFCHECK_RESULT const char *tufcheck_text(int32_t number) TUFCHECK_NOEXCEPT;
 
 /* Writes the text of the state of a first root, which the caller trusts, to state, and its length
  * to len. Returns 0, TUFCHECK_NO_STATE, TUFCHECK_NO_MEMORY or TUFCHECK_NO_ROOM; for the last one len
  * is the length of the text. Twice the length of the root and 64 is always room enough. */
-int32_t tufcheck_first(const uint8_t *root, size_t root_len, uint8_t *state, size_t state_room,
-                       size_t *len);
+TUFCHECK_API TUFCHECK_RESULT TUFCHECK_NONNULL int32_t
+tufcheck_first(const uint8_t *root, size_t root_len, uint8_t *state, size_t state_room,
+               size_t *len) TUFCHECK_NOEXCEPT;
 
 /* Returns which files the cycle looked up in the job and didn't find: 1 if some of them isn't
  * optional, else 2 if the cycle stopped, else 0. Fetch the optional ones first: with one of them,
  * others may no longer be needed. The names come from metadata, which a stranger may have written: a
  * caller that opens files must refuse names that lead out of its folder. */
-int32_t tufcheck_next(const tufcheck_job *job, tufcheck_needs *needs);
+TUFCHECK_API TUFCHECK_RESULT TUFCHECK_NONNULL int32_t
+tufcheck_next(const tufcheck_job *job, tufcheck_needs *needs) TUFCHECK_NOEXCEPT;
 
 /* Returns what roles list of the wanted paths, without looking at target files: 0 if the cycle is
  * ready and all are listed, 1 if it is ready and some is not, 2 if it stopped. */
-int32_t tufcheck_list(const tufcheck_job *job, tufcheck_listing *listing);
+TUFCHECK_API TUFCHECK_RESULT TUFCHECK_NONNULL int32_t
+tufcheck_list(const tufcheck_job *job, tufcheck_listing *listing) TUFCHECK_NOEXCEPT;
 
 /* Verifies the job: runs one cycle of the client workflow, and writes the outcome to answer. */
-int32_t tufcheck_verify(const tufcheck_job *job, tufcheck_answer *answer);
+TUFCHECK_API TUFCHECK_RESULT TUFCHECK_NONNULL int32_t
+tufcheck_verify(const tufcheck_job *job, tufcheck_answer *answer) TUFCHECK_NOEXCEPT;
 
 #ifdef __cplusplus
 }

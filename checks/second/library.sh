@@ -4,14 +4,14 @@
 #   checks/second/library.sh [COUNT]      1,000 histories unless given
 #
 # `rt lib` in crates/tufcheck_c proves and builds the library, and `rt run` in crates/tufcheck the program; LIBRARY and
-# PROGRAM in the environment name others. It needs cc and binutils. What is here of the rest is tried too: g++, pkg-config,
-# rustc, valgrind. What isn't is said in a line `not tried`.
+# PROGRAM in the environment name others. It needs cc and binutils. What is here of the rest is tried too: g++, clang,
+# pkg-config, rustc, valgrind. What isn't is said in a line `not tried`.
 #
 #   1. The library shows the calls of the header and nothing else, and needs the C library's memory calls alone. Its allocator
 #      keeps sizes, alignments and bytes, and says that there is no block (library/heap.c); so does that of the kit, if `rt`
 #      is here.
-#   2. Each field of the header is where the library has it; the header is C99 and C++, without warnings. Each number of the
-#      header has a text of its own, and no other number has one (library/texts.c).
+#   2. Each field of the header is where the library has it; the header compiles without warnings in each standard of C and C++
+#      (library/standards.sh). Each number of the header has a text of its own, and no other number has one (library/texts.c).
 #   3. The example updaters of C, Python and Rust fetch repositories of examples/ from a folder, and verify them.
 #   4. Drawn histories (those of second.py) have the lines, the status and the state of the program, from Python and from C,
 #      with bytes, with digests and after fetching (library/compare.py).
@@ -77,13 +77,9 @@ fi
 # 2. Layout.
 cc -std=c11 -Wall -Wextra -pedantic -Werror -c -o "$work/layout.o" "$top/bindings/c/layout.c" > "$work/seen" 2>&1
 done_ $? "layout"
-echo '#include "tufcheck.h"' > "$work/header.c"
-cc -std=c99 -Wall -Wextra -pedantic -Werror -I "$top/bindings/c" -c -o "$work/header.o" "$work/header.c" > "$work/seen" 2>&1
-done_ $? "header in C99"
-if has g++ "header in C++"; then
-    g++ -std=c++98 -x c++ -Wall -Wextra -Werror -Wno-long-long -I "$top/bindings/c" -c -o "$work/header.o" "$work/header.c" > "$work/seen" 2>&1
-    done_ $? "header in C++"
-fi
+"$here/standards.sh" > "$work/seen" 2>&1
+done_ $? "header in $(grep -c '^ok [^:]*$' "$work/seen") standards of gcc and clang"
+grep '^not tried' "$work/seen"
 cc -std=c99 -Wall -Wextra -pedantic -Werror -I "$top/bindings/c" -o "$work/texts" "$here/texts.c" "$work/lib/libtufcheck.a" > "$work/seen" 2>&1 &&
     sed -n 's/^    TUFCHECK_[A-Z_]* = \(-*[0-9]*\).*/\1/p' "$top/bindings/c/tufcheck.h" | sort -n > "$work/wanted" &&
     "$work/texts" > "$work/has" && diff "$work/wanted" <(cut -f 1 "$work/has") > "$work/seen" &&
