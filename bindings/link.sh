@@ -1,18 +1,20 @@
 #!/bin/bash
-# Makes libtufcheck.a, libtufcheck.so.1 and tufcheck.pc of the static library that `rt lib` built in crates/tufcheck_c.
+# Makes libtufcheck.a, libtufcheck.so.VERSION and tufcheck.pc of the static library that `rt lib` built in
+# crates/tufcheck_c.
 #
 #   bindings/link.sh FOLDER [BUILT]
 #
 # FOLDER is made. BUILT is crates/tufcheck_c/out/libtufcheck_c.a unless given. The built library calls three functions for
 # memory: bindings/c/heap.c has them, over malloc, realloc and free. bindings/c/texts.c has the call tufcheck_text. All
-# becomes one object that shows only the calls of the header.
+# becomes one object that shows only the calls of the header; in the shared library they have the version that
+# bindings/c/libtufcheck.map names. The links libtufcheck.so.1 and libtufcheck.so lead to it.
 #
 # It needs ar, ld, objcopy (binutils) and cc. It prints the names that the library shows and those that it needs. The status
 # is 0, 3 without FOLDER, or that of the command that failed.
 set -euo pipefail
 export LC_ALL=C
 top=$(cd "$(dirname "$0")/.." && pwd)
-[ $# -ge 1 ] || { sed -n '2,4p' "$0"; exit 3; }
+[ $# -ge 1 ] || { sed -n '2,5p' "$0"; exit 3; }
 mkdir -p "$1"
 folder=$(cd "$1" && pwd)
 built=$(realpath "${2:-$top/crates/tufcheck_c/out/libtufcheck_c.a}")
@@ -28,8 +30,13 @@ ld -r -o tufcheck.o tufcheck_c.o heap.o texts.o
 objcopy --wildcard --keep-global-symbol='tufcheck_*' tufcheck.o
 rm -f "$folder/libtufcheck.a"
 ar rcsD "$folder/libtufcheck.a" tufcheck.o
-cc -shared -o "$folder/libtufcheck.so.1" tufcheck.o -Wl,-z,defs,-z,now,-z,relro -Wl,-soname,libtufcheck.so.1 -Wl,--build-id=none
-ln -sf libtufcheck.so.1 "$folder/libtufcheck.so"
-sed "s,@INCLUDE@,$top/bindings/c,; s,@LIB@,$folder,; s,@VERSION@,$version," "$top/bindings/c/tufcheck.pc.in" > "$folder/tufcheck.pc"
+shared=libtufcheck.so.$version soname=libtufcheck.so.${version%%.*}
+rm -f "$folder/$shared" "$folder/$soname" "$folder/libtufcheck.so"
+cc -shared -o "$folder/$shared" tufcheck.o -Wl,--version-script,"$top/bindings/c/libtufcheck.map" -Wl,-z,defs,-z,now,-z,relro \
+    -Wl,-soname,"$soname" -Wl,--build-id=none
+ln -s "$shared" "$folder/$soname"
+ln -s "$soname" "$folder/libtufcheck.so"
+sed "s,@PREFIX@,$folder,; s,@INCLUDE@,$top/bindings/c,; s,@LIB@,\${prefix},; s,@VERSION@,$version," "$top/bindings/c/tufcheck.pc.in" \
+    > "$folder/tufcheck.pc"
 nm -g --defined-only "$folder/libtufcheck.a" | awk 'NF == 3 { print "shows", $3 }'
 nm -u "$folder/libtufcheck.a" | awk 'NF == 2 { print "needs", $2 }'

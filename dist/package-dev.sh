@@ -44,13 +44,13 @@ placed() {
     install -D -m 644 -t "$2" "$work/$1"/libtufcheck.{a,so.1}
 }
 
-# laid ROOT LIB PYTHON SHARE DOC INCLUDE LIBDIR: the files of a release below ROOT; the last two go into the pkg-config file
+# laid ROOT LIB PYTHON SHARE DOC PREFIX: the files of a release below ROOT; PREFIX, with LIB, goes into the pkg-config file
 laid() {
     local lib=$1/$2 doc=$1/$5 crate
     placed v2 "$lib" && placed v3 "$lib/glibc-hwcaps/x86-64-v3" || return 1
     ln -s libtufcheck.so.1 "$lib/libtufcheck.so" || return 1
     mkdir -p "$lib/pkgconfig" &&
-        sed "s,@INCLUDE@,$6,; s,@LIB@,$7,; s,@VERSION@,$version," "$top/bindings/c/tufcheck.pc.in" > "$lib/pkgconfig/tufcheck.pc" &&
+        sed "s,@PREFIX@,$6,; s,@INCLUDE@,\${prefix}/include,; s,@LIB@,\${prefix}/$2,; s,@VERSION@,$version," "$top/bindings/c/tufcheck.pc.in" > "$lib/pkgconfig/tufcheck.pc" &&
         install -D -m 644 "$top/bindings/c/tufcheck.h" "$1/include/tufcheck.h" &&
         install -D -m 644 -t "$1/$3/tufcheck" "$top"/bindings/python/tufcheck/{__init__.py,py.typed} || return 1
     for crate in tufcheck-sys tufcheck; do
@@ -70,7 +70,7 @@ dated() {
 }
 
 # shellcheck disable=SC2016
-laid "$work/$name" lib python . . '${pcfiledir}/../../include' '${pcfiledir}/..' || refused "a file of the release is missing"
+laid "$work/$name" lib python . . '${pcfiledir}/../..' || refused "a file of the release is missing"
 dated "$work/$name"
 tar -C "$work" --sort=name --format=ustar --owner=0 --group=0 --numeric-owner --mtime="@$when" -cf "$work/release.tar" "$name" || exit 1
 gzip -9n < "$work/release.tar" > "$out/$name.tar.gz" || exit 1
@@ -78,8 +78,7 @@ echo "note: the library contains code of the kit's standard library; docs/EMBEDD
 
 if command -v dpkg-deb > "$work/found"; then
     root=$work/deb
-    laid "$root/usr" lib/x86_64-linux-gnu lib/python3/dist-packages share/libtufcheck-dev share/doc/libtufcheck-dev /usr/include \
-        /usr/lib/x86_64-linux-gnu || refused "a file of the release is missing"
+    laid "$root/usr" lib/x86_64-linux-gnu lib/python3/dist-packages share/libtufcheck-dev share/doc/libtufcheck-dev /usr || refused "a file of the release is missing"
     least=$(objdump -T "$work"/v[23]/libtufcheck.so.1 2> "$work/found" | grep -o 'GLIBC_[0-9.]*' | sort -u -V | tail -1)
     mkdir "$root/DEBIAN" || exit 1
     (cd "$root" && find usr -type f | sort | xargs md5sum) > "$root/DEBIAN/md5sums" || exit 1

@@ -7,9 +7,9 @@
 # PROGRAM in the environment name others. It needs cc and binutils. What is here of the rest is tried too: g++, clang,
 # pkg-config, rustc, valgrind. What isn't is said in a line `not tried`.
 #
-#   1. The library shows the calls of the header and nothing else, and needs the C library's memory calls alone. Its allocator
-#      keeps sizes, alignments and bytes, and says that there is no block (library/heap.c); so does that of the kit, if `rt`
-#      is here.
+#   1. The library shows the calls of the header and nothing else, and needs the C library's memory calls alone; in the
+#      shared library each has the version TUFCHECK_1. Its allocator keeps sizes, alignments and bytes, and says that there is
+#      no block (library/heap.c); so does that of the kit, if `rt` is here.
 #   2. Each field of the header is where the library has it; the header compiles without warnings in each standard of C and C++
 #      (library/standards.sh). Each number of the header has a text of its own, and no other number has one (library/texts.c).
 #   3. The example updaters of C, Python and Rust fetch repositories of examples/ from a folder, and verify them.
@@ -60,6 +60,12 @@ export TUFCHECK_LIBRARY=$work/lib/libtufcheck.so.1 PYTHONPATH=$top/bindings/pyth
 } > "$work/has"
 diff <(sed 's/ memcmp//' "$work/wanted") <(sed 's/ memcmp//' "$work/has") > "$work/seen"
 done_ $? "names: $(tail -1 "$work/has")"
+
+for name in first list next text verify version; do echo "tufcheck_$name@@TUFCHECK_1"; done > "$work/wanted"
+nm -D --defined-only "$work/lib/libtufcheck.so.1" | awk '$2 == "T" { print $3 }' | sort | diff "$work/wanted" - > "$work/seen" &&
+    readelf -d "$work/lib/libtufcheck.so" > "$work/seen" && grep -q 'soname: \[libtufcheck.so.1\]' "$work/seen" &&
+    [[ $(readlink -f "$work/lib/libtufcheck.so") == */libtufcheck.so.1.*.* ]]
+done_ $? "names and their version in the shared library"
 
 # allocates WHAT FILE..: whether these have the functions that library/heap.c tries
 allocates() {
