@@ -5,13 +5,14 @@
 #
 # `rt lib` in crates/tufcheck_c proves and builds the library, and `rt run` in crates/tufcheck the program; LIBRARY and
 # PROGRAM in the environment name others. It needs cc and binutils. What is here of the rest is tried too: g++, clang,
-# pkg-config, rustc, valgrind. What isn't is said in a line `not tried`.
+# pkg-config, man, rustc, valgrind. What isn't is said in a line `not tried`.
 #
 #   1. The library shows the calls of the header and nothing else, and needs the C library's memory calls alone; in the
 #      shared library each has the version TUFCHECK_1. Its allocator keeps sizes, alignments and bytes, and says that there is
 #      no block (library/heap.c); so does that of the kit, if `rt` is here.
 #   2. Each field of the header is where the library has it; the header compiles without warnings in each standard of C and C++
 #      (library/standards.sh). Each number of the header has a text of its own, and no other number has one (library/texts.c).
+#      Each call has a man page, which declares it as the header does.
 #   3. The example updaters of C, Python and Rust fetch repositories of examples/ from a folder, and verify them.
 #   4. Drawn histories (those of second.py) have the lines, the status and the state of the program, from Python and from C,
 #      with bytes, with digests and after fetching (library/compare.py).
@@ -91,6 +92,20 @@ cc -std=c99 -Wall -Wextra -pedantic -Werror -I "$top/bindings/c" -o "$work/texts
     "$work/texts" > "$work/has" && diff "$work/wanted" <(cut -f 1 "$work/has") > "$work/seen" &&
     [ -z "$(cut -f 2 "$work/has" | sort | uniq -d | tee "$work/seen")" ]
 done_ $? "texts: $(wc -l < "$work/has") numbers"
+
+# Each call has a page, and each page that isn't a link has the declarations of the header.
+if has man "man pages"; then
+    mkdir -p "$work/man/man3" && cp "$top"/bindings/c/man/*.3 "$work/man/man3"
+    : > "$work/seen"
+    for name in first list next text verify version; do
+        MANPAGER=cat MANWIDTH=200 man --warnings -M "$work/man" "tufcheck_$name" > "$work/page" 2>> "$work/seen"
+        tr -s ' \n' ' ' < "$top/bindings/c/tufcheck.h" | grep -o "[a-z0-9_]* \(char \*\)\?tufcheck_$name([^)]*)" | head -1 > "$work/wanted"
+        tr -s ' \n' ' ' < "$work/page" | grep -q -F -f "$work/wanted" ||
+            echo "tufcheck_$name isn't declared as $(cat "$work/wanted")" >> "$work/seen"
+    done
+    [ ! -s "$work/seen" ]
+    done_ $? "man pages"
+fi
 
 # 3. Examples.
 flags="-I$top/bindings/c -L$work/lib -ltufcheck"
