@@ -11,8 +11,8 @@
 # shell that is here, the libraries, and with strace every file that the program opens. For the package also the operator's
 # scripts, page and unit. Then the program runs in a root
 # folder that has nothing but it and its libraries (for the superuser, or where user namespaces are allowed), and the
-# release is packaged again from the unpacked program, which must make the same bytes. Last, dist/halves.sh compares the two
-# builds.
+# release is packaged again from the unpacked program, which must make the same bytes. dist/halves.sh compares the two builds.
+# Last, dist/check-dev.sh tries the library's release, if it is in the folder.
 set -u
 export LC_ALL=C
 top=$(cd "$(dirname "$0")/.." && pwd) || exit 1
@@ -232,11 +232,16 @@ else
     echo "not tried a session in a bare root folder: chroot isn't allowed"
 fi
 SOURCE_DATE_EPOCH=$(stat -c %Y "$root/bin/tufcheck") "$top/dist/package.sh" "$root/bin/tufcheck" "$work/again" > "$work/found" 2> "$work/seen" &&
-    diff -r -x build -x '*-dev*' -x 'libtufcheck*' "$from" "$work/again" > "$work/seen" 2>&1
+    diff -r -x build -x '*-dev*' -x 'libtufcheck*' -x 'python3-*' "$from" "$work/again" > "$work/seen" 2>&1
 report $? "packaged again, the release has the same bytes"
 if [ -d "$from/build" ]; then
     "$top/dist/halves.sh" "$from/build" || failed=1
 else
     echo "not tried the two builds: no $from/build"
+fi
+if [ -f "$from/SHA256SUMS-dev" ]; then
+    "$top/dist/check-dev.sh" "$from" || failed=1
+else
+    echo "not tried the library's release: no $from/SHA256SUMS-dev"
 fi
 exit $failed

@@ -1,23 +1,28 @@
 #!/bin/bash
-# Makes a release of the library for other languages: a tarball and the Debian package libtufcheck-dev, and SHA256SUMS-dev of
-# both.
+# Makes a release of the library for other languages: a tarball, three Debian packages, and SHA256SUMS-dev of them.
 #
 #   dist/package-dev.sh [BUILT [FOLDER]]      what dist/build.sh built and dist/out unless given
 #
-# Both have libtufcheck.a and libtufcheck.so.1, the header, the pkg-config file, the Python module, the sources of the Rust
-# crates, the example updaters, the page on the library, and the licenses. The folder glibc-hwcaps/x86-64-v3 has the build
-# for x86-64-v3, whose libtufcheck.so.1 the loader takes on such a processor; the other build is for x86-64-v2.
+#   libtufcheck1        the shared library, with its symbols file
+#   libtufcheck-dev     the static library, the header, the pkg-config file, the man pages, the sources of the Rust crates, the
+#                       example updater in C and the page on the library
+#   python3-tufcheck    the Python module, and its example updater
+#
+# The tarball has all of that. The folder glibc-hwcaps/x86-64-v3 has the build for x86-64-v3, whose libtufcheck.so.1 the
+# loader takes on such a processor; the other build is for x86-64-v2. dist/debian has the symbols file and the scripts of
+# packages.
 #
 # The same files make the same bytes: times are SOURCE_DATE_EPOCH or else the last commit's, the owner is 0, and names are
 # sorted. (Another gzip, tar, dpkg or linker may do otherwise.) The status is 0, or 1 if something is refused, which is
-# printed. Without dpkg-deb the tarball alone is made, and the status is 1.
+# printed. Needs cc and binutils. Without dpkg-deb the tarball alone is made, and the status is 1.
 set -u
 version=1.0.0
 umask 022
 export LC_ALL=C
 top=$(cd "$(dirname "$0")/.." && pwd) || exit 1
 built=${1:-$top/dist/out/build} out=${2:-$top/dist/out}
-name=libtufcheck-$version-x86_64-linux deb=libtufcheck-dev_${version}_amd64.deb
+name=libtufcheck-$version-x86_64-linux
+lib=lib/x86_64-linux-gnu packages="libtufcheck1 libtufcheck-dev python3-tufcheck"
 work=$(mktemp -d) || exit 1
 trap 'rm -rf "$work"' EXIT
 
@@ -27,41 +32,75 @@ refused() {
     exit 1
 }
 
-for tool in ar gzip tar sha256sum; do
+for tool in ar cc gzip nm strip tar sha256sum; do
     command -v $tool > "$work/found" || refused "$tool is missing"
 done
+# What the symbols file says that the library shows.
+sed -n 's/^ \([^ ]*\)@\([^ ]*\) .*/\1@@\2/p' "$top/dist/debian/libtufcheck1.symbols" | grep -v '^TUFCHECK' > "$work/symbols"
 for cpu in v2 v3; do
     library=$built/libtufcheck_c-$cpu.a
     [ -f "$library" ] || refused "no library at $library: dist/build.sh builds it"
     "$top/bindings/link.sh" "$work/$cpu" "$library" > "$work/names" 2>&1 || refused "the library can't be linked: $(cat "$work/names")"
+    strip --strip-unneeded -R .comment "$work/$cpu/libtufcheck.so.$version" &&
+        strip -D --strip-debug -R .comment "$work/$cpu/libtufcheck.a" || refused "the library can't be stripped"
+    chmod 644 "$work/$cpu/libtufcheck.so.$version"
+    nm -D --defined-only "$work/$cpu/libtufcheck.so.1" | awk '$2 == "T" { print $3 }' | sort | diff "$work/symbols" - > "$work/seen" ||
+        refused "libtufcheck1.symbols isn't what the library shows: $(cat "$work/seen")"
 done
 when=${SOURCE_DATE_EPOCH:-$(git -C "$top" log -1 --format=%ct 2> "$work/found")}
 [[ $when =~ ^[0-9]+$ ]] || refused "no date: give SOURCE_DATE_EPOCH, or package in a clone with git"
-mkdir -p "$out" && rm -f "$out/$name.tar.gz" "$out/$deb" "$out/SHA256SUMS-dev" || exit 1
+mkdir -p "$out" && rm -f "$out/$name.tar.gz" "$out/SHA256SUMS-dev" || exit 1
+for package in $packages; do
+    rm -f "$out/${package}_${version}"_*.deb
+done
 
-# placed CPU FOLDER: one build of the library
-placed() {
-    install -D -m 644 -t "$2" "$work/$1"/libtufcheck.{a,so.1}
+# shared CPU FOLDER: the shared library of one build, with its link
+shared() {
+    mkdir -p "$2" && cp -P "$work/$1"/libtufcheck.so.1* "$2"
 }
 
-# laid ROOT LIB PYTHON SHARE DOC PREFIX: the files of a release below ROOT; PREFIX, with LIB, goes into the pkg-config file
-laid() {
-    local lib=$1/$2 doc=$1/$5 crate
-    placed v2 "$lib" && placed v3 "$lib/glibc-hwcaps/x86-64-v3" || return 1
-    ln -s libtufcheck.so.1 "$lib/libtufcheck.so" || return 1
-    mkdir -p "$lib/pkgconfig" &&
-        sed "s,@PREFIX@,$6,; s,@INCLUDE@,\${prefix}/include,; s,@LIB@,\${prefix}/$2,; s,@VERSION@,$version," "$top/bindings/c/tufcheck.pc.in" > "$lib/pkgconfig/tufcheck.pc" &&
-        install -D -m 644 "$top/bindings/c/tufcheck.h" "$1/include/tufcheck.h" &&
-        install -D -m 644 -t "$1/$3/tufcheck" "$top"/bindings/python/tufcheck/{__init__.py,py.typed} || return 1
-    for crate in tufcheck-sys tufcheck; do
-        (cd "$top/bindings/rust" && find $crate -type f ! -path '*/target/*' ! -name Cargo.lock | sort) | while read -r file; do
-            install -D -m 644 "$top/bindings/rust/$file" "$1/$4/rust/$file" || exit 1
-        done || return 1
+# develop ROOT LIB PREFIX: below ROOT what a compiler needs; PREFIX, with LIB, goes into the pkg-config file
+develop() {
+    install -D -m 644 -t "$1/$2" "$work/v2/libtufcheck.a" &&
+        install -D -m 644 -t "$1/$2/glibc-hwcaps/x86-64-v3" "$work/v3/libtufcheck.a" &&
+        ln -s libtufcheck.so.1 "$1/$2/libtufcheck.so" &&
+        mkdir -p "$1/$2/pkgconfig" &&
+        sed "s,@PREFIX@,$3,; s,@INCLUDE@,\${prefix}/include,; s,@LIB@,\${prefix}/$2,; s,@VERSION@,$version," \
+            "$top/bindings/c/tufcheck.pc.in" > "$1/$2/pkgconfig/tufcheck.pc" &&
+        install -D -m 644 -t "$1/include" "$top/bindings/c/tufcheck.h"
+}
+
+# manual FOLDER: the man pages; a page that is a link of man's becomes one of the file system's
+manual() {
+    local page to
+    mkdir -p "$1" || return 1
+    for page in "$top"/bindings/c/man/*.3; do
+        to=$(sed -n 's,^\.so man3/,,p' "$page")
+        if [ -n "$to" ]; then
+            ln -s "$to.gz" "$1/$(basename "$page").gz" || return 1
+        else
+            gzip -9n < "$page" > "$1/$(basename "$page").gz" || return 1
+        fi
     done
-    install -D -m 644 -t "$doc/examples" "$top"/bindings/{c/example_updater.c,python/example_updater.py} &&
-        install -m 644 -t "$doc" "$top/docs/EMBEDDING.md" &&
-        sed -i -E 's,\]\(\.\./bindings/(c|python)/(example_updater\.[a-z]+)\),](examples/\2),g; s,\[([^]]*)\]\((\.\./[^)]*|PROOFS[^)]*)\),\1,g' "$doc/EMBEDDING.md" &&
-        cat "$top/dist/notices" "$top/LICENSE" > "$doc/copyright"
+}
+
+# crates FOLDER: the sources of the Rust crates
+crates() {
+    (cd "$top/bindings/rust" && find tufcheck-sys tufcheck -type f ! -path '*/target/*' ! -name Cargo.lock | sort) > "$work/files"
+    while read -r file; do
+        install -D -m 644 "$top/bindings/rust/$file" "$1/rust/$file" || return 1
+    done < "$work/files"
+}
+
+# python FOLDER: the Python module
+python() {
+    install -D -m 644 -t "$1/tufcheck" "$top"/bindings/python/tufcheck/{__init__.py,py.typed}
+}
+
+# page FOLDER LANGUAGES: the page on the library, whose links to the example updaters of these languages (c|python) stay
+page() {
+    install -D -m 644 -t "$1" "$top/docs/EMBEDDING.md" &&
+        sed -i -E 's,\]\(\.\./bindings/('"$2"')/(example_updater\.[a-z]+)\),](examples/\2),g; s,\[([^]]*)\]\((\.\./[^)]*|PROOFS[^)]*)\),\1,g' "$1/EMBEDDING.md"
 }
 
 # dated ROOT: sets the time of all files below ROOT
@@ -69,44 +108,103 @@ dated() {
     find "$1" -exec touch -h -d "@$when" {} +
 }
 
-# shellcheck disable=SC2016
-laid "$work/$name" lib python . . '${pcfiledir}/../..' || refused "a file of the release is missing"
-dated "$work/$name"
+root=$work/$name
+# shellcheck disable=SC2016 # for pkg-config
+shared v2 "$root/lib" && shared v3 "$root/lib/glibc-hwcaps/x86-64-v3" && develop "$root" lib '${pcfiledir}/../..' &&
+    manual "$root/man/man3" && crates "$root" && python "$root/python" && page "$root" 'c|python' &&
+    install -D -m 644 -t "$root/examples" "$top"/bindings/{c/example_updater.c,python/example_updater.py} &&
+    cat "$top/dist/notices" "$top/LICENSE" > "$root/copyright" || refused "a file of the release is missing"
+dated "$root"
 tar -C "$work" --sort=name --format=ustar --owner=0 --group=0 --numeric-owner --mtime="@$when" -cf "$work/release.tar" "$name" || exit 1
 gzip -9n < "$work/release.tar" > "$out/$name.tar.gz" || exit 1
 echo "note: the library contains code of the kit's standard library; docs/EMBEDDING.md says what that means"
 
-if command -v dpkg-deb > "$work/found"; then
-    root=$work/deb
-    laid "$root/usr" lib/x86_64-linux-gnu lib/python3/dist-packages share/libtufcheck-dev share/doc/libtufcheck-dev /usr || refused "a file of the release is missing"
-    least=$(objdump -T "$work"/v[23]/libtufcheck.so.1 2> "$work/found" | grep -o 'GLIBC_[0-9.]*' | sort -u -V | tail -1)
-    mkdir "$root/DEBIAN" || exit 1
-    (cd "$root" && find usr -type f | sort | xargs md5sum) > "$root/DEBIAN/md5sums" || exit 1
-    echo "activate-noawait ldconfig" > "$root/DEBIAN/triggers"
+# documented PACKAGE: the copyright, which names Debian's copy of the Apache license, and the list of changes
+documented() {
+    local doc=$work/deb/$1/usr/share/doc/$1
+    mkdir -p "$doc" &&
+        sed 's,whose text stands at the end of this file,/usr/share/common-licenses/Apache-2.0 on Debian systems,' "$top/dist/notices" > "$doc/copyright" &&
+        grep -q common-licenses "$doc/copyright" || return 1
     {
-        echo "Package: libtufcheck-dev"
+        echo "tufcheck ($version) unstable; urgency=medium"
+        echo
+        echo "  * Release of $version."
+        echo
+        echo " -- Fullqimi maintainers <maintainers@users.noreply.fullqimi.example>  $(date -u -R -d "@$when")"
+    } | gzip -9n > "$doc/changelog.gz"
+}
+
+# packed PACKAGE ARCHITECTURE FIELD..: makes a package of the files in its folder, with the description from standard input
+packed() {
+    local package=$1 architecture=$2 root=$work/deb/$1
+    shift 2
+    documented "$package" && mkdir -p "$root/DEBIAN" &&
+        (cd "$root" && find usr -type f | sort | xargs md5sum) > "$root/DEBIAN/md5sums" || return 1
+    {
+        echo "Package: $package"
+        echo "Source: tufcheck"
         echo "Version: $version"
-        echo "Architecture: amd64"
+        echo "Architecture: $architecture"
         echo "Maintainer: Fullqimi maintainers <maintainers@users.noreply.fullqimi.example>"
         # A kibibyte for each folder and link, and each file's bytes rounded up
         echo "Installed-Size: $(find "$root/usr" \( -type f -printf '%s\n' \) -o -printf '1\n' | awk '{ n += int(($1 + 1023) / 1024) } END { print n }')"
-        echo "Depends: libc6${least:+ (>= ${least#GLIBC_})}"
-        echo "Suggests: python3"
-        echo "Section: libdevel"
+        printf '%s\n' "$@"
         echo "Priority: optional"
-        echo "Description: verify a repository of The Update Framework, as a library"
-        echo " libtufcheck verifies a repository of The Update Framework (TUF 1.0) with LMS"
-        echo " signatures (RFC 8554) from files that its caller has in memory. It has a C"
-        echo " interface, a Python module and Rust crates, and opens no file itself."
+        echo "Homepage: https://fullqimi.example/"
+        cat
     } > "$root/DEBIAN/control"
-    chmod 644 "$root"/DEBIAN/*
+    find "$root/DEBIAN" -type f ! -name postinst ! -name prerm -exec chmod 644 {} +
     dated "$root"
-    SOURCE_DATE_EPOCH=$when dpkg-deb --root-owner-group -Zgzip -z9 -b "$root" "$out/$deb" > "$work/built" 2>&1 ||
-        refused "dpkg-deb: $(cat "$work/built")"
-    (cd "$out" && sha256sum "$name.tar.gz" "$deb") > "$out/SHA256SUMS-dev" || exit 1
+    SOURCE_DATE_EPOCH=$when dpkg-deb --root-owner-group -Zgzip -z9 -b "$root" "$out/${package}_${version}_$architecture.deb" > "$work/seen" 2>&1 ||
+        refused "dpkg-deb: $(cat "$work/seen")"
+}
+
+if command -v dpkg-deb > "$work/found"; then
+    root=$work/deb/libtufcheck1 least=$(objdump -T "$work"/v[23]/libtufcheck.so.1 | grep -o 'GLIBC_[0-9.]*' | sort -u -V | tail -1)
+    shared v2 "$root/usr/$lib" && shared v3 "$root/usr/$lib/glibc-hwcaps/x86-64-v3" && mkdir "$root/DEBIAN" &&
+        cp "$top/dist/debian/libtufcheck1.symbols" "$root/DEBIAN/symbols" &&
+        echo "libtufcheck 1 libtufcheck1 (>= $version)" > "$root/DEBIAN/shlibs" &&
+        echo "activate-noawait ldconfig" > "$root/DEBIAN/triggers" &&
+        packed libtufcheck1 amd64 "Multi-Arch: same" "Depends: libc6${least:+ (>= ${least#GLIBC_})}" "Section: libs" << 'END' ||
+Description: verify a repository of The Update Framework, shared library
+ libtufcheck verifies a repository of The Update Framework (TUF 1.0) with LMS
+ signatures (RFC 8554) from files that its caller has in memory. It opens no
+ file itself.
+END
+        refused "a file of libtufcheck1 is missing"
+
+    root=$work/deb/libtufcheck-dev doc=usr/share/doc/libtufcheck-dev
+    develop "$root/usr" $lib /usr && manual "$root/usr/share/man/man3" && crates "$root/usr/share/libtufcheck-dev" &&
+        page "$root/$doc" c && install -D -m 644 -t "$root/$doc/examples" "$top/bindings/c/example_updater.c" &&
+        packed libtufcheck-dev amd64 "Multi-Arch: same" "Depends: libtufcheck1 (= $version)" "Suggests: python3-tufcheck" "Section: libdevel" << 'END' ||
+Description: verify a repository of The Update Framework, for development
+ libtufcheck verifies a repository of The Update Framework (TUF 1.0) with LMS
+ signatures (RFC 8554) from files that its caller has in memory. It opens no
+ file itself.
+ .
+ This package has the static library, the header, the pages of the calls, the
+ sources of two Rust crates, and an example updater.
+END
+        refused "a file of libtufcheck-dev is missing"
+
+    root=$work/deb/python3-tufcheck doc=usr/share/doc/python3-tufcheck
+    python "$root/usr/lib/python3/dist-packages" &&
+        install -D -m 644 -t "$root/$doc/examples" "$top/bindings/python/example_updater.py" &&
+        install -D -m 755 -t "$root/DEBIAN" "$top"/dist/debian/python3-tufcheck/{postinst,prerm} &&
+        packed python3-tufcheck all "Depends: libtufcheck1 (>= $version), python3:any (>= 3.8)" "Section: python" << 'END' ||
+Description: verify a repository of The Update Framework, from Python
+ libtufcheck verifies a repository of The Update Framework (TUF 1.0) with LMS
+ signatures (RFC 8554) from files that its caller has in memory. It opens no
+ file itself.
+ .
+ This package has the Python module tufcheck, with types, and an example
+ updater.
+END
+        refused "a file of python3-tufcheck is missing"
+    (cd "$out" && sha256sum "$name.tar.gz" libtufcheck1_* libtufcheck-dev_* python3-tufcheck_*) > "$out/SHA256SUMS-dev" || exit 1
     cat "$out/SHA256SUMS-dev"
 else
     (cd "$out" && sha256sum "$name.tar.gz") > "$out/SHA256SUMS-dev" || exit 1
     cat "$out/SHA256SUMS-dev"
-    refused "dpkg-deb is missing, so there is no Debian package"
+    refused "dpkg-deb is missing, so there are no Debian packages"
 fi
