@@ -8,7 +8,7 @@
 # status is 1 where something failed. It takes half a minute, and installs nothing.
 #
 # For both: with pkg-config and cc the updater in C, by the shared and by the static library; the one in Python, and with
-# rustc that in Rust; on a repository that checks/tuf.py signs. Each installs a target, and then refuses a damaged one. Also
+# rustc and go those in Rust and Go; on a repository that checks/tuf.py signs. Each installs a target, and then refuses a damaged one. Also
 # the man pages, and that the loader takes the build for this processor. For the packages also their sums and what they
 # depend on, the symbols file, and with lintian that it finds nothing. Then the release is packaged again from FOLDER/build,
 # if that is there, which must make the same bytes. Needs tar, sha256sum and python3.
@@ -75,6 +75,11 @@ in_rust() {
             "$2/tufcheck/examples/updater.rs"
 }
 
+# in_go LIB INCLUDE PACKAGE: compiles the updater in Go
+in_go() {
+    (cd "$3" && CGO_CFLAGS="-I$2" CGO_LDFLAGS="-L$1 -Wl,-rpath,$1" GOPROXY=off go build -o "$work/go" ./updater)
+}
+
 # pages TAKEN MAN: the man page of each call of the shared library
 pages() {
     local call
@@ -87,26 +92,31 @@ pages() {
     report $? "$1: the man page of each call, with no warning"
 }
 
-# tried TAKEN LIB PYTHON CRATES MAN UPDATER.C UPDATER.PY PREFIX..: all that is tried with one unpacked release
+# tried TAKEN ROOT LIB PYTHON SOURCES MAN UPDATER.C UPDATER.PY PREFIX..: all that is tried with one unpacked release; LIB to
+# MAN are below ROOT, and the rest is for pkg-config
 tried() {
-    local taken=$1 lib=$2 flags
+    local taken=$1 root=$2 lib=$2/$3 python=$2/$4 sources=$2/$5 man=$2/$6 flags
     nm -D --defined-only "$lib/libtufcheck.so.1" | awk '$2 == "T" { print $3 }' > "$work/shown"
     if has cc "$taken: an updater in C" && has pkg-config "$taken: an updater in C"; then
-        flags=$(PKG_CONFIG_PATH=$lib/pkgconfig pkg-config "${@:8}" --cflags --libs tufcheck 2> "$work/seen")
+        flags=$(PKG_CONFIG_PATH=$lib/pkgconfig pkg-config "${@:9}" --cflags --libs tufcheck 2> "$work/seen")
         [ "$(PKG_CONFIG_PATH=$lib/pkgconfig pkg-config --modversion tufcheck 2>> "$work/seen")" = "$version" ]
         report $? "$taken: pkg-config knows $version"
         # shellcheck disable=SC2086
-        in_c "$taken" "$lib" "$6" $flags
+        in_c "$taken" "$lib" "$7" $flags
     fi
-    updates env -i PYTHONDONTWRITEBYTECODE=1 PYTHONPATH="$3" LD_LIBRARY_PATH="$lib" "$(command -v python3)" "$7"
+    updates env -i PYTHONDONTWRITEBYTECODE=1 PYTHONPATH="$python" LD_LIBRARY_PATH="$lib" "$(command -v python3)" "$8"
     report $? "$taken: an updater in Python"
-    [ -f "$3/tufcheck/py.typed" ]
+    ls "$python/tufcheck" > "$work/seen" 2>&1 && [ -f "$python/tufcheck/py.typed" ]
     report $? "$taken: the Python module has types"
     if has rustc "$taken: an updater in Rust"; then
-        in_rust "$lib" "$4" > "$work/seen" 2>&1 && updates "$work/rust"
+        in_rust "$lib" "$sources/rust" > "$work/seen" 2>&1 && updates "$work/rust"
         report $? "$taken: an updater in Rust"
     fi
-    ! has man "$taken: the man pages" || pages "$taken" "$5"
+    if has go "$taken: an updater in Go"; then
+        in_go "$lib" "$root/include" "$sources/go/tufcheck" > "$work/seen" 2>&1 && updates "$work/go"
+        report $? "$taken: an updater in Go"
+    fi
+    ! has man "$taken: the man pages" || pages "$taken" "$man"
 }
 
 # packaged: the Debian packages
@@ -118,10 +128,11 @@ packaged() {
             (cd "$work/deb" && md5sum -c "$work/control/$package/md5sums") > "$work/seen" 2>&1
         report $? "packages: $(basename "$file") and its list of sums"
     done
+    grep '^Depends:' "$work"/control/*/control > "$work/seen"
     grep -q -x "Depends: libtufcheck1 (= $version)" "$work/control/libtufcheck-dev/control" &&
         grep -q "^Depends:.*libtufcheck1 (>= $version)" "$work/control/python3-tufcheck/control"
     report $? "packages: the two others depend on libtufcheck1"
-    tried packages "$root/$lib" "$root/lib/python3/dist-packages" "$root/share/libtufcheck-dev/rust" "$root/share/man" \
+    tried packages "$root" "$lib" lib/python3/dist-packages share/libtufcheck-dev share/man \
         "$doc/libtufcheck-dev/examples/example_updater.c" "$doc/python3-tufcheck/examples/example_updater.py" "--define-variable=prefix=$root"
     sed -n 's/^ \(tufcheck_[a-z]*\)@\([^ ]*\) .*/\1@@\2/p' "$work/control/libtufcheck1/symbols" | diff - "$work/shown" > "$work/seen"
     report $? "packages: the symbols file names what the library shows"
@@ -143,7 +154,7 @@ mkdir "$work/tar" "$work/deb" "$work/control" || exit 1
 report $? "SHA256SUMS-dev"
 root=$work/tar/$name
 if tar -xzf "$from/$name.tar.gz" -C "$work/tar" > "$work/seen" 2>&1; then
-    tried tarball "$root/lib" "$root/python" "$root/rust" "$root/man" "$root"/examples/example_updater.{c,py}
+    tried tarball "$root" lib python . man "$root"/examples/example_updater.{c,py}
 else
     report 1 "tarball: it can be unpacked"
 fi

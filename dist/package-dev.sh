@@ -4,8 +4,8 @@
 #   dist/package-dev.sh [BUILT [FOLDER]]      what dist/build.sh built and dist/out unless given
 #
 #   libtufcheck1        the shared library, with its symbols file
-#   libtufcheck-dev     the static library, the header, the pkg-config file, the man pages, the sources of the Rust crates, the
-#                       example updater in C and the page on the library
+#   libtufcheck-dev     the static library, the header, the pkg-config file, the man pages, the sources of the Rust crates and of
+#                       the Go package, the example updater in C and the page on the library
 #   python3-tufcheck    the Python module, and its example updater
 #
 # The tarball has all of that. The folder glibc-hwcaps/x86-64-v3 has the build for x86-64-v3, whose libtufcheck.so.1 the
@@ -84,11 +84,13 @@ manual() {
     done
 }
 
-# crates FOLDER: the sources of the Rust crates
-crates() {
-    (cd "$top/bindings/rust" && find tufcheck-sys tufcheck -type f ! -path '*/target/*' ! -name Cargo.lock | sort) > "$work/files"
+# sources FOLDER: the sources of the Rust crates and of the Go package, without its tests, which need this repository
+sources() {
+    local file
+    (cd "$top/bindings" && find rust/tufcheck-sys rust/tufcheck go/tufcheck -type f ! -path '*/target/*' ! -name Cargo.lock ! -name '*_test.go' | sort) \
+        > "$work/files"
     while read -r file; do
-        install -D -m 644 "$top/bindings/rust/$file" "$1/rust/$file" || return 1
+        install -D -m 644 "$top/bindings/$file" "$1/$file" || return 1
     done < "$work/files"
 }
 
@@ -111,7 +113,7 @@ dated() {
 root=$work/$name
 # shellcheck disable=SC2016 # for pkg-config
 shared v2 "$root/lib" && shared v3 "$root/lib/glibc-hwcaps/x86-64-v3" && develop "$root" lib '${pcfiledir}/../..' &&
-    manual "$root/man/man3" && crates "$root" && python "$root/python" && page "$root" 'c|python' &&
+    manual "$root/man/man3" && sources "$root" && python "$root/python" && page "$root" 'c|python' &&
     install -D -m 644 -t "$root/examples" "$top"/bindings/{c/example_updater.c,python/example_updater.py} &&
     cat "$top/dist/notices" "$top/LICENSE" > "$root/copyright" || refused "a file of the release is missing"
 dated "$root"
@@ -174,7 +176,7 @@ END
         refused "a file of libtufcheck1 is missing"
 
     root=$work/deb/libtufcheck-dev doc=usr/share/doc/libtufcheck-dev
-    develop "$root/usr" $lib /usr && manual "$root/usr/share/man/man3" && crates "$root/usr/share/libtufcheck-dev" &&
+    develop "$root/usr" $lib /usr && manual "$root/usr/share/man/man3" && sources "$root/usr/share/libtufcheck-dev" &&
         page "$root/$doc" c && install -D -m 644 -t "$root/$doc/examples" "$top/bindings/c/example_updater.c" &&
         packed libtufcheck-dev amd64 "Multi-Arch: same" "Depends: libtufcheck1 (= $version)" "Suggests: python3-tufcheck" "Section: libdevel" << 'END' ||
 Description: verify a repository of The Update Framework, for development
@@ -183,7 +185,7 @@ Description: verify a repository of The Update Framework, for development
  file itself.
  .
  This package has the static library, the header, the pages of the calls, the
- sources of two Rust crates, and an example updater.
+ sources of two Rust crates and of a Go package, and an example updater.
 END
         refused "a file of libtufcheck-dev is missing"
 

@@ -1,5 +1,5 @@
 #!/usr/bin/env python3
-"""Checks that the three example updaters in bindings keep the rules of docs/EMBEDDING.md on states, names and what they
+"""Checks that the four example updaters in bindings keep the rules of docs/EMBEDDING.md on states, names and what they
 install.
 
     checks/faults/examples.py FOLDER
@@ -74,12 +74,12 @@ def delegated(folder, name):
 
 # ---- updaters
 
-def built(command, name):
+def built(command, name, **more):
     """Runs a compiler. Returns whether it is there; ends the script if it fails."""
     if shutil.which(command[0]) is None:
         print(f"not tried {name}: {command[0]} is missing")
         return False
-    made = subprocess.run(command, capture_output=True, text=True)
+    made = subprocess.run(command, capture_output=True, text=True, **more)
     if made.returncode:
         print(f"fail {name} compiles: {made.stderr.strip()[-1000:]}")
         sys.exit(2)
@@ -108,6 +108,10 @@ def updaters(library, work):
             ["bin", "--extern", "tufcheck", "-L", f"native={library}", "-l", "static=tufcheck", "-o", rust,
              crates / "tufcheck/examples/updater.rs"])):
         found["Rust"] = [rust]
+    flags = {"CGO_CFLAGS": f"-I{TOP}/bindings/c", "CGO_LDFLAGS": f"-L{library} -Wl,-rpath,{library}", "GOPROXY": "off"}
+    if built(["go", "build", "-o", f"{work}/updater_go", "./updater"], "Go", cwd=TOP / "bindings/go/tufcheck",
+             env={**os.environ, **flags}):
+        found["Go"] = [f"{work}/updater_go"]
     found["Python"] = [sys.executable, str(TOP / "bindings/python/example_updater.py")]
     os.environ.update(TUFCHECK_LIBRARY=str((library / "libtufcheck.so.1").resolve()), PYTHONDONTWRITEBYTECODE="1",
                       PYTHONPATH=str(TOP / "bindings/python"))

@@ -5,7 +5,7 @@
 #
 # `rt lib` in crates/tufcheck_c proves and builds the library, and `rt run` in crates/tufcheck the program; LIBRARY and
 # PROGRAM in the environment name others. It needs cc and binutils. What is here of the rest is tried too: g++, clang,
-# pkg-config, man, rustc, valgrind. What isn't is said in a line `not tried`.
+# pkg-config, man, rustc, go, valgrind. What isn't is said in a line `not tried`.
 #
 #   1. The library shows the calls of the header and nothing else, and needs the C library's memory calls alone; in the
 #      shared library each has the version TUFCHECK_1. Its allocator keeps sizes, alignments and bytes, and says that there is
@@ -13,7 +13,7 @@
 #   2. Each field of the header is where the library has it; the header compiles without warnings in each standard of C and C++
 #      (library/standards.sh). Each number of the header has a text of its own, and no other number has one (library/texts.c).
 #      Each call has a man page, which declares it as the header does.
-#   3. The example updaters of C, Python and Rust fetch repositories of examples/ from a folder, and verify them.
+#   3. The example updaters of C, Python, Rust and Go fetch repositories of examples/ from a folder, and verify them.
 #   4. Drawn histories (those of second.py) have the lines, the status and the state of the program, from Python and from C,
 #      with bytes, with digests and after fetching (library/compare.py).
 #   5. With each allocation refused in turn, with one too little in each room, with each error, in four threads and on a stack
@@ -128,6 +128,12 @@ if has rustc "example in Rust"; then
     done_ $? "example in Rust compiles"
 fi
 
+if has go "example in Go"; then
+    export CGO_CFLAGS="-I$top/bindings/c" CGO_LDFLAGS="-L$work/lib -Wl,-rpath,$work/lib" GOPROXY=off
+    (cd "$top/bindings/go/tufcheck" && go vet ./... && go test -count=1 . && go build -o "$work/updater_go" ./updater) > "$work/seen" 2>&1
+    done_ $? "package and example in Go compile, and the package's tests pass"
+fi
+
 # updates NAME STATUS PATH..: each updater fetches the repository of the script, whose status is that
 updates() {
     local name=$1 want=$2 got
@@ -146,6 +152,11 @@ updates() {
         "$work/updater_rust" "$root" "$work/state.rust" "$work/repo" $now "$work/out.rust" "$@" > "$work/seen" 2>&1
         [ $? = "$want" ] && cmp -s "$work/state.c" "$work/state.rust" && diff -r "$work/out.c" "$work/out.rust" >> "$work/seen" 2>&1
         done_ $? "Rust updates from $name"
+    fi
+    if [ -x "$work/updater_go" ]; then
+        "$work/updater_go" "$root" "$work/state.go" "$work/repo" $now "$work/out.go" "$@" > "$work/seen" 2>&1
+        [ $? = "$want" ] && cmp -s "$work/state.c" "$work/state.go" && diff -r "$work/out.c" "$work/out.go" >> "$work/seen" 2>&1
+        done_ $? "Go updates from $name"
     fi
     "$program" init "$root" --out "$work/state.t" > "$work/seen" 2>&1
     "$program" verify --state "$work/state.t" --metadata "$work/repo/metadata" --targets "$work/repo/targets" --now 2026-01-01T00:00:00Z \

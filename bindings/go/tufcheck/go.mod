@@ -1,0 +1,3 @@
+module fullqimi.example/tufcheck
+
+go 1.19
