@@ -5,10 +5,10 @@
 #   dist/package-dev.sh [BUILT [FOLDER]]      what dist/build.sh built and dist/out unless given
 #
 # Both have libtufcheck.a and libtufcheck.so.1, the header, the pkg-config file, the Python module, the sources of the Rust
-# crates, the example updaters, the page on the library, and the licenses. The folder glibc-hwcaps/x86-64-v3 has the build
-# for x86-64-v3, whose libtufcheck.so.1 the loader takes on such a processor; the other build is for x86-64-v2. The library
-# contains an object of the Rattle kit (see the page); ALLOCATOR=none in the environment leaves it out, and then there is
-# no libtufcheck.so.1.
+# crates, the example updaters, the page on the library, and the licenses (dist/notices). The folder glibc-hwcaps/x86-64-v3 has
+# the build for x86-64-v3, whose libtufcheck.so.1 the loader takes on such a processor; the other build is for x86-64-v2. The
+# library contains an object of the Rattle kit (see the page); ALLOCATOR=none in the environment leaves it out, and then there
+# is no libtufcheck.so.1.
 #
 # The same files make the same bytes: times are SOURCE_DATE_EPOCH or else the last commit's, the owner is 0, and names are
 # sorted. (Another gzip, tar, dpkg or linker may do otherwise.) The status is 0, or 1 if something is refused, which is
@@ -64,7 +64,7 @@ laid() {
     install -D -m 644 -t "$doc/examples" "$top"/bindings/{c/example_updater.c,python/example_updater.py} &&
         install -m 644 -t "$doc" "$top/docs/EMBEDDING.md" &&
         sed -i -E 's,\]\(\.\./bindings/(c|python)/(example_updater\.[a-z]+)\),](examples/\2),g; s,\[([^]]*)\]\((\.\./[^)]*|PROOFS[^)]*)\),\1,g' "$doc/EMBEDDING.md" &&
-        cat "$top/dist/notices" "$top/LICENSE" > "$doc/copyright"
+        install -m 644 "$top/dist/notices" "$doc/copyright"
 }
 
 # dated ROOT: sets the time of all files below ROOT
@@ -74,6 +74,7 @@ dated() {
 
 # shellcheck disable=SC2016
 laid "$work/$name" lib python . . '${pcfiledir}/../../include' '${pcfiledir}/..' || refused "a file of the release is missing"
+install -m 644 -t "$work/$name" "$top/LICENSE" || exit 1
 dated "$work/$name"
 tar -C "$work" --sort=name --format=ustar --owner=0 --group=0 --numeric-owner --mtime="@$when" -cf "$work/release.tar" "$name" || exit 1
 gzip -9n < "$work/release.tar" > "$out/$name.tar.gz" || exit 1
@@ -84,6 +85,8 @@ if command -v dpkg-deb > "$work/found"; then
     root=$work/deb
     laid "$root/usr" lib/x86_64-linux-gnu lib/python3/dist-packages share/libtufcheck-dev share/doc/libtufcheck-dev /usr/include \
         /usr/lib/x86_64-linux-gnu || refused "a file of the release is missing"
+    "$top/dist/changelog.py" libtufcheck-dev $version "$when" > "$work/changelog" || refused "the changelog can't be made"
+    gzip -9n < "$work/changelog" > "$root/usr/share/doc/libtufcheck-dev/changelog.gz" || exit 1
     least=$(objdump -T "$work"/v[23]/libtufcheck.so.1 2> "$work/found" | grep -o 'GLIBC_[0-9.]*' | sort -u -V | tail -1)
     mkdir "$root/DEBIAN" || exit 1
     (cd "$root" && find usr -type f | sort | xargs md5sum) > "$root/DEBIAN/md5sums" || exit 1
