@@ -5,14 +5,16 @@
 #   dist/check.sh [FOLDER]      the folder of the release, dist/out unless given
 #
 # A line for each thing says `ok`, `failed` with what was seen, or `not tried` with what is missing on this machine. The
-# status is 1 where something failed. It takes a few seconds, and installs nothing.
+# status is 1 where something failed. It takes a minute on a busy machine, half of it for lintian and the source package, and
+# installs nothing.
 #
 # For both: the help, the run without arguments, a repository that is made and verified, the man pages, the links of the other
 # pages, the completions of each shell that is here, the libraries, the SPDX file, and with strace every file that the program
-# opens. For the package also the operator's scripts, page and unit, and the source package (dist/source.sh). Then the program runs in a root
-# folder that has nothing but it and its libraries (for the superuser, or where user namespaces are allowed), and the
-# release is packaged again from the unpacked program, which must make the same bytes. Last, dist/halves.sh compares the two
-# builds.
+# opens. For the package also the operator's scripts, page and unit, and the source package (dist/source.sh). Then the release
+# is published in a repository of trial keys (dist/repository.py) and fetched from it, and its sums are signed (dist/sign.sh),
+# both in temporary folders. Then the program runs in a root folder that has nothing but it and its libraries (for the
+# superuser, or where user namespaces are allowed), and the release is packaged again from the unpacked program, which must
+# make the same bytes. Last, dist/halves.sh compares the two builds.
 set -u
 export LC_ALL=C
 top=$(cd "$(dirname "$0")/.." && pwd) || exit 1
@@ -165,6 +167,10 @@ listed() {
     python3 -c '
 import json, sys
 document = json.load(open(sys.argv[1]))
+ids = ["SPDXRef-DOCUMENT", *[it["SPDXID"] for it in document["packages"] + document["files"]]]
+ends = {it[end] for it in document["relationships"] for end in ("spdxElementId", "relatedSpdxElement")}
+if len(ids) != len(set(ids)) or not ends <= set(ids):
+    sys.exit("an id is there twice, or a relationship leads nowhere")
 contained = {it["relatedSpdxElement"] for it in document["relationships"]
              if it["relationshipType"] == "CONTAINS" and it["spdxElementId"] == sys.argv[3]}
 named = [it for it in document["packages"] if it["SPDXID"] == sys.argv[3] and it["packageFileName"] == sys.argv[2]]
@@ -250,7 +256,9 @@ operated() {
 
 # sourced: the Debian source package, what it builds, and what lintian says of both
 sourced() {
-    if has dpkg-buildpackage "package: the source package" && has git "package: the source package"; then
+    if [ ! -e "$top/.git" ]; then
+        echo "not tried package: the source package: this is no clone"
+    elif has dpkg-buildpackage "package: the source package" && has git "package: the source package"; then
         SOURCE_DATE_EPOCH=$(stat -c %Y "$work/deb/usr/bin/tufcheck") "$top/dist/source.sh" "$work/deb/usr/bin/tufcheck" "$work/source" \
             > "$work/seen" 2>&1 && cmp "$work/source/$deb" "$from/$deb" > "$work/seen" 2>&1
         report $? "package: \`dpkg-buildpackage\` builds the same bytes from the source package"
@@ -259,6 +267,34 @@ sourced() {
             report $? "package: lintian has no errors and no warnings"
         fi
     fi
+}
+
+# fetched STATE DIR PATH..: the example's updater of the release, with its program, on the repository
+fetched() {
+    env -i HOME="$work/home" PATH="$root/bin:$PATH" "$share/doc/tufcheck/examples/fetch-folder.sh" "$work/repository" "$@" > "$work/lines" 2> "$work/seen"
+}
+
+# published: whether the release, in a repository of trial keys, is fetched and verified, also after the metadata was renewed;
+# and whether a changed file in it is refused
+published() {
+    local paths file
+    cd "$work" && "$top/dist/repository.py" --trial "$work/repository" "$from" > "$work/seen" 2>&1 &&
+        clean tufcheck init "$work/repository/metadata/1.root.json" --out "$work/published" > "$work/lines" 2> "$work/seen" || return 1
+    mapfile -t paths < <(sed "s,^[0-9a-f]*  ,$version/,; \$a$version/SHA256SUMS" "$from/SHA256SUMS")
+    for file in first second; do
+        fetched "$work/published" "$work/repository.$file" "${paths[@]}" || { cat "$work/lines" >> "$work/seen"; return 1; }
+        [ "$(grep -c '^ok ' "$work/lines")" = "${#paths[@]}" ] || return 1
+        "$top/dist/repository.py" --trial "$work/repository" > "$work/seen" 2>&1 || return 1
+    done
+    for file in "$work/repository.second/targets/$version"/*; do
+        cp "$file" "$work/repository.second/$(basename "$file" | cut -c 66-)" || return 1
+    done
+    (cd "$work/repository.second" && sha256sum -c SHA256SUMS) > "$work/seen" 2>&1 || return 1
+    for file in "$work/repository/targets/$version"/*.SHA256SUMS; do
+        sed -i '1s/^./x/' "$file"
+    done
+    fetched "$work/published" "$work/repository.third" "${paths[@]}"
+    [ $? = 1 ] && grep -q -x "no \"$version/SHA256SUMS\" HashWrong" "$work/lines"
 }
 
 # bare RUN..: by RUN, the session in a root folder that has nothing but the program and its libraries
@@ -301,6 +337,9 @@ if has dpkg-deb "the Debian package"; then
     fi
 fi
 root=$work/tar/$name share=$root/share
+published
+report $? "a repository of the release is made, and the release fetched from it and verified"
+"$top/dist/sign.sh" --trial "$from" || failed=1
 if [ "$(id -u)" = 0 ]; then
     bare chroot
     report $? "a session in a root folder with nothing but the program and its libraries"
