@@ -5,14 +5,17 @@
 #   dist/check.sh [FOLDER]      the folder of the release, dist/out unless given
 #
 # A line for each thing says `ok`, `failed` with what was seen, or `not tried` with what is missing on this machine. The
-# status is 1 where something failed. It takes a few seconds, and installs nothing.
+# status is 1 where something failed. It takes a minute on a busy machine, half of it for lintian and the source package, and
+# installs nothing.
 #
-# For both: the help, the run without arguments, a repository that is made and verified, the man page, the completions of each
-# shell that is here, the libraries, and with strace every file that the program opens. For the package also the operator's
-# scripts, page and unit. Then the program runs in a root
-# folder that has nothing but it and its libraries (for the superuser, or where user namespaces are allowed), and the
-# release is packaged again from the unpacked program, which must make the same bytes. dist/halves.sh compares the two builds.
-# Last, dist/check-dev.sh tries the library's release, if it is in the folder.
+# For both: the help, the run without arguments, a repository that is made and verified, the man pages, the links of the other
+# pages, the completions of each shell that is here, the libraries, the SPDX file, and with strace every file that the program
+# opens. For the package also the operator's scripts, page and unit, and the source package (dist/source.sh). Then the release
+# is published in a repository of trial keys (dist/repository.py) and fetched from it, and its sums are signed (dist/sign.sh),
+# both in temporary folders. Then the program runs in a root folder that has nothing but it and its libraries (for the
+# superuser, or where user namespaces are allowed), and the release is packaged again from the unpacked program, which must
+# make the same bytes. dist/halves.sh compares the two builds. Last, dist/check-dev.sh tries the library's release, if it is in
+# the folder.
 set -u
 export LC_ALL=C
 top=$(cd "$(dirname "$0")/.." && pwd) || exit 1
@@ -135,6 +138,52 @@ fished() {
     env -i HOME="$work/home" PATH="$root/bin:$PATH" XDG_DATA_DIRS="$share" TERM=dumb fish -c 'complete -C "$argv[1]"' "$1"
 }
 
+# anchors PAGE: the names of a page's headings, as links name them
+anchors() {
+    sed -n 's/^##* //p' "$1" | tr '[:upper:]' '[:lower:]' | sed 's/[^a-z0-9 _-]//g; s/ /-/g'
+}
+
+# linked DOC: whether each relative link of the pages below a folder leads to a file there, and to a heading that it names;
+# without any link nothing was tried
+linked() {
+    local doc page link place links=0
+    doc=$(realpath "$1")
+    while read -r page; do
+        while read -r link; do
+            [[ $link == *:* ]] && continue
+            links=$((links + 1)) place=$page
+            [[ $link == '#'* ]] || place=$(realpath -m "$(dirname "$page")/${link%%#*}")
+            if [[ $place != "$doc"/* || ! -e $place ]]; then
+                echo "$(basename "$page") leads to $link"
+            elif [[ $link == *'#'* ]] && ! anchors "$place" | grep -q -x -F -e "${link#*#}"; then
+                echo "$(basename "$page") leads to a heading $link"
+            fi
+        done < <(grep -o '\]([^)]*)' "$page" | sed 's/^](//; s/)$//')
+    done < <(find "$doc" -name '*.md')
+    [ "$links" -gt 0 ] || echo "no links"
+}
+
+# listed ARCHIVE ROOT: whether the SPDX file lists the archive by its sum, and the files below ROOT by theirs, all of them
+listed() {
+    python3 -c '
+import json, sys
+document = json.load(open(sys.argv[1]))
+ids = ["SPDXRef-DOCUMENT", *[it["SPDXID"] for it in document["packages"] + document["files"]]]
+ends = {it[end] for it in document["relationships"] for end in ("spdxElementId", "relatedSpdxElement")}
+if len(ids) != len(set(ids)) or not ends <= set(ids):
+    sys.exit("an id is there twice, or a relationship leads nowhere")
+contained = {it["relatedSpdxElement"] for it in document["relationships"]
+             if it["relationshipType"] == "CONTAINS" and it["spdxElementId"] == sys.argv[3]}
+named = [it for it in document["packages"] if it["SPDXID"] == sys.argv[3] and it["packageFileName"] == sys.argv[2]]
+for it, name in [*[(it, it["packageFileName"]) for it in named],
+                 *[(it, it["fileName"]) for it in document["files"] if it["SPDXID"] in contained]]:
+    print(*[sum["checksumValue"] for sum in it["checksums"] if sum["algorithm"] == "SHA256"], "", name, sep=" ")
+' "$from/$name.spdx.json" "$1" "SPDXRef-archive-${1//_/-}" > "$work/sums" || return 1
+    head -1 "$work/sums" | (cd "$from" && sha256sum -c) && sed 1d "$work/sums" > "$work/inside" &&
+        (cd "$2" && sha256sum --quiet -c "$work/inside") || return 1
+    (cd "$2" && find . -type f ! -path './DEBIAN/*' | sort) | diff - <(sed 's/^[0-9a-f]*  //' "$work/inside" | sort)
+}
+
 # strange: the files that a trace names and that are neither the system's nor in the temporary folders
 strange() {
     grep -h -o '"[^"]*"' "$@" | tr -d '"' | grep '^/' | sort -u |
@@ -152,10 +201,13 @@ tried() {
     (session "$work/room.$1" clean tufcheck) > "$work/seen" 2>&1 && same "$work/four"
     report $? "$1: a repository is made, trusted and verified"
     if has man "$1: the man page"; then
-        MANPAGER=cat MANWIDTH=80 man --warnings -M "$share/man" tufcheck > "$work/page" 2> "$work/seen"
-        [ ! -s "$work/seen" ] && grep -q SYNOPSIS "$work/page" && grep -q 'EXIT STATUS' "$work/page"
+        rendered tufcheck
         report $? "$1: \`man\` renders the page, with no warning"
+        paged
+        report $? "$1: \`man\` renders the page of each subcommand, with no warning"
     fi
+    linked "$share/doc/tufcheck" > "$work/seen" && [ ! -s "$work/seen" ]
+    report $? "$1: the links of the pages lead to files and headings there"
     shells "$1" "$3"
     ldd "$root/bin/tufcheck" > "$work/seen" 2>&1
     ! grep -v -E '^\s*(linux-vdso\.so|lib(c|m|pthread|dl|rt)\.so|/lib64/ld-linux-x86-64\.so|statically linked)' "$work/seen" > "$work/found"
@@ -167,6 +219,22 @@ tried() {
             ! strange "$work/trace.$1" > "$work/seen"
         report $? "$1: the program asks for no file but the system's and those of its command line"
     fi
+}
+
+# rendered PAGE: whether `man` renders a page of the release and says nothing
+rendered() {
+    MANPAGER=cat MANWIDTH=80 man --warnings -M "$share/man" "$1" > "$work/page" 2> "$work/seen"
+    [ ! -s "$work/seen" ] && grep -q SYNOPSIS "$work/page" && grep -q 'EXIT STATUS' "$work/page"
+}
+
+# paged: whether each subcommand that the help names has its page
+paged() {
+    local command commands
+    commands=$(clean tufcheck --help | sed -n '/^Commands:/,/^$/s/^  \([a-z]*\) .*/\1/p')
+    [ -n "$commands" ] || { echo "no subcommands" > "$work/seen"; return 1; }
+    for command in $commands; do
+        [ "$command" = help ] || rendered "tufcheck-$command" || return 1
+    done
 }
 
 # operated USR: the operator's scripts, page and unit of the Debian package
@@ -187,6 +255,49 @@ operated() {
     fi
 }
 
+# sourced: the Debian source package, what it builds, and what lintian says of both
+sourced() {
+    if [ ! -e "$top/.git" ]; then
+        echo "not tried package: the source package: this is no clone"
+    elif has dpkg-buildpackage "package: the source package" && has git "package: the source package"; then
+        SOURCE_DATE_EPOCH=$(stat -c %Y "$work/deb/usr/bin/tufcheck") "$top/dist/source.sh" "$work/deb/usr/bin/tufcheck" "$work/source" \
+            > "$work/seen" 2>&1 && cmp "$work/source/$deb" "$from/$deb" > "$work/seen" 2>&1
+        report $? "package: \`dpkg-buildpackage\` builds the same bytes from the source package"
+        if has lintian "package: what lintian says"; then
+            lintian --fail-on error,warning "$work/source/tufcheck_${version}_amd64.changes" > "$work/seen" 2> "$work/found"
+            report $? "package: lintian has no errors and no warnings"
+        fi
+    fi
+}
+
+# fetched STATE DIR PATH..: the example's updater of the release, with its program, on the repository
+fetched() {
+    env -i HOME="$work/home" PATH="$root/bin:$PATH" "$share/doc/tufcheck/examples/fetch-folder.sh" "$work/repository" "$@" > "$work/lines" 2> "$work/seen"
+}
+
+# published: whether the release, in a repository of trial keys, is fetched and verified, also after the metadata was renewed;
+# and whether a changed file in it is refused
+published() {
+    local paths file
+    cd "$work" && "$top/dist/repository.py" --trial "$work/repository" "$from" > "$work/seen" 2>&1 &&
+        clean tufcheck init "$work/repository/metadata/1.root.json" --out "$work/published" > "$work/lines" 2> "$work/seen" || return 1
+    mapfile -t paths < <(sed "s,^[0-9a-f]*  ,$version/,; \$a$version/SHA256SUMS" "$from/SHA256SUMS")
+    for file in first second; do
+        fetched "$work/published" "$work/repository.$file" "${paths[@]}" || { cat "$work/lines" >> "$work/seen"; return 1; }
+        [ "$(grep -c '^ok ' "$work/lines")" = "${#paths[@]}" ] || return 1
+        "$top/dist/repository.py" --trial "$work/repository" > "$work/seen" 2>&1 || return 1
+    done
+    for file in "$work/repository.second/targets/$version"/*; do
+        cp "$file" "$work/repository.second/$(basename "$file" | cut -c 66-)" || return 1
+    done
+    (cd "$work/repository.second" && sha256sum -c SHA256SUMS) > "$work/seen" 2>&1 || return 1
+    for file in "$work/repository/targets/$version"/*.SHA256SUMS; do
+        sed -i '1s/^./x/' "$file"
+    done
+    fetched "$work/published" "$work/repository.third" "${paths[@]}"
+    [ $? = 1 ] && grep -q -x "no \"$version/SHA256SUMS\" HashWrong" "$work/lines"
+}
+
 # bare RUN..: by RUN, the session in a root folder that has nothing but the program and its libraries
 bare() {
     local library room=$work/bare
@@ -198,7 +309,7 @@ bare() {
     (session "$room" "$@" "$room" /tufcheck) > "$work/seen" 2>&1 && same "$work/four"
 }
 
-for tool in tar sha256sum ldd; do
+for tool in tar sha256sum ldd python3; do
     command -v $tool > "$work/found" || { echo "check.sh: $tool is missing" >&2; exit 1; }
 done
 [ -f "$from/$name.tar.gz" ] || { echo "check.sh: no $from/$name.tar.gz: dist/package.sh makes it" >&2; exit 1; }
@@ -206,6 +317,8 @@ done
 report $? "SHA256SUMS"
 if tar -xzf "$from/$name.tar.gz" -C "$work/tar" > "$work/seen" 2>&1; then
     tried tarball "$work/tar/$name" site-functions
+    listed "$name.tar.gz" "$work/tar" > "$work/seen" 2>&1
+    report $? "tarball: the SPDX file lists it and its files"
 else
     report 1 "tarball: it can be unpacked"
 fi
@@ -216,12 +329,18 @@ if has dpkg-deb "the Debian package"; then
         report $? "package: its program is the tarball's"
         dpkg-deb -e "$from/$deb" "$work/deb/DEBIAN" && (cd "$work/deb" && md5sum -c DEBIAN/md5sums) > "$work/seen" 2>&1
         report $? "package: its list of sums"
+        listed "$deb" "$work/deb" > "$work/seen" 2>&1
+        report $? "package: the SPDX file lists it and its files"
+        sourced
         operated "$work/deb/usr"
     else
         report 1 "package: it can be unpacked"
     fi
 fi
 root=$work/tar/$name share=$root/share
+published
+report $? "a repository of the release is made, and the release fetched from it and verified"
+"$top/dist/sign.sh" --trial "$from" || failed=1
 if [ "$(id -u)" = 0 ]; then
     bare chroot
     report $? "a session in a root folder with nothing but the program and its libraries"
@@ -232,7 +351,7 @@ else
     echo "not tried a session in a bare root folder: chroot isn't allowed"
 fi
 SOURCE_DATE_EPOCH=$(stat -c %Y "$root/bin/tufcheck") "$top/dist/package.sh" "$root/bin/tufcheck" "$work/again" > "$work/found" 2> "$work/seen" &&
-    diff -r -x build -x '*-dev*' -x 'libtufcheck*' -x 'python3-*' "$from" "$work/again" > "$work/seen" 2>&1
+    diff -r -x build -x source -x repository -x '*-dev*' -x 'libtufcheck*' -x 'python3-*' -x 'SHA256SUMS.*' "$from" "$work/again" > "$work/seen" 2>&1
 report $? "packaged again, the release has the same bytes"
 if [ -d "$from/build" ]; then
     "$top/dist/halves.sh" "$from/build" || failed=1

@@ -9,12 +9,12 @@
 #   python3-tufcheck    the Python module, and its example updater
 #
 # The tarball has all of that. The folder glibc-hwcaps/x86-64-v3 has the build for x86-64-v3, whose libtufcheck.so.1 the
-# loader takes on such a processor; the other build is for x86-64-v2. dist/debian has the symbols file and the scripts of
-# packages.
+# loader takes on such a processor; the other build is for x86-64-v2. dist/library has the symbols file and the scripts
+# of packages.
 #
 # The same files make the same bytes: times are SOURCE_DATE_EPOCH or else the last commit's, the owner is 0, and names are
 # sorted. (Another gzip, tar, dpkg or linker may do otherwise.) The status is 0, or 1 if something is refused, which is
-# printed. Needs cc and binutils. Without dpkg-deb the tarball alone is made, and the status is 1.
+# printed. Needs cc, binutils and python3. Without dpkg-deb the tarball alone is made, and the status is 1.
 set -u
 version=1.0.0
 umask 022
@@ -32,11 +32,11 @@ refused() {
     exit 1
 }
 
-for tool in ar cc gzip nm strip tar sha256sum; do
+for tool in ar cc gzip nm python3 strip tar sha256sum; do
     command -v $tool > "$work/found" || refused "$tool is missing"
 done
 # What the symbols file says that the library shows.
-sed -n 's/^ \([^ ]*\)@\([^ ]*\) .*/\1@@\2/p' "$top/dist/debian/libtufcheck1.symbols" | grep -v '^TUFCHECK' > "$work/symbols"
+sed -n 's/^ \([^ ]*\)@\([^ ]*\) .*/\1@@\2/p' "$top/dist/library/libtufcheck1.symbols" | grep -v '^TUFCHECK' > "$work/symbols"
 for cpu in v2 v3; do
     library=$built/libtufcheck_c-$cpu.a
     [ -f "$library" ] || refused "no library at $library: dist/build.sh builds it"
@@ -115,25 +115,17 @@ root=$work/$name
 shared v2 "$root/lib" && shared v3 "$root/lib/glibc-hwcaps/x86-64-v3" && develop "$root" lib '${pcfiledir}/../..' &&
     manual "$root/man/man3" && sources "$root" && python "$root/python" && page "$root" 'c|python' &&
     install -D -m 644 -t "$root/examples" "$top"/bindings/{c/example_updater.c,python/example_updater.py} &&
-    cat "$top/dist/notices" "$top/LICENSE" > "$root/copyright" || refused "a file of the release is missing"
+    install -m 644 "$top/dist/notices" "$root/copyright" && install -m 644 -t "$root" "$top/LICENSE" || refused "a file of the release is missing"
 dated "$root"
 tar -C "$work" --sort=name --format=ustar --owner=0 --group=0 --numeric-owner --mtime="@$when" -cf "$work/release.tar" "$name" || exit 1
 gzip -9n < "$work/release.tar" > "$out/$name.tar.gz" || exit 1
 echo "note: the library contains code of the kit's standard library; docs/EMBEDDING.md says what that means"
 
-# documented PACKAGE: the copyright, which names Debian's copy of the Apache license, and the list of changes
+# documented PACKAGE: the licenses and the list of changes
 documented() {
     local doc=$work/deb/$1/usr/share/doc/$1
-    mkdir -p "$doc" &&
-        sed 's,whose text stands at the end of this file,/usr/share/common-licenses/Apache-2.0 on Debian systems,' "$top/dist/notices" > "$doc/copyright" &&
-        grep -q common-licenses "$doc/copyright" || return 1
-    {
-        echo "tufcheck ($version) unstable; urgency=medium"
-        echo
-        echo "  * Release of $version."
-        echo
-        echo " -- Fullqimi maintainers <maintainers@users.noreply.fullqimi.example>  $(date -u -R -d "@$when")"
-    } | gzip -9n > "$doc/changelog.gz"
+    mkdir -p "$doc" && install -m 644 "$top/dist/notices" "$doc/copyright" && "$top/dist/changelog.py" "$1" $version "$when" > "$work/changelog" &&
+        gzip -9n < "$work/changelog" > "$doc/changelog.gz"
 }
 
 # packed PACKAGE ARCHITECTURE FIELD..: makes a package of the files in its folder, with the description from standard input
@@ -164,7 +156,7 @@ packed() {
 if command -v dpkg-deb > "$work/found"; then
     root=$work/deb/libtufcheck1 least=$(objdump -T "$work"/v[23]/libtufcheck.so.1 | grep -o 'GLIBC_[0-9.]*' | sort -u -V | tail -1)
     shared v2 "$root/usr/$lib" && shared v3 "$root/usr/$lib/glibc-hwcaps/x86-64-v3" && mkdir "$root/DEBIAN" &&
-        cp "$top/dist/debian/libtufcheck1.symbols" "$root/DEBIAN/symbols" &&
+        cp "$top/dist/library/libtufcheck1.symbols" "$root/DEBIAN/symbols" &&
         echo "libtufcheck 1 libtufcheck1 (>= $version)" > "$root/DEBIAN/shlibs" &&
         echo "activate-noawait ldconfig" > "$root/DEBIAN/triggers" &&
         packed libtufcheck1 amd64 "Multi-Arch: same" "Depends: libc6${least:+ (>= ${least#GLIBC_})}" "Section: libs" << 'END' ||
@@ -192,7 +184,7 @@ END
     root=$work/deb/python3-tufcheck doc=usr/share/doc/python3-tufcheck
     python "$root/usr/lib/python3/dist-packages" &&
         install -D -m 644 -t "$root/$doc/examples" "$top/bindings/python/example_updater.py" &&
-        install -D -m 755 -t "$root/DEBIAN" "$top"/dist/debian/python3-tufcheck/{postinst,prerm} &&
+        install -D -m 755 -t "$root/DEBIAN" "$top"/dist/library/python3-tufcheck/{postinst,prerm} &&
         packed python3-tufcheck all "Depends: libtufcheck1 (>= $version), python3:any (>= 3.8)" "Section: python" << 'END' ||
 Description: verify a repository of The Update Framework, from Python
  libtufcheck verifies a repository of The Update Framework (TUF 1.0) with LMS

@@ -1,0 +1,180 @@
+#!/usr/bin/env python3
+"""Cuts a man page for each subcommand out of docs/tufcheck.1, which alone has their texts.
+
+    dist/pages.py FOLDER
+
+Writes FOLDER/tufcheck-NAME.1 for each subcommand NAME that has a line in SYNOPSIS and a part of DESCRIPTION. Each page has
+that line, that part, the options that the line names, its own statuses and examples, and of the other sections what
+LACKS doesn't take away; so a new subcommand has all of them. Its name's few words are those of completions/tufcheck.fish.
+The status is 0, or 1 if the source isn't as the script expects it, which is printed: also if LACKS names what isn't there.
+"""
+import pathlib
+import re
+import sys
+
+TOP = pathlib.Path(__file__).resolve().parents[1]
+SOURCE = TOP / "docs/tufcheck.1"
+# Sections, and items and paragraphs by their first words, with the subcommands whose pages lack them
+LACKS = {
+    ("NAMES", ""): "init show make",
+    ("FAULTS", ""): "init next show make",
+    ("FAULTS", "NoPlace"): "replay",
+    ("DIAGNOSTICS", "now "): "init make",
+    ("DIAGNOSTICS", "state file "): "init make",
+    ("DIAGNOSTICS", "script LINE "): "init verify replay next show",
+    ("DIAGNOSTICS", "input "): "show",
+    ("DIAGNOSTICS", "folder "): "init show make",
+    ("DIAGNOSTICS", "clock "): "init show make",
+    ("FILES", "STATE\n"): "make",
+    ("FILES", "STATE.1.new"): "next show make",
+    ("FILES", "DIR/.tufcheck.1.new"): "init replay next show make",
+    ("FILES", "What a killed run"): "next show make",
+    ("FILES", "DIR/*.json"): "init show make",
+    ("FILES", "DIR\n"): "init show make",
+    ("FILES", "Links"): "init show make",
+}
+
+
+def refused(why):
+    sys.exit(f"pages.py: {why}")
+
+
+def plain(text):
+    """A text as a reader sees it."""
+    return re.sub(r"\\f[BIR]", "", text).replace("\\-", "-")
+
+
+def parts(lines, word):
+    """The lines before the first one that begins with a word, and then those from each such line to the next."""
+    found = [[]]
+    for line in lines:
+        if line.split(" ")[0] == word:
+            found.append([])
+        found[-1].append(line)
+    return found
+
+
+def chunks(lines):
+    """The items and paragraphs of a section, each with the request before it."""
+    found = [[]]
+    for line in lines:
+        if line in (".TP", ".PP"):
+            found.append([])
+        found[-1].append(line)
+    if [".TP"] in found:
+        refused("an item has no title")
+    return [chunk for chunk in found if chunk]
+
+
+def text(chunk):
+    return plain("\n".join(line for line in chunk if line not in (".TP", ".PP")))
+
+
+def statuses(chunk_list, name):
+    """The statuses that the last paragraph of EXIT STATUS says a subcommand has."""
+    for clause in re.split(r"[;.] ", text(chunk_list[-1])):
+        subject = re.match(r"((?:[a-z]+(?:, | and | have | ))+)([0-9 ,to]+)", clause)
+        if subject and name in re.findall(r"[a-z]+", subject[1]):
+            numbers = [int(it) for it in re.findall(r"[0-9]+", subject[2])]
+            return set(range(numbers[0], numbers[1] + 1)) if " to " in subject[2] else set(numbers)
+    refused(f"EXIT STATUS doesn't say which statuses {name} has")
+
+
+class Source:
+    """The sections of the source, and its subcommands with their lines of SYNOPSIS and parts of DESCRIPTION."""
+
+    def __init__(self):
+        self.head, *sections = parts(SOURCE.read_text().splitlines(), ".SH")
+        self.sections = {section[0][4:]: section[1:] for section in sections}
+        self.lines = {}
+        for line in self.sections["SYNOPSIS"]:
+            found = re.match(r"\\fBtufcheck ([a-z]+)\\fR ", line)
+            if found:
+                self.lines[found[1]] = line
+        self.told = {part[0][4:]: part[1:] for part in parts(self.sections["DESCRIPTION"], ".SS")[1:]}
+        fish = (TOP / "completions/tufcheck.fish").read_text()
+        self.words = dict(re.findall(r"commands\" -a ([a-z]+) -d '([^']*)'", fish))
+        self.met = set()
+        self.lines.pop("help", None)
+        if not self.lines or set(self.lines) != set(self.told) or not set(self.lines) <= set(self.words):
+            refused(f"SYNOPSIS has {list(self.lines)}, DESCRIPTION {list(self.told)}, the completions {list(self.words)}")
+
+    def lacks(self, name, section, seen):
+        """Whether a subcommand's page lacks a section or what begins with that text."""
+        for (of, begin), names in LACKS.items():
+            if of == section and (seen.startswith(begin) if begin else not seen):
+                self.met.add((of, begin))
+                if name in names.split():
+                    return True
+        return False
+
+    def options(self, name):
+        """The options of a subcommand's line, with those that each has."""
+        wanted = set(re.findall(r"--[a-z-]+", plain(self.lines[name]))) | {"--help", "--"}
+        found = []
+        for chunk in chunks(self.sections["OPTIONS"]):
+            title = set(re.findall(r"--[a-z-]*", plain(chunk[1]))) if chunk[0] == ".TP" else set()
+            if title & wanted or chunk[0] == ".PP" and "--workers" in wanted:
+                found.append(chunk)
+                wanted -= title
+        if wanted:
+            refused(f"OPTIONS has no {wanted} of {name}")
+        return found
+
+    def section(self, name, section):
+        """The lines of a section in a subcommand's page."""
+        if self.lacks(name, section, ""):
+            return []
+        lines = self.sections[section]
+        if section == "OPTIONS":
+            return sum(self.options(name), [])
+        if section == "COPIES":
+            return lines if "\\-\\-into" in self.lines[name] else []
+        if section == "EXAMPLES":
+            found = [line for line in lines if f"tufcheck {name} " in line]
+            return [".nf", *found, ".fi"] if found else []
+        if section == "SEE ALSO":
+            own = f"\\fBtufcheck\\-{name}\\fR(1)"
+            if own not in "\n".join(lines):
+                refused(f"SEE ALSO has no {own}")
+            return [line.replace(own, "\\fBtufcheck\\fR(1)") for line in lines]
+        found, all_chunks = [], chunks(lines)
+        for chunk in all_chunks:
+            title = plain(chunk[1]) if chunk[0] == ".TP" else ""
+            if section == "EXIT STATUS" and title and int(title) not in statuses(all_chunks, name):
+                continue
+            if title and set(title.split(", ")) <= set(self.lines) and name not in title.split(", "):
+                continue
+            if not self.lacks(name, section, text(chunk)):
+                found += chunk
+        return found
+
+    def page(self, name):
+        title = self.head[0].replace(".TH TUFCHECK ", f".TH TUFCHECK\\-{name.upper()} ")
+        words = self.words[name]
+        told = self.told[name]
+        if title == self.head[0] or not told[0][0].islower():
+            refused(f"no title, or {name}'s part of DESCRIPTION doesn't begin with a verb")
+        lines = [title, ".SH NAME", f"tufcheck\\-{name} \\- {words[0].lower()}{words[1:]}", ".SH SYNOPSIS", self.lines[name],
+                 ".SH DESCRIPTION", f"\\fBtufcheck {name}\\fR {told[0]}", *told[1:]]
+        for section in list(self.sections)[3:]:
+            found = self.section(name, section)
+            lines += [f".SH {section}", *found] if found else []
+        return "\n".join(lines) + "\n"
+
+
+def main():
+    if len(sys.argv) != 2:
+        refused("one folder")
+    source, folder = Source(), pathlib.Path(sys.argv[1])
+    if list(source.sections)[:3] != ["NAME", "SYNOPSIS", "DESCRIPTION"]:
+        refused("the first sections aren't NAME, SYNOPSIS and DESCRIPTION")
+    pages = {name: source.page(name) for name in source.lines}
+    if source.met != set(LACKS):
+        refused(f"the source lacks {set(LACKS) - source.met}")
+    folder.mkdir(parents=True, exist_ok=True)
+    for name, page in pages.items():
+        (folder / f"tufcheck-{name}.1").write_text(page)
+
+
+main()
