@@ -26,7 +26,7 @@ rendered() {
 
 # options: the long options that a text names
 options() {
-    { grep -o -- '--[a-z-]*' || true; } | sort -u
+    { grep -o -- '--[a-z][a-z-]*' || true; } | sort -u
 }
 
 commands=$("$program" --help | sed -n '/^Commands:/,/^$/s/^  \([a-z]*\) .*/\1/p')

@@ -240,8 +240,7 @@ The bytes of one file, and none of a file that isn't trusted.
   [1]
   $ tufcheck show --file targets plain
   [1]
-  $ state full root=root snapshot=metadata/snapshot.json targets=metadata/targets.json timestamp=metadata/timestamp.json
-  $ tufcheck show full --file timestamp
+  $ tufcheck show two --file timestamp
   {"signatures":[...
   (no line feed)
   $ tufcheck show plain --file role
