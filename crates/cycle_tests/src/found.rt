@@ -251,7 +251,7 @@ fn names_are_consistent_by_the_last_root(rt: HostRuntime) {
     let trusted = first_state(&rt, &repo);
     assert!(rt; !trusted.root().reading().consistent());
     let wanted = wanted(&rt);
-    let course = follow_alone(&cycle_of(&rt, &trusted, &repo, &wanted)).expect(&rt, "memory");
+    let course = course(&rt, &repo, &wanted);
     assert!(rt; course.has_consistent_names());
     assert!(rt; course.trusted().root().bytes() == metadata(&rt, &repo, "2.root.json"));
 }
