@@ -8,10 +8,10 @@ use crate::hand::Hand;
 use cjson::NoMemory;
 use std::alloc::Global;
 
-/// A hand for each worker, of which there is at least one. Together they hold each number below
-/// `count` once, in order, in parts whose sizes differ by at most one, the longer ones first. Each
-/// hand can steal from every other one, and tries them from the next one upwards and round. It
-/// fails only if out of memory.
+/// Deals the numbers below `count` to a hand for each worker, of which there is at least one.
+/// Together the hands hold each number once, in order, in parts whose sizes differ by at most one,
+/// the longer ones first. Each hand can steal from every other one, and tries them from the next
+/// one upwards and round. Fails only if out of memory.
 pub fn deal(alloc: Global, count: usize, workers: usize) -> Result<Vec<Hand>, NoMemory>
     requires some { 0 < workers }
     ensures shares { IfOk result (λ v. map share_in v.items ≡ shares count workers) }
@@ -27,7 +27,7 @@ pub fn deal(alloc: Global, count: usize, workers: usize) -> Result<Vec<Hand>, No
     Ok(hands)
 }
 
-/// Hands that can't steal yet.
+/// Makes the hands, which can't steal yet. Fails only if out of memory.
 fn hands_apart(alloc: Global, count: usize, workers: usize) -> Result<Vec<Hand>, NoMemory>
     requires { 0 < workers }
     ensures shares { IfOk result (λ v. map share_in v.items ≡ shares_at count workers 0 1) }
@@ -43,7 +43,7 @@ fn hands_apart(alloc: Global, count: usize, workers: usize) -> Result<Vec<Hand>,
     Ok(hands)
 }
 
-/// Where part `k` ends, which is not past the count.
+/// Returns where part `k` ends, which begins with number `from`. It is not past the count.
 #[tactic(auto, using(crate::proofs::PartLemmas::next_start, crate::proofs::PartLemmas::within))]
 fn end_of(count: usize, workers: usize, k: usize, from: usize) -> usize
     requires below { k < workers }
@@ -56,7 +56,8 @@ fn end_of(count: usize, workers: usize, k: usize, from: usize) -> usize
     from + count / workers + longer
 }
 
-/// Gives hand `k` a way to each of the others, from the next one upwards and round.
+/// Gives hand `k` a way to each of the others, from the next one upwards and round. Fails only if
+/// out of memory.
 fn link(hands: &mut Vec<Hand>, count: usize, k: usize) -> Result<(), NoMemory>
     requires hand { k < vec_len hands.old }
     requires shares { map share_in hands.old.items ≡ shares_at count (vec_len hands.old) k 1 }
@@ -71,7 +72,7 @@ fn link(hands: &mut Vec<Hand>, count: usize, k: usize) -> Result<(), NoMemory>
     Ok(())
 }
 
-/// Gives hand `k` a way to the hand at this distance.
+/// Gives hand `k` a way to the hand at this distance. Fails only if out of memory.
 fn add_way(hands: &mut Vec<Hand>, count: usize, k: usize, step: usize) -> Result<(), NoMemory>
     requires hand { k < vec_len hands.old }
     requires some { 0 < step }
@@ -88,7 +89,7 @@ fn add_way(hands: &mut Vec<Hand>, count: usize, k: usize, step: usize) -> Result
     Ok(())
 }
 
-/// The hand that stands `step` behind hand `k`, round.
+/// Returns the number of the hand that is `step` after hand `k`, round.
 fn next_of(k: usize, step: usize, workers: usize) -> usize
     requires hand { k < workers }
     requires step { step < workers }

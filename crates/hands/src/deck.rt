@@ -19,7 +19,8 @@ pub type Deck = Worker<usize, Global, Took, Rule>;
 /// A way to steal from a deque.
 pub type Thief = Stealer<usize, Global, Took, Rule>;
 
-/// A deque of the numbers from `from` up to `end`, which isn't one of them, first in first out.
+/// Makes a deque of the numbers from `from` up to `end`, which isn't one of them, first in first
+/// out. Fails only if out of memory.
 #[tactic(auto, using(crate::proofs::Deals::range_more))]
 pub fn deck_of(alloc: Global, from: usize, end: usize) -> Result<Deck, NoMemory>
     requires order { from ≤ end }
@@ -46,7 +47,7 @@ pub fn another(deck: &mut Deck) -> Pass<usize, Took>
     deck.another::<Cut>()
 }
 
-/// The next number of one's own deque, or none if it was found empty.
+/// Takes the next number of one's own deque. Returns None if it was found empty.
 pub fn pop(deck: &mut Deck) -> Option<usize>
     requires fifo { worker_flavor deck.old ≡ 0 }
     ensures same { SameWorker deck.old deck.new }
@@ -58,8 +59,8 @@ pub fn pop(deck: &mut Deck) -> Option<usize>
     deck.pop_as::<Taken>()
 }
 
-/// Tries once to take a number from another's deque. None if it was found empty, or a number left
-/// it during the try.
+/// Tries once to take a number from another's deque. Returns None if it was found empty, or if a
+/// number left it during the try.
 pub fn steal(thief: &Thief, pass: &mut Pass<usize, Took>) -> Option<usize>
     requires fifo { stealer_flavor thief.now ≡ 0 }
     requires pass { IsPassOf (stealer_deque thief.now) pass.old }

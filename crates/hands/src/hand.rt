@@ -34,8 +34,9 @@ impl Model for Hand {
 }
 
 impl Hand {
-    /// A hand of the numbers from `from` up to `end`, of those below `count` that are dealt to so
-    /// many workers, with no way to others.
+    /// Makes a hand of the numbers from `from` up to `end`, which isn't one of them, with no way to
+    /// others. It is one of `workers` hands to which the numbers below `count` are dealt. Fails
+    /// only if out of memory.
     pub(crate) fn apart(
         alloc: Global,
         count: usize,
@@ -58,7 +59,7 @@ impl Hand {
         })
     }
 
-    /// A way to this hand's deque, for another worker.
+    /// Makes a way to this hand's deque, for another worker. Fails only if out of memory.
     pub(crate) fn way(&mut self) -> Result<Other, NoMemory>
         requires others { 1 < self.old.workers }
         ensures share { share_in self.new ≡ share_in self.old }
@@ -70,7 +71,8 @@ impl Hand {
         self.own.way()
     }
 
-    /// Adds a way to another hand's deque, behind those that are there.
+    /// Adds a way to another hand's deque, after those that are there. Fails only if out of
+    /// memory.
     pub(crate) fn add(&mut self, other: Other) -> Result<(), NoMemory>
         requires most { other.part.end ≤ self.old.count }
         requires taken { other.taken ≡ [] }
@@ -82,11 +84,11 @@ impl Hand {
         Ok(())
     }
 
-    /// The next number: one of its own, and one of another hand's only if its own deque is empty.
-    /// Then each other deque is tried once, from the next hand's upwards and round, until one gives
-    /// a number. None where no try gave one: an only worker then has taken all numbers, and another
-    /// hand may have some left, since a try fails too if a number leaves the deque meanwhile. It
-    /// waits for nobody and takes no memory.
+    /// Takes the next number: one of its own, and one of another hand's only if its own deque is
+    /// empty. Then it tries each other deque once, from the next hand's upwards and round, until
+    /// one gives a number. Returns None if no try gave one: an only worker then has taken all
+    /// numbers, and another hand may have some left, since a try fails too if a number leaves the
+    /// deque meanwhile. Waits for no thread and does not allocate.
     #[tactic(auto, using(crate::proofs::Trying::only_took, crate::proofs::Trying::below_held))]
     pub fn next(&mut self) -> Option<usize>
         ensures some { IfSome result (λ n. FirstGave n (sources self.old) (sources self.new)) }
@@ -103,8 +105,8 @@ impl Hand {
         steal_first(&mut self.others)
     }
 
-    /// Where a number comes if the parts of all workers are taken in turns: the first number of
-    /// each comes first, then the second ones, and so on. No two numbers come at one place.
+    /// Returns the place of number `n` if the parts of all workers are taken in turns: the first
+    /// number of each comes first, then the second ones, and so on. No two numbers have one place.
     pub fn turn(&self, n: usize) -> usize
         requires below { n < self.now.count }
         ensures turn { HasTurn self.now.count self.now.workers n result }
@@ -114,7 +116,8 @@ impl Hand {
     }
 }
 
-/// A number of the first of these deques that gives one. Each is tried once.
+/// Takes a number of the first of these deques that gives one. Tries each at most once, and returns
+/// None if none gives one.
 #[tactic(auto, using(crate::proofs::Trying::tries))]
 fn steal_first(others: &mut Vec<Other>) -> Option<usize>
     ensures some { IfSome result (λ n. FirstGave n others.old.items others.new.items) }

@@ -4,7 +4,7 @@
 //! - [`deal`] makes a [`Hand`] for each worker.
 //! - [`Hand::next`] gives a worker its next number: one of its own, and one of another hand's only
 //!   if its own deque is empty.
-//! - [`Hand::turn`] says where a number comes if the parts are taken in turns.
+//! - [`Hand::turn`] gives a number's place if the parts are taken in turns.
 #![tactic(auto)]
 
 mod dealing;

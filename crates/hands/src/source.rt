@@ -32,7 +32,8 @@ impl Model for Own {
 }
 
 impl Own {
-    /// A deque of the numbers from `from` up to `end`.
+    /// Makes a deque of the numbers from `from` up to `end`, which isn't one of them. Fails only if
+    /// out of memory.
     pub(crate) fn of_part(alloc: Global, from: usize, end: usize) -> Result<Own, NoMemory>
         requires order { from ≤ end }
         ensures part { IfOk result (λ o. o.part ≡ part_from from end) }
@@ -46,7 +47,7 @@ impl Own {
         })
     }
 
-    /// A way to steal from it.
+    /// Makes a way to steal from it. Fails only if out of memory.
     pub(crate) fn way(&mut self) -> Result<Other, NoMemory>
         ensures part { self.new.part ≡ self.old.part }
         ensures taken { self.new.taken ≡ self.old.taken }
@@ -62,7 +63,7 @@ impl Own {
         })
     }
 
-    /// Its next number, or none if it was found empty.
+    /// Takes its next number. Returns None if it was found empty.
     #[tactic(auto, using(crate::proofs::Trying::gave_some))]
     pub(crate) fn pop(&mut self) -> Option<usize>
         ensures some { IfSome result (λ n. Gave n self.old self.new) }
@@ -94,8 +95,8 @@ impl Model for Other {
 }
 
 impl Other {
-    /// Tries once to take its next number. None if it was found empty, or a number left it during
-    /// the try.
+    /// Tries once to take its next number. Returns None if it was found empty, or if a number left
+    /// it during the try.
     #[tactic(auto, using(crate::proofs::Trying::gave_some))]
     pub(crate) fn steal(&mut self) -> Option<usize>
         ensures some { IfSome result (λ n. Gave n self.old self.new) }

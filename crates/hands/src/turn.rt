@@ -3,8 +3,8 @@
 ghost use Rattle.std.specs.Prelude.{◌≡◌, ◌<◌};
 ghost use Rattle.hands.specs.Parts.{IsNumber, HasTurn};
 
-/// Where number `n` comes if the parts of all workers are taken in turns: the first numbers of all
-/// parts come first, then the second ones, and so on.
+/// Returns the place of number `n` if the parts of all workers are taken in turns: the first
+/// numbers of all parts come first, then the second ones, and so on.
 pub(crate) fn turn_of(count: usize, workers: usize, n: usize) -> usize
     requires some { 0 < workers }
     requires below { n < count }
@@ -15,7 +15,7 @@ pub(crate) fn turn_of(count: usize, workers: usize, n: usize) -> usize
     before * workers + k
 }
 
-/// The part that number `n` is of, and how many of its numbers come before.
+/// Returns the part that number `n` is of, and how many numbers of that part come before it.
 fn place_of(count: usize, workers: usize, n: usize) -> (usize, usize)
     requires some { 0 < workers }
     requires below { n < count }

@@ -25,7 +25,8 @@ fn join_words<const N: usize>(high: Simd<u32, N>, low: Simd<u32, N>) -> Simd<u32
     (high << 8) + (low >> 24)
 }
 
-/// The end of the prefix, the counter and the first byte of the digest.
+/// Returns the word of the last two bytes of the prefix, the counter and the first byte of the
+/// digest.
 #[inline(always)]
 fn counter_word<const N: usize>(
     end: Simd<u32, N>,

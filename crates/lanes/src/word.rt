@@ -23,8 +23,9 @@ pub(crate) fn maj<const N: usize>(x: Simd<u32, N>, y: Simd<u32, N>, z: Simd<u32,
     y ^ ((x ^ y) & (y ^ z))
 }
 
-/// The four functions below are three rotations or shifts under `^`. Their shifts stand inside one
-/// another, which takes fewer copies of `x`, and the machine has no rotation of lanes.
+/// Returns the upper-case sigma 0 of each lane's word. This function and the three below are three
+/// rotations or shifts under `^`. Their shifts are inside one another, which takes fewer copies of
+/// `x`, and the machine has no rotation of lanes.
 #[inline(always)]
 pub(crate) fn big_sigma0<const N: usize>(x: Simd<u32, N>) -> Simd<u32, N>
     ensures { (i : ℕ) → IsAt N i result (big_sigma0 (slice_index x.entry i)) }
@@ -53,7 +54,8 @@ pub(crate) fn small_sigma1<const N: usize>(x: Simd<u32, N>) -> Simd<u32, N>
     (((((x >> 2) ^ x) >> 7) ^ x) >> 10) ^ (((x << 2) ^ x) << 13)
 }
 
-/// The part of T 1 of a round that depends on the state alone (6.2.2, step 3).
+/// Returns the part of T 1 of a round that depends on the state alone (FIPS 180-4 section 6.2.2,
+/// step 3).
 #[inline(always)]
 pub(crate) fn mixed<const N: usize>(
     e: Simd<u32, N>,
@@ -68,7 +70,7 @@ pub(crate) fn mixed<const N: usize>(
     h + big_sigma1(e) + ch(e, f, g)
 }
 
-/// T 2 of a round.
+/// Returns T 2 of a round (FIPS 180-4 section 6.2.2, step 3).
 #[inline(always)]
 pub(crate) fn temp2<const N: usize>(
     a: Simd<u32, N>,

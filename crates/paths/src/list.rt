@@ -7,10 +7,11 @@ ghost use Rattle.paths.specs.Lists as spec;
 use memchr::memchr;
 use std::alloc::{AllocError, Global};
 
-/// The paths of a list, in order: each ends with the byte `mark`, which the last one may lack. An
-/// empty list has no paths. `None` if a path is empty or isn't UTF-8. Fails only if out of memory.
+/// Returns the paths of a list, in order: each ends with the byte `mark`, which the last one may
+/// lack. An empty list has no paths. Returns `None` if a path is empty or isn't UTF-8. Fails only
+/// if out of memory.
 ///
-/// It reads each byte a bounded number of times, and has one path at a time beside those that it
+/// Reads each byte a bounded number of times, and has one path at a time beside those that it
 /// returns.
 #[tactic(auto, using(crate::proofs::Parting::all_paths, crate::proofs::Parting::no_paths))]
 pub fn read_list(alloc: Global, bytes: &[u8], mark: u8) -> Result<Option<Vec<String>>, AllocError>
@@ -29,7 +30,7 @@ pub fn read_list(alloc: Global, bytes: &[u8], mark: u8) -> Result<Option<Vec<Str
     Ok(Some(paths))
 }
 
-/// The first path of a list, and the list behind it.
+/// Returns the first path of a list and the list after it, or `None` if the list is empty.
 #[tactic(auto, using(crate::proofs::Parting::no_parts))]
 fn first_of(list: &[u8], mark: u8) -> Option<(&[u8], &[u8])>
     ensures parts { MatchOption result (spec.parts mark list.now ≡ [])
@@ -42,7 +43,8 @@ fn first_of(list: &[u8], mark: u8) -> Option<(&[u8], &[u8])>
     Some(cut(list, mark))
 }
 
-/// What is before the first mark of a list that isn't empty, and what is behind it.
+/// Returns what is before the first mark of a list that isn't empty, and what is after it: all of
+/// the list and nothing if it has no mark.
 #[tactic(auto, using(crate::proofs::Parting::cut_at, crate::proofs::Parting::uncut))]
 fn cut(list: &[u8], mark: u8) -> (&[u8], &[u8])
     requires some { 0 < length list.now }
@@ -55,7 +57,7 @@ fn cut(list: &[u8], mark: u8) -> (&[u8], &[u8])
     }
 }
 
-/// The text of a path that is one.
+/// Returns the text of a path, or `None` if it is empty or isn't UTF-8.
 #[tactic(auto, using(crate::proofs::Parting::odd_isnt, crate::proofs::Parting::path_is))]
 fn path_of(bytes: &[u8]) -> Option<&str>
     ensures path { MatchOption result (spec.is_path bytes.now ≡ false)

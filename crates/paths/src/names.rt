@@ -26,7 +26,7 @@ pub fn paths_of_names(
     Ok(once_in_order(paths))
 }
 
-/// The path of each name, in order.
+/// Returns the path of each name, in order. Fails only if out of memory.
 fn each_path(alloc: Global, names: &[String], consistent: bool) -> Result<Vec<String>, AllocError>
     ensures { IfOk result (λ paths. map string_bytes paths.items
         ≡ map (spec.path_of consistent) (map string_bytes names.now)) }
@@ -38,7 +38,7 @@ fn each_path(alloc: Global, names: &[String], consistent: bool) -> Result<Vec<St
     Ok(paths)
 }
 
-/// The same paths, each once, in byte order.
+/// Returns the same paths, each once, in byte order.
 fn once_in_order(mut paths: Vec<String>) -> Vec<String>
     ensures { AreOnceInOrder (map string_bytes paths.items) (map string_bytes result.items) }
 {
@@ -47,7 +47,7 @@ fn once_in_order(mut paths: Vec<String>) -> Vec<String>
     paths
 }
 
-/// The path of a name.
+/// Returns the path of a name. Fails only if out of memory.
 fn path_of(alloc: Global, name: &str, consistent: bool) -> Result<String, AllocError>
     ensures { IfOk result (λ path. string_bytes path ≡ spec.path_of consistent name.now) }
 {
@@ -63,7 +63,7 @@ fn path_of(alloc: Global, name: &str, consistent: bool) -> Result<String, AllocE
     }
 }
 
-/// What follows the first dot, if a digest is before it, else all.
+/// Returns what follows the first dot if a digest is before it, else the whole name.
 fn unhashed(name: &str) -> &str
     ensures { result.now ≡ spec.unhashed name.now }
 {
@@ -73,7 +73,7 @@ fn unhashed(name: &str) -> &str
     }
 }
 
-/// Whether these are 64 or 128 digits in lower-case hexadecimal.
+/// Returns whether these are 64 or 128 digits in lower-case hexadecimal.
 #[tactic(auto, unfolding(crate::specs::Names::is_hash))]
 fn is_hash(digits: &str) -> bool
     ensures { result ≡ spec.is_hash digits.now }
