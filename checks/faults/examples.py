@@ -15,6 +15,8 @@ repositories are signed by the Python beside this script. In short:
   - no control character of a name is printed;
   - of `a` and `a/b` one is installed, or both aren't, with a status that isn't 0.
 
+The Python of that page is run, too, as it stands there: it installs the file, with plain and with consistent names.
+
 It prints a line for each case and updater: `ok`, `fail` with what was seen, or `not tried` with what is missing. Cases that
 need a file which can't be read aren't tried as the superuser, who can read all. The status is 1 if one fails, and 2 if the
 updaters can't be built.
@@ -23,6 +25,7 @@ import contextlib
 import hashlib
 import os
 import pathlib
+import re
 import shutil
 import subprocess
 import sys
@@ -70,6 +73,34 @@ def delegated(folder, name):
         os.makedirs(f"{folder}/metadata/a", exist_ok=True)
         tuf.write(f"{folder}/metadata/{file}.json", text)
     tuf.write(f"{folder}/targets/p", content)
+
+
+# ---- the Python of the page
+
+# What the page leaves to the caller.
+CALLER = """
+import hashlib
+
+def fetch(need):
+    try:
+        with open(f"repo/{need.place.name.lower()}/{need.name}", "rb") as file:
+            return file.read(need.most + 1)
+    except FileNotFoundError:
+        return None
+
+def install(listed):
+    [content] = [it for it in job.targets.values() if hashlib.sha256(it).digest() == listed.sha256]
+    print(content.decode())
+"""
+
+
+def on_page(consistent):
+    repository("repo", {"abc.txt": b"abc"}, consistent=consistent)
+    shutil.copy("repo/metadata/1.root.json", "1.root.json")
+    codes = re.findall("```python\n(.*?)```", (TOP / "docs/EMBEDDING.md").read_text(), re.DOTALL)
+    want(len(codes) == 1, f"the page has {len(codes)} examples in Python")
+    ran = subprocess.run([sys.executable, "-c", CALLER + codes[0]], capture_output=True, text=True, timeout=600)
+    want((ran.returncode, ran.stdout) == (0, "abc\n"), f"status {ran.returncode}: {ran.stdout}{ran.stderr.strip()[-500:]}")
 
 
 # ---- updaters
@@ -341,6 +372,10 @@ def main():
                 line = tried(f"{language}: {name}", case, Run(words))
                 print(line, flush=True)
                 failed |= line.startswith("fail")
+        for consistent in (False, True):
+            line = tried(f"the page's Python, {'consistent' if consistent else 'plain'} names", on_page, consistent)
+            print(line, flush=True)
+            failed |= line.startswith("fail")
     sys.exit(1 if failed else 0)
 
 
