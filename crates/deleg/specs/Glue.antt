@@ -56,6 +56,11 @@ outlook q es seen =
     settled (walk (file_in q.context.files.now) q.context.moment q.root.now q.snapshot.now
     q.path.now q.limit es seen)
 
+-- the delegations from the first one that is for the path
+abbrev pub from_first_for : List ℕ → List Edge → List Edge
+from_first_for path [] = []
+from_first_for path (e ∷ es) = if is_for path e then e ∷ es else from_first_for path es
+
 -- the pending delegations of each file, the last file's first
 abbrev pub pending : List ℕ → List (List Edge) → List Edge
 pending path [] = []

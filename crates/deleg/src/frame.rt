@@ -1,10 +1,11 @@
 //! The files on the stack of a search, and which of their delegations are left.
 
 ghost use Rattle.std.specs.Prelude.{◌≡◌, ◌<◌, ◌^◌, IfOk, drop, length, slice_get, option_map};
+ghost use Rattle.deleg.specs.Glue.{from_first_for};
 ghost use Rattle.deleg.specs.Search as spec;
 
 use crate::cache::Entered;
-use crate::edge::{Edge, bin_of, edge_at, edge_count};
+use crate::edge::{Edge, bin_of, edge_at, edge_count, is_for};
 use crate::hashed::HashedPath;
 use cjson::NoMemory;
 use cjson::text::Text;
@@ -91,6 +92,13 @@ impl Frame {
         edge_at(self.file.reading(), self.bin.as_str(), self.tried)
     }
 
+    /// Drops the delegations before the first one that is for the path.
+    pub(crate) fn skip_others(&mut self, path: &HashedPath)
+        ensures { self.new ≡ from_first_for path.now self.old }
+    {
+        self.tried = first_for(self.file.reading(), self.bin.as_str(), path, self.tried);
+    }
+
     /// Drops the first delegation that is left.
     pub(crate) fn skip(&mut self)
         ensures { self.new ≡ drop 1 self.old }
@@ -99,4 +107,21 @@ impl Frame {
             self.tried += 1;
         }
     }
+}
+
+/// Returns the place of the first delegation that is for the path, from this place on. If there is
+/// none, returns a place behind the last delegation.
+fn first_for(targets: &Targets, bin: &str, path: &HashedPath, from: usize) -> usize
+    ensures { drop result (spec.edges_by bin.now targets.now)
+        ≡ from_first_for path.now (drop from (spec.edges_by bin.now targets.now)) }
+{
+    let count = edge_count(targets, bin);
+    let mut place = from;
+    while place < count {
+        match edge_at(targets, bin, place) {
+            Some(edge) if !is_for(&edge, path) => place += 1,
+            _ => return place,
+        }
+    }
+    place
 }

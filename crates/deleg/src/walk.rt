@@ -1,7 +1,7 @@
 //! The search through the delegations of the files on a stack.
 
 ghost use Rattle.std.specs.Prelude.{◌≡◌, ◌+◌, ◌<◌, ◌∷◌, ◌++◌, [], List, drop, length, option_map};
-ghost use Rattle.std.specs.Prelude.{if◌then◌else◌, IfOk};
+ghost use Rattle.std.specs.Prelude.{if◌then◌else◌, IfOk, IfSome, IsTrue, slice_get};
 ghost use Rattle.deleg.specs.Search as spec;
 ghost use Rattle.deleg.specs.Glue as glue;
 ghost use Rattle.deleg.specs.Cache.{IsCacheOf, examination_in};
@@ -9,7 +9,6 @@ ghost use Rattle.deleg.specs.declared.found.Found.TheVariants as found;
 
 use crate::accepted::{Accepted, Search};
 use crate::cache::RoleCache;
-use crate::edge::is_for;
 use crate::found::Found;
 use crate::frame::Frame;
 use crate::once::examine_once;
@@ -27,8 +26,7 @@ enum Step {
     Leaves,
     /// Ends with this finding.
     Ends(Found),
-    /// Skips the delegation: it isn't for the path, or its role was visited. `terminating` is
-    /// whether it is for the path and terminating.
+    /// Skips the delegation, whose role was visited.
     Skips { terminating: bool },
     /// Enters the file of the role, which is accepted and doesn't list the path.
     Enters { terminating: bool, below: Frame },
@@ -47,7 +45,8 @@ pub(crate) fn walk<J: Judge>(
     ensures cache { IsCacheOf (examination_in query.now) cache.new }
 {
     let mut seen = Vec::new(query.context.alloc);
-    while let Some(frame) = stack.pop() {
+    while let Some(mut frame) = stack.pop() {
+        frame.skip_others(query.path);
         match follow(query, &frame, &mut seen, cache, judge)? {
             Step::Leaves => {}
             Step::Ends(found) => {
@@ -67,7 +66,7 @@ pub(crate) fn walk<J: Judge>(
     })
 }
 
-/// Tries the file's next delegation. If it is for the path and its role wasn't visited, visits it.
+/// Tries the file's next delegation, which is for the path. If its role wasn't visited, visits it.
 fn follow<J: Judge>(
     query: &Query,
     frame: &Frame,
@@ -75,6 +74,8 @@ fn follow<J: Judge>(
     cache: &mut RoleCache,
     judge: &mut J,
 ) -> Result<Step, NoMemory>
+    requires first { IfSome (slice_get frame.now 0) (λ e.
+        IsTrue (spec.is_for query.now.path.now e)) }
     requires cache { IsCacheOf (examination_in query.now) cache.old }
     ensures step { IfOk result (λ step. (others : List spec.Edge) → glue.IsStep query.now frame.now
         others seen.old.items step seen.new.items) }
@@ -85,9 +86,6 @@ fn follow<J: Judge>(
     let Some(edge) = frame.next() else {
         return Ok(Step::Leaves);
     };
-    if !is_for(&edge, query.path) {
-        return Ok(Step::Skips { terminating: false });
-    }
     let terminating = edge.terminating;
     if is_visited(seen.as_slice(), edge.name) {
         return Ok(Step::Skips { terminating });
