@@ -5,8 +5,9 @@
 #   bindings/link.sh FOLDER [BUILT]
 #
 # FOLDER is made. BUILT is crates/tufcheck_c/out/libtufcheck_c.a unless given. The built library calls three functions for
-# memory: bindings/c/heap.c has them, over malloc, realloc and free. bindings/c/texts.c has the call tufcheck_text. All
-# becomes one object that shows only the calls of the header; in the shared library they have the version that
+# memory: bindings/c/heap.c has them, over malloc, realloc and free. bindings/c/texts.c has the call tufcheck_text, and
+# bindings/c/nulls.c the calls that take null, over those of the built library, which are renamed proved_*. All becomes one
+# object that shows only the calls of the header; in the shared library they have the version that
 # bindings/c/libtufcheck.map names. The links libtufcheck.so.1 and libtufcheck.so lead to it.
 #
 # It needs ar, ld, objcopy (binutils) and cc. It prints the names that the library shows and those that it needs. The status
@@ -23,10 +24,14 @@ work=$(mktemp -d)
 trap 'rm -rf "$work"' EXIT
 cd "$work"
 ar x "$built"
-for name in heap texts; do
+for name in heap texts nulls; do
     cc -std=c99 -Wall -Wextra -pedantic -O2 -fPIC -fvisibility=hidden -c -o $name.o "$top/bindings/c/$name.c"
 done
-ld -r -o tufcheck.o tufcheck_c.o heap.o texts.o
+for name in first next list verify lms_verify; do
+    renamed+=(--redefine-sym "tufcheck_$name=proved_$name")
+done
+objcopy "${renamed[@]}" tufcheck_c.o
+ld -r -o tufcheck.o tufcheck_c.o heap.o texts.o nulls.o
 objcopy --wildcard --keep-global-symbol='tufcheck_*' tufcheck.o
 rm -f "$folder/libtufcheck.a"
 ar rcsD "$folder/libtufcheck.a" tufcheck.o

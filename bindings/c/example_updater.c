@@ -48,7 +48,7 @@ static void print_name(FILE *out, const uint8_t *name, size_t len)
 
 static void *room(size_t count, size_t size)
 {
-    /* One more than is needed, so that the pointer is never null. */
+    /* One more than is needed, since calloc may return null for no bytes. */
     void *memory = calloc(count + 1, size);
     if (memory == NULL)
         fail("memory", "refused");
@@ -208,8 +208,7 @@ static size_t fetch_some(const char *repository, const tufcheck_needs *needs, in
 static void fetch_all(const char *repository, tufcheck_job *job, list *metadata, list *targets)
 {
     tufcheck_needs needs = {0};
-    needs.rows = room(0, sizeof *needs.rows);
-    needs.names = room(0, 1);
+    needs.size = sizeof needs;
     for (size_t found = 1; found > 0;) {
         job->metadata = metadata->files;
         job->metadata_count = metadata->count;
@@ -257,56 +256,29 @@ static tufcheck_bytes state_of(const char *root, const char *path)
     tufcheck_bytes state, first;
     int begins = lstat(path, &seen) != 0 && errno == ENOENT;
     int error = begins ? read_file(root, 512000, &first)
-                       : read_file(path, TUFCHECK_STATE_MOST, &state);
+                       : read_file(path, UINT64_MAX, &state);
     if (error != 0)
         fail(begins ? root : path, strerror(error));
     if (!begins)
         return state;
-    uint8_t *text = room(2 * first.len + 64, 1);
-    int32_t result = tufcheck_first(first.data, first.len, text, 2 * first.len + 64, &state.len);
+    uint8_t *text = NULL;
+    int32_t result = tufcheck_first(first.data, first.len, NULL, 0, &state.len);
+    if (result == TUFCHECK_NO_ROOM) {
+        text = room(state.len, 1);
+        result = tufcheck_first(first.data, first.len, text, state.len, &state.len);
+    }
     if (result != 0)
         fail(root, tufcheck_text(result));
     state.data = text;
     return state;
 }
 
-/* The fetched file that was verified for an accepted path: the first of the names that the cycle
- * looks up for it. Under consistent names these begin with the listed digests. Of files with one
- * name the last counts. */
-static const tufcheck_file *verified(const tufcheck_job *job, const tufcheck_bytes *path)
-{
-    const tufcheck_file *found = NULL;
-    tufcheck_job alone = *job;
-    tufcheck_needs needs = {0};
-    needs.rows = room(0, sizeof *needs.rows);
-    needs.names = room(0, 1);
-    alone.wanted = path;
-    alone.wanted_count = 1;
-    alone.target_count = 0;
-    next(&alone, &needs);
-    for (size_t i = 0; i < needs.summary.verdict_count && found == NULL; i++) {
-        const tufcheck_need *need = &needs.rows[i];
-        for (size_t j = job->target_count; j > 0 && found == NULL; j--) {
-            const tufcheck_file *file = &job->targets[j - 1];
-            if (need->place == TUFCHECK_TARGETS && file->name.len == need->name_len
-                && memcmp(file->name.data, needs.names + need->name_at, need->name_len) == 0)
-                found = file;
-        }
-    }
-    free(needs.rows);
-    free(needs.names);
-    return found;
-}
-
 /* Installs the verified file of an accepted path, whose folders it makes. */
-static void install(const tufcheck_job *job, const tufcheck_bytes *path, const char *new,
+static void install(const tufcheck_file *file, const tufcheck_bytes *path, const char *new,
                     const char *out)
 {
-    const tufcheck_file *file = verified(job, path);
     char *place = room(strlen(out) + path->len + 2, 1), *at = place + strlen(out);
     sprintf(place, "%s/%s", out, (const char *)path->data);
-    if (file == NULL)
-        fail(place, "no verified file");
     for (; (at = strchr(at, '/')) != NULL; *at++ = '/') {
         *at = 0;
         if (mkdir(place, 0777) != 0 && errno != EEXIST)
@@ -350,8 +322,9 @@ static void finish(const tufcheck_job *job, const tufcheck_answer *answer, const
     putchar('\n');
     for (size_t i = 0; i < summary->verdict_count; i++) {
         print_verdict(&job->wanted[i], &answer->verdicts[i], answer->names);
+        /* This updater has no digests, so the file is one of the targets. */
         if (answer->verdicts[i].kind == TUFCHECK_ACCEPTED)
-            install(job, &job->wanted[i], new, out);
+            install(&job->targets[answer->verdicts[i].file_at], &job->wanted[i], new, out);
     }
 }
 
@@ -387,6 +360,8 @@ int main(int argc, char **argv)
     list metadata = {room(0, sizeof(tufcheck_file)), 0}, targets = {room(0, sizeof(tufcheck_file)), 0};
     tufcheck_job job = {0};
     tufcheck_answer answer = {0};
+    job.size = sizeof job;
+    answer.size = sizeof answer;
     if (argc < 7 || !take(&job, argc, argv))
         return usage();
     if (tufcheck_version() / 1000000 != TUFCHECK_VERSION / 1000000)
@@ -394,10 +369,9 @@ int main(int argc, char **argv)
     char *new = room(strlen(argv[2]) + 5, 1);
     sprintf(new, "%s.new", argv[2]);
     job.state = state_of(argv[1], argv[2]);
-    job.digests = TUFCHECK_NOTHING;
     job.limit = 32;
     fetch_all(argv[3], &job, &metadata, &targets);
-    answer.summary.state_len = TUFCHECK_STATE_MOST;
+    answer.summary.state_len = job.state.len;
     answer.summary.verdict_count = job.wanted_count;
     answer.summary.role_count = 64;
     answer.summary.name_len = 4096;

@@ -23,6 +23,8 @@ static const char *of_result(int32_t number)
         return "the limit is not 1 to 256";
     case TUFCHECK_NO_ROOM:
         return "some room is too small";
+    case TUFCHECK_NO_SIZE:
+        return "a size is not that of the struct in this version";
     default:
         return NULL;
     }
@@ -110,9 +112,22 @@ static const char *of_place(int32_t number)
     }
 }
 
+static const char *of_source(int32_t number)
+{
+    switch (number) {
+    case TUFCHECK_IN_TARGETS:
+        return "in the job's targets";
+    case TUFCHECK_IN_DIGESTS:
+        return "in the job's digests";
+    default:
+        return NULL;
+    }
+}
+
 const char *tufcheck_text(int32_t number)
 {
-    const char *(*const families[])(int32_t) = {of_result, of_end, of_kind, of_fault, of_place};
+    const char *(*const families[])(int32_t) = {of_result, of_end,   of_kind,
+                                                of_fault,  of_place, of_source};
     for (size_t i = 0; i < sizeof families / sizeof *families; i++) {
         const char *text = families[i](number);
         if (text != NULL)

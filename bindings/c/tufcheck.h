@@ -11,10 +11,9 @@
  *
  * What the caller owes:
  *
- * - No pointer is null, also where its length or count is 0: there any other address does, such as
- *   TUFCHECK_NOTHING. A pointer is aligned for its type, and its memory is as long as its length or
- *   count says. No room overlaps another room, its own answer or any memory of the job, and nothing
- *   writes to the job's memory during a call.
+ * - A pointer may be null only where its length or count is 0. It is aligned for its type, and its
+ *   memory is as long as its length or count says. No room overlaps another room, its own answer or
+ *   any memory of the job, and nothing writes to the job's memory during a call.
  * - A stack of 256 KB. A file of nested JSON takes up to 90 KB of it, before any signature is
  *   checked, so any mirror can cause that.
  * - malloc, realloc and free of one allocator, which align a block to each power of two up to 16
@@ -39,10 +38,10 @@
 #endif
 #if defined(__GNUC__)
 #define TUFCHECK_RESULT __attribute__((warn_unused_result))
-#define TUFCHECK_NONNULL __attribute__((nonnull))
+#define TUFCHECK_NONNULL(places) __attribute__((nonnull places))
 #else
 #define TUFCHECK_RESULT
-#define TUFCHECK_NONNULL
+#define TUFCHECK_NONNULL(places)
 #endif
 #if defined(__cplusplus) && __cplusplus >= 201103L
 #define TUFCHECK_NOEXCEPT noexcept
@@ -52,17 +51,8 @@
 #define TUFCHECK_NOEXCEPT
 #endif
 
-/* A pointer for a length or a count of 0. */
 #ifdef __cplusplus
-extern "C++" {
-struct tufcheck_nothing {
-    template <typename T> operator T *() const { return reinterpret_cast<T *>(16); }
-};
-}
-#define TUFCHECK_NOTHING tufcheck_nothing()
 extern "C" {
-#else
-#define TUFCHECK_NOTHING ((void *)16)
 #endif
 
 /* The version of this header: 1,000,000 times its first number, 1,000 times its second number, and
@@ -71,11 +61,7 @@ extern "C" {
 #define TUFCHECK_VERSION 1000000
 #define TUFCHECK_VERSION_TEXT "1.0.0"
 
-/* No text of a state is longer, in bytes. Nor is it longer than that of the state before and twice
- * all metadata files of the job, and 64. */
-#define TUFCHECK_STATE_MOST 15056821
-
-/* Each family of numbers is its own: no kind, end, fault or place has the number of one of another
+/* Each family of numbers is its own: no kind, end, fault, place or source has the number of one of another
  * family, or of a result, so that a comparison with the wrong family is never true.
  *
  * Results of the calls. From 0 on there is an answer. Below 0 there is none, and no room is written.
@@ -89,7 +75,8 @@ enum tufcheck_result {
     TUFCHECK_NO_NAME = -3,    /* a file's name or a wanted path is not UTF-8 */
     TUFCHECK_NO_MOMENT = -4,  /* the moment is past the year 9999 */
     TUFCHECK_NO_LIMIT = -5,   /* the limit is not 1 to 256 */
-    TUFCHECK_NO_ROOM = -6     /* some room is too small: the summary counts how much is needed */
+    TUFCHECK_NO_ROOM = -6,    /* some room is too small: the summary counts how much is needed */
+    TUFCHECK_NO_SIZE = -7     /* a size is not that of the struct in this version */
 };
 
 /* How a cycle ends: summary.end. */
@@ -133,6 +120,17 @@ enum tufcheck_place {
     TUFCHECK_TARGETS = 50
 };
 
+/* Which list of the job has the file that a verdict is by: the source of a verdict. */
+enum tufcheck_source {
+    TUFCHECK_IN_TARGETS = 81,
+    TUFCHECK_IN_DIGESTS = 82
+};
+
+/* Room to grow. `size` is sizeof of the struct: a later version of the library knows by it which
+ * fields the caller's struct has, and takes those of this version too. New fields come after the
+ * last one. So the summary, which is the last field, has reserved words, and so have the rows that
+ * the library writes: it writes zeros there. The rows that a caller gives stay as they are. */
+
 typedef struct tufcheck_bytes {
     const uint8_t *data;
     size_t len;
@@ -145,11 +143,14 @@ typedef struct tufcheck_file {
     tufcheck_bytes bytes;
 } tufcheck_file;
 
-/* A target file that isn't in memory: its length and both digests, for a caller that computes them
- * while it downloads. */
+/* A target file that isn't in memory: its length, and those digests that are listed, for a caller
+ * that computes them while it downloads. tufcheck_list says which are. A listed digest that isn't
+ * given counts as another one. */
 typedef struct tufcheck_digests {
     tufcheck_bytes name;
     uint64_t length;
+    uint8_t has_sha256; /* 0 if it isn't given */
+    uint8_t has_sha512;
     uint8_t sha256[32];
     uint8_t sha512[64];
 } tufcheck_digests;
@@ -157,6 +158,7 @@ typedef struct tufcheck_digests {
 /* The input of a call. Of all files with one name the last counts, and one of digests counts after
  * one of targets. */
 typedef struct tufcheck_job {
+    size_t size;          /* sizeof(tufcheck_job) */
     tufcheck_bytes state; /* the text of the trusted state: of tufcheck_first, or the last answer */
     const tufcheck_file *metadata;
     size_t metadata_count;
@@ -179,15 +181,20 @@ typedef struct tufcheck_summary {
     size_t verdict_count;  /* rows of wanted paths, or of files to fetch */
     size_t role_count;     /* rows of accepted roles */
     size_t name_len;       /* bytes of all names */
+    uint64_t reserved[4];
 } tufcheck_summary;
 
-/* The verdict of a wanted path. The name of its role is in the names, from role_at on. */
+/* The verdict of a wanted path. The name of its role is in the names, from role_at on. The file that
+ * it is by is the one at file_at in the list that source names: install no other one. */
 typedef struct tufcheck_verdict {
     uint32_t kind;
     uint32_t fault;  /* of a refused file, or 0 */
     uint64_t length; /* of an accepted file in bytes, or 0 */
     size_t role_at;
     size_t role_len; /* 0 if there is no role */
+    size_t file_at;  /* the index of the file in the job's targets or digests */
+    uint32_t source; /* TUFCHECK_IN_TARGETS or TUFCHECK_IN_DIGESTS, or 0 if there is no file */
+    uint32_t reserved[5];
 } tufcheck_verdict;
 
 /* A delegated role that was accepted. */
@@ -195,10 +202,12 @@ typedef struct tufcheck_role {
     uint64_t version;
     size_t name_at;
     size_t name_len;
+    uint64_t reserved[2];
 } tufcheck_role;
 
 /* The rooms for the outcome of a verification. The caller sets all but the summary. */
 typedef struct tufcheck_answer {
+    size_t size;    /* sizeof(tufcheck_answer) */
     uint8_t *state; /* for the text of the new state, to be kept whenever there is an answer */
     size_t state_room;
     tufcheck_verdict *verdicts; /* one for each wanted path, in order */
@@ -210,21 +219,27 @@ typedef struct tufcheck_answer {
     tufcheck_summary summary;
 } tufcheck_answer;
 
-/* What roles list of a wanted path. */
+/* What roles list of a wanted path. The names have that of its role, and from name_at on the name to
+ * fetch: the first under which the file is looked up, which under consistent names begins with a
+ * digest. */
 typedef struct tufcheck_listed {
     uint32_t kind;   /* TUFCHECK_LISTED, or why no role lists the path */
     uint32_t fault;  /* of a role's refused file, or 0 */
     uint64_t length; /* the listed length in bytes, or 0 */
     size_t role_at;
     size_t role_len;
+    size_t name_at;
+    size_t name_len;    /* 0 if no role lists the path */
     uint8_t has_sha256; /* 1 if that digest is listed; if not, it is zeros */
     uint8_t has_sha512;
     uint8_t sha256[32];
     uint8_t sha512[64];
+    uint8_t reserved[30];
 } tufcheck_listed;
 
 /* The rooms for a listing. Its summary counts no roles. */
 typedef struct tufcheck_listing {
+    size_t size; /* sizeof(tufcheck_listing) */
     uint8_t *state;
     size_t state_room;
     tufcheck_listed *rows; /* one for each wanted path, in order */
@@ -242,10 +257,12 @@ typedef struct tufcheck_need {
     uint64_t most;     /* fetch no more bytes than that: a longer file is refused */
     size_t name_at;
     size_t name_len;
+    uint64_t reserved[2];
 } tufcheck_need;
 
 /* The rooms for the files to fetch. The summary counts no state and no roles. */
 typedef struct tufcheck_needs {
+    size_t size;         /* sizeof(tufcheck_needs) */
     tufcheck_need *rows; /* in the order in which the workflow looks the files up */
     size_t row_room;
     uint8_t *names;
@@ -256,7 +273,7 @@ typedef struct tufcheck_needs {
 /* The version of the library, as that of this header. */
 TUFCHECK_API TUFCHECK_RESULT uint32_t tufcheck_version(void) TUFCHECK_NOEXCEPT;
 
-/* The text of a result, end, kind, fault or place, in English and in ASCII, with a NUL at its end;
+/* The text of a result, end, kind, fault, place or source, in English and in ASCII, with a NUL at its end;
  * of any other number "unknown number". It is never null, stays as long as the library is loaded,
  * and isn't to be freed. Its words may change from version to version: compare numbers. The texts of
  * 0, 1 and 2 are true of each call, and that of 0 also of a fault that is 0. */
@@ -264,8 +281,8 @@ TUFCHECK_API TUFCHECK_RESULT const char *tufcheck_text(int32_t number) TUFCHECK_
 
 /* Writes the text of the state of a first root, which the caller trusts, to state, and its length
  * to len. Returns 0, TUFCHECK_NO_STATE, TUFCHECK_NO_MEMORY or TUFCHECK_NO_ROOM; for the last one len
- * is the length of the text. Twice the length of the root and 64 is always room enough. */
-TUFCHECK_API TUFCHECK_RESULT TUFCHECK_NONNULL int32_t
+ * is the length of the text. */
+TUFCHECK_API TUFCHECK_RESULT TUFCHECK_NONNULL((5)) int32_t
 tufcheck_first(const uint8_t *root, size_t root_len, uint8_t *state, size_t state_room,
                size_t *len) TUFCHECK_NOEXCEPT;
 
@@ -273,17 +290,26 @@ tufcheck_first(const uint8_t *root, size_t root_len, uint8_t *state, size_t stat
  * optional, else 2 if the cycle stopped, else 0. Fetch the optional ones first: with one of them,
  * others may no longer be needed. The names come from metadata, which a stranger may have written: a
  * caller that opens files must refuse names that lead out of its folder. */
-TUFCHECK_API TUFCHECK_RESULT TUFCHECK_NONNULL int32_t
+TUFCHECK_API TUFCHECK_RESULT TUFCHECK_NONNULL((1, 2)) int32_t
 tufcheck_next(const tufcheck_job *job, tufcheck_needs *needs) TUFCHECK_NOEXCEPT;
 
 /* Returns what roles list of the wanted paths, without looking at target files: 0 if the cycle is
  * ready and all are listed, 1 if it is ready and some is not, 2 if it stopped. */
-TUFCHECK_API TUFCHECK_RESULT TUFCHECK_NONNULL int32_t
+TUFCHECK_API TUFCHECK_RESULT TUFCHECK_NONNULL((1, 2)) int32_t
 tufcheck_list(const tufcheck_job *job, tufcheck_listing *listing) TUFCHECK_NOEXCEPT;
 
 /* Verifies the job: runs one cycle of the client workflow, and writes the outcome to answer. */
-TUFCHECK_API TUFCHECK_RESULT TUFCHECK_NONNULL int32_t
+TUFCHECK_API TUFCHECK_RESULT TUFCHECK_NONNULL((1, 2)) int32_t
 tufcheck_verify(const tufcheck_job *job, tufcheck_answer *answer) TUFCHECK_NOEXCEPT;
+
+/* Returns 1 if the signature of the message is valid for the public key, and else 0. All three are
+ * the bytes of RFC 8554, for LM-OTS with W4 or W8 and LMS with height 5, 10 or 15 over SHA-256: the
+ * key has 56 bytes, and of any other key no signature is valid. No other number is returned: it
+ * doesn't allocate, and takes no file of TUF. */
+TUFCHECK_API TUFCHECK_RESULT int32_t
+tufcheck_lms_verify(const uint8_t *key, size_t key_len, const uint8_t *message,
+                    size_t message_len, const uint8_t *signature,
+                    size_t signature_len) TUFCHECK_NOEXCEPT;
 
 #ifdef __cplusplus
 }

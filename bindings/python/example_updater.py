@@ -43,7 +43,7 @@ class Fetcher:
     def __init__(self, repository: pathlib.Path, downloads: pathlib.Path) -> None:
         self.repository = repository
         self.downloads = downloads
-        self.places: Dict[tuple, pathlib.Path] = {}
+        self.places: Dict[str, pathlib.Path] = {}
 
     def __call__(self, need: tufcheck.Need) -> Union[bytes, tufcheck.Digests, None]:
         folder = "metadata" if need.place is tufcheck.Place.METADATA else "targets"
@@ -74,17 +74,8 @@ class Fetcher:
                 sha256.update(piece)
                 sha512.update(piece)
                 length += len(piece)
-        digests = tufcheck.Digests(length, sha256.digest(), sha512.digest())
-        self.places[length, digests.sha256, digests.sha512] = place
-        return digests
-
-    def accepted(self, listed: tufcheck.Listed) -> pathlib.Path:
-        """The download that has the listed length and digests, whatever its name is."""
-        for (length, sha256, sha512), place in self.places.items():
-            if length == listed.length and listed.sha256 in (None, sha256) \
-                    and listed.sha512 in (None, sha512):
-                return place
-        raise FileNotFoundError("no verified file")
+        self.places[need.name] = place
+        return tufcheck.Digests(length, sha256.digest(), sha512.digest())
 
 
 def state_of(root: pathlib.Path, state: pathlib.Path) -> bytes:
@@ -140,7 +131,7 @@ def update(root: str, state: str, repository: str, moment: int, out: str, wanted
     with tempfile.TemporaryDirectory(prefix=".new-", dir=room) as downloads:
         fetcher = Fetcher(pathlib.Path(repository), pathlib.Path(downloads))
         tufcheck.fetch_all(job, fetcher)
-        outcome, listing = job.verify(), job.list()
+        outcome = job.verify()
         keep(place, outcome.state)
         print("root", outcome.root_version, outcome.end.name,
               outcome.fault.name if outcome.fault else "")
@@ -148,7 +139,7 @@ def update(root: str, state: str, repository: str, moment: int, out: str, wanted
             print(ascii(path), verdict.kind.name, verdict.fault.name if verdict.fault else "",
                   verdict.length, ascii(verdict.role))
             if verdict:
-                install(fetcher.accepted(listing.listed[path]), room / path)
+                install(fetcher.places[verdict.file], room / path)
     return int(outcome.status)
 
 

@@ -79,8 +79,6 @@ def delegated(folder, name):
 
 # What the page leaves to the caller.
 CALLER = """
-import hashlib
-
 def fetch(need):
     try:
         with open(f"repo/{need.place.name.lower()}/{need.name}", "rb") as file:
@@ -88,8 +86,7 @@ def fetch(need):
     except FileNotFoundError:
         return None
 
-def install(listed):
-    [content] = [it for it in job.targets.values() if hashlib.sha256(it).digest() == listed.sha256]
+def install(content):
     print(content.decode())
 """
 

@@ -12,11 +12,12 @@
 #      no block (library/heap.c); so does that of the kit, if `rt` is here.
 #   2. Each field of the header is where the library has it; the header compiles without warnings in each standard of C and C++
 #      (library/standards.sh). Each number of the header has a text of its own, and no other number has one (library/texts.c).
-#      Each call has a man page, which declares it as the header does.
+#      Each call has a man page, which declares it as the header does. An LMS signature is valid, and not after a change
+#      (library/signatures.py).
 #   3. The example updaters of C, Python, Rust and Go fetch repositories of examples/ from a folder, and verify them.
 #   4. Drawn histories (those of second.py) have the lines, the status and the state of the program, from Python and from C,
-#      with bytes, with digests and after fetching (library/compare.py).
-#   5. With each allocation refused in turn, with one too little in each room, with each error, in four threads and on a stack
+#      with bytes, with all digests, with the listed ones alone and after fetching (library/compare.py).
+#   5. With each allocation refused in turn, with one too little in each room, with each error, with null for what is empty, in four threads and on a stack
 #      of 256 KB the calls return what they must (library/stress.c); and how much of a stack nested JSON takes.
 #   6. valgrind finds nothing in 3 (C) and in 5.
 #
@@ -52,7 +53,7 @@ export TUFCHECK_LIBRARY=$work/lib/libtufcheck.so.1 PYTHONPATH=$top/bindings/pyth
 
 # 1. Names.
 {
-    for name in first list next text verify version; do echo "shows tufcheck_$name"; done
+    for name in first list lms_verify next text verify version; do echo "shows tufcheck_$name"; done
     echo "needs free malloc memcmp memcpy memmove memset realloc"
 } > "$work/wanted"
 {
@@ -62,7 +63,7 @@ export TUFCHECK_LIBRARY=$work/lib/libtufcheck.so.1 PYTHONPATH=$top/bindings/pyth
 diff <(sed 's/ memcmp//' "$work/wanted") <(sed 's/ memcmp//' "$work/has") > "$work/seen"
 done_ $? "names: $(tail -1 "$work/has")"
 
-for name in first list next text verify version; do echo "tufcheck_$name@@TUFCHECK_1"; done > "$work/wanted"
+for name in first list lms_verify next text verify version; do echo "tufcheck_$name@@TUFCHECK_1"; done > "$work/wanted"
 nm -D --defined-only "$work/lib/libtufcheck.so.1" | awk '$2 == "T" { print $3 }' | sort | diff "$work/wanted" - > "$work/seen" &&
     readelf -d "$work/lib/libtufcheck.so" > "$work/seen" && grep -q 'soname: \[libtufcheck.so.1\]' "$work/seen" &&
     [[ $(readlink -f "$work/lib/libtufcheck.so") == */libtufcheck.so.1.*.* ]]
@@ -97,7 +98,7 @@ done_ $? "texts: $(wc -l < "$work/has") numbers"
 if has man "man pages"; then
     mkdir -p "$work/man/man3" && cp "$top"/bindings/c/man/*.3 "$work/man/man3"
     : > "$work/seen"
-    for name in first list next text verify version; do
+    for name in first list lms_verify next text verify version; do
         MANPAGER=cat MANWIDTH=200 man --warnings -M "$work/man" "tufcheck_$name" > "$work/page" 2>> "$work/seen"
         tr -s ' \n' ' ' < "$top/bindings/c/tufcheck.h" | grep -o "[a-z0-9_]* \(char \*\)\?tufcheck_$name([^)]*)" | head -1 > "$work/wanted"
         tr -s ' \n' ' ' < "$work/page" | grep -q -F -f "$work/wanted" ||
@@ -106,6 +107,9 @@ if has man "man pages"; then
     [ ! -s "$work/seen" ]
     done_ $? "man pages"
 fi
+
+python3 "$here/signatures.py" > "$work/seen" 2>&1
+done_ $? "LMS signatures"
 
 # 3. Examples.
 flags="-I$top/bindings/c -L$work/lib -ltufcheck"

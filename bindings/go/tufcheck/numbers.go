@@ -82,6 +82,15 @@ const (
 	TargetsFolder  Place = C.TUFCHECK_TARGETS
 )
 
+// A Source is the map of the job that has the file of a verdict.
+type Source uint32
+
+const (
+	NoSource  Source = 0
+	InTargets Source = C.TUFCHECK_IN_TARGETS
+	InDigests Source = C.TUFCHECK_IN_DIGESTS
+)
+
 // text returns the library's text of a number, with the number if it has none.
 func text(number int32) string {
 	words := C.GoString(C.tufcheck_text(C.int32_t(number)))
@@ -96,6 +105,7 @@ func (e End) String() string    { return text(int32(e)) }
 func (k Kind) String() string   { return text(int32(k)) }
 func (f Fault) String() string  { return text(int32(f)) }
 func (p Place) String() string  { return text(int32(p)) }
+func (s Source) String() string { return text(int32(s)) }
 
 // Error returns the text of the error.
 func (e Error) Error() string { return "tufcheck: " + text(int32(e)) }

@@ -23,12 +23,12 @@ import (
 // DefaultLimit is the limit of a job whose Limit is 0.
 const DefaultLimit = 32
 
-// Digests are a target file by its length in bytes and both digests of its bytes. Both are needed,
-// whichever the metadata lists.
+// Digests are a target file by its length in bytes and the digests of its bytes. A digest of another
+// length than its own, as nil, isn't given. Those that are listed are needed: [Job.List] says which.
 type Digests struct {
 	Length uint64
-	SHA256 [32]byte
-	SHA512 [64]byte
+	SHA256 []byte
+	SHA512 []byte
 }
 
 // A Job is the input of a call. Each call copies it to C's memory, so give large target files by
@@ -57,6 +57,8 @@ type Verdict struct {
 	Fault  Fault  // why a file is refused
 	Length uint64 // the length of an accepted file in bytes, or 0
 	Role   string // the role that lists the accepted file, or whose own file is refused, or ""
+	Source Source // the map of the job that has the file that was checked, or NoSource
+	File   string // the name of that file: install no other one
 }
 
 // Accepted reports whether the file is accepted.
@@ -76,6 +78,7 @@ type Listed struct {
 	Fault  Fault
 	Length uint64
 	Role   string
+	Name   string // the first name under which the file is looked up, or ""
 	SHA256 []byte
 	SHA512 []byte
 }
@@ -120,28 +123,46 @@ func First(root []byte) ([]byte, error) {
 		return nil, err
 	}
 	data := copied(&a, root)
-	state, room := array[C.uint8_t](&a, 2*len(root)+64)
 	used, _ := array[C.size_t](&a, 1)
-	*used = 0
-	if result := C.tufcheck_first(data.data, data.len, state, C.size_t(len(room)), used); result != C.TUFCHECK_GOOD {
-		return nil, Error(result)
+	*used = C.size_t(2*len(root) + 64)
+	for {
+		state, room := array[C.uint8_t](&a, int(*used))
+		result := C.tufcheck_first(data.data, data.len, state, C.size_t(len(room)), used)
+		if result == C.TUFCHECK_NO_ROOM {
+			continue
+		}
+		if err := failure(result); err != nil {
+			return nil, err
+		}
+		return bytesOf(state, *used), nil
 	}
-	return bytesOf(state, *used), nil
+}
+
+// VerifyLMS reports whether an LMS signature of a message is valid for a public key of 56 bytes (RFC
+// 8554).
+func VerifyLMS(key, message, signature []byte) (bool, error) {
+	var a arena
+	defer a.free()
+	if err := sameVersion(); err != nil {
+		return false, err
+	}
+	k, m, s := copied(&a, key), copied(&a, message), copied(&a, signature)
+	return C.tufcheck_lms_verify(k.data, k.len, m.data, m.len, s.data, s.len) == 1, nil
 }
 
 // Verify runs one cycle of the client workflow.
 func (j *Job) Verify() (*Outcome, error) {
 	var a arena
 	defer a.free()
-	job, err := j.inC(&a)
+	job, names, err := j.inC(&a)
 	if err != nil {
 		return nil, err
 	}
 	rooms := j.rooms(64)
 	for {
 		answer, _ := array[C.tufcheck_answer](&a, 1)
-		*answer = C.tufcheck_answer{state_room: rooms.state_len, verdict_room: rooms.verdict_count,
-			role_room: rooms.role_count, name_room: rooms.name_len}
+		*answer = C.tufcheck_answer{size: C.sizeof_tufcheck_answer, state_room: rooms.state_len,
+			verdict_room: rooms.verdict_count, role_room: rooms.role_count, name_room: rooms.name_len}
 		answer.state, _ = array[C.uint8_t](&a, int(rooms.state_len))
 		answer.verdicts, _ = array[C.tufcheck_verdict](&a, int(rooms.verdict_count))
 		answer.roles, _ = array[C.tufcheck_role](&a, int(rooms.role_count))
@@ -154,7 +175,7 @@ func (j *Job) Verify() (*Outcome, error) {
 		if err := failure(result); err != nil {
 			return nil, err
 		}
-		return outcome(result, answer), nil
+		return outcome(result, answer, names), nil
 	}
 }
 
@@ -162,14 +183,15 @@ func (j *Job) Verify() (*Outcome, error) {
 func (j *Job) List() (*Listing, error) {
 	var a arena
 	defer a.free()
-	job, err := j.inC(&a)
+	job, _, err := j.inC(&a)
 	if err != nil {
 		return nil, err
 	}
 	rooms := j.rooms(0)
 	for {
 		listing, _ := array[C.tufcheck_listing](&a, 1)
-		*listing = C.tufcheck_listing{state_room: rooms.state_len, row_room: rooms.verdict_count, name_room: rooms.name_len}
+		*listing = C.tufcheck_listing{size: C.sizeof_tufcheck_listing, state_room: rooms.state_len,
+			row_room: rooms.verdict_count, name_room: rooms.name_len}
 		listing.state, _ = array[C.uint8_t](&a, int(rooms.state_len))
 		listing.rows, _ = array[C.tufcheck_listed](&a, int(rooms.verdict_count))
 		listing.names, _ = array[C.uint8_t](&a, int(rooms.name_len))
@@ -189,14 +211,14 @@ func (j *Job) List() (*Listing, error) {
 func (j *Job) Next() (*Needs, error) {
 	var a arena
 	defer a.free()
-	job, err := j.inC(&a)
+	job, _, err := j.inC(&a)
 	if err != nil {
 		return nil, err
 	}
 	rooms := j.rooms(0)
 	for {
 		needs, _ := array[C.tufcheck_needs](&a, 1)
-		*needs = C.tufcheck_needs{row_room: rooms.verdict_count, name_room: rooms.name_len}
+		*needs = C.tufcheck_needs{size: C.sizeof_tufcheck_needs, row_room: rooms.verdict_count, name_room: rooms.name_len}
 		needs.rows, _ = array[C.tufcheck_need](&a, int(rooms.verdict_count))
 		needs.names, _ = array[C.uint8_t](&a, int(rooms.name_len))
 		result := C.tufcheck_next(job, needs)
@@ -218,9 +240,6 @@ func (j *Job) rooms(roles int) C.tufcheck_summary {
 	for _, data := range j.Metadata {
 		state += 2 * len(data)
 	}
-	if state > C.TUFCHECK_STATE_MOST {
-		state = C.TUFCHECK_STATE_MOST
-	}
 	return C.tufcheck_summary{state_len: C.size_t(state), verdict_count: C.size_t(len(j.Wanted)),
 		role_count: C.size_t(roles), name_len: 4096}
 }
@@ -229,13 +248,17 @@ func cycle(result C.int32_t, summary *C.tufcheck_summary) Cycle {
 	return Cycle{Status(result), End(summary.end), Fault(summary.fault), uint64(summary.root_version)}
 }
 
-func outcome(result C.int32_t, answer *C.tufcheck_answer) *Outcome {
+func outcome(result C.int32_t, answer *C.tufcheck_answer, files map[Source][]string) *Outcome {
 	summary := &answer.summary
 	names := bytesOf(answer.names, summary.name_len)
 	found := &Outcome{Cycle: cycle(result, summary), State: bytesOf(answer.state, summary.state_len), Roles: map[string]uint64{}}
 	for _, row := range unsafe.Slice(answer.verdicts, int(summary.verdict_count)) {
-		found.Verdicts = append(found.Verdicts, Verdict{Kind(row.kind), Fault(row.fault), uint64(row.length),
-			cut(names, row.role_at, row.role_len)})
+		verdict := Verdict{Kind: Kind(row.kind), Fault: Fault(row.fault), Length: uint64(row.length),
+			Role: cut(names, row.role_at, row.role_len), Source: Source(row.source)}
+		if all := files[verdict.Source]; uint64(row.file_at) < uint64(len(all)) {
+			verdict.File = all[row.file_at]
+		}
+		found.Verdicts = append(found.Verdicts, verdict)
 	}
 	for _, row := range unsafe.Slice(answer.roles, int(summary.role_count)) {
 		found.Roles[cut(names, row.name_at, row.name_len)] = uint64(row.version)
@@ -249,7 +272,7 @@ func listed(result C.int32_t, listing *C.tufcheck_listing) *Listing {
 	found := &Listing{Cycle: cycle(result, summary), State: bytesOf(listing.state, summary.state_len)}
 	for _, row := range unsafe.Slice(listing.rows, int(summary.verdict_count)) {
 		it := Listed{Kind: Kind(row.kind), Fault: Fault(row.fault), Length: uint64(row.length),
-			Role: cut(names, row.role_at, row.role_len)}
+			Role: cut(names, row.role_at, row.role_len), Name: cut(names, row.name_at, row.name_len)}
 		if row.has_sha256 == 1 {
 			it.SHA256 = append([]byte(nil), octets(row.sha256[:])...)
 		}

@@ -74,7 +74,8 @@ func byDigests(need Need, data []byte) *Found {
 	if need.Place == MetadataFolder {
 		return &Found{Bytes: data}
 	}
-	return &Found{Digests: &Digests{uint64(len(data)), sha256.Sum256(data), sha512.Sum512(data)}}
+	low, high := sha256.Sum256(data), sha512.Sum512(data)
+	return &Found{Digests: &Digests{uint64(len(data)), low[:], high[:]}}
 }
 
 func verify(t *testing.T, job *Job) *Outcome {
@@ -89,23 +90,35 @@ func TestVerify(t *testing.T) {
 	folder := repository(t)
 	job := fetched(t, folder, byBytes, "abc.txt", "low.txt", "nope")
 	outcome := verify(t, job)
-	want := []Verdict{{Accepted, NoFault, 3, "targets"}, {Accepted, NoFault, 3, "low"}, {NotFound, NoFault, 0, ""}}
+	want := []Verdict{{Accepted, NoFault, 3, "targets", InTargets, "abc.txt"}, {Accepted, NoFault, 3, "low", InTargets, "low.txt"},
+		{Kind: NotFound}}
 	if (outcome.Cycle != Cycle{Refused, Ready, NoFault, 1}) || !reflect.DeepEqual(outcome.Verdicts, want) {
 		t.Errorf("%+v", outcome)
 	}
 	if !reflect.DeepEqual(outcome.Roles, map[string]uint64{"low": 1}) {
 		t.Errorf("roles %v", outcome.Roles)
 	}
-	if digested := fetched(t, folder, byDigests, "abc.txt", "low.txt", "nope"); len(digested.Digests) != 2 || len(digested.Targets) != 0 ||
-		!reflect.DeepEqual(verify(t, digested), outcome) {
+	digested := fetched(t, folder, byDigests, "abc.txt", "low.txt", "nope")
+	measured := verify(t, digested)
+	if measured.Verdicts[1].Source != InDigests || measured.Verdicts[1].File != "low.txt" || len(digested.Targets) != 0 {
+		t.Errorf("by digests %+v", measured)
+	}
+	for at := range measured.Verdicts[:2] {
+		measured.Verdicts[at].Source = InTargets
+	}
+	if len(digested.Digests) != 2 || !reflect.DeepEqual(measured, outcome) {
 		t.Errorf("by digests %+v", digested)
+	}
+	digested.Digests["abc.txt"] = Digests{Length: 3}
+	if bare := verify(t, digested); bare.Verdicts[0].Fault != HashWrong {
+		t.Errorf("without digests %+v", bare)
 	}
 	job.State, job.Wanted = outcome.State, job.Wanted[:2]
 	if again := verify(t, job); again.Status != Good || !bytes.Equal(again.State, outcome.State) {
 		t.Errorf("from the new state %+v", again.Cycle)
 	}
 	job.Targets["abc.txt"] = []byte("abd")
-	if damaged := verify(t, job); damaged.Verdicts[0] != (Verdict{FileRefused, HashWrong, 0, ""}) || damaged.Verdicts[0].Accepted() {
+	if damaged := verify(t, job); damaged.Verdicts[0] != (Verdict{FileRefused, HashWrong, 0, "", InTargets, "abc.txt"}) || damaged.Verdicts[0].Accepted() {
 		t.Errorf("damaged %+v", damaged)
 	}
 	delete(job.Metadata, "timestamp.json")
@@ -122,7 +135,7 @@ func TestList(t *testing.T) {
 	}
 	digest := sha256.Sum256([]byte("abc"))
 	abc, nope := listing.Rows[0], listing.Rows[1]
-	if listing.Status != Refused || abc.Kind != IsListed || abc.Length != 3 || abc.Role != "targets" || !bytes.Equal(abc.SHA256, digest[:]) {
+	if listing.Status != Refused || abc.Kind != IsListed || abc.Length != 3 || abc.Role != "targets" || abc.Name != "abc.txt" || !bytes.Equal(abc.SHA256, digest[:]) {
 		t.Errorf("%+v", listing)
 	}
 	if nope.Kind != NotFound || nope.SHA256 != nil || nope.SHA512 != nil {
@@ -141,7 +154,7 @@ func TestRooms(t *testing.T) {
 		job.Wanted = append(job.Wanted, fmt.Sprint(at))
 	}
 	for _, verdict := range verify(t, job).Verdicts {
-		if verdict != (Verdict{RoleRefused, Missing, 0, "low"}) {
+		if verdict != (Verdict{Kind: RoleRefused, Fault: Missing, Role: "low"}) {
 			t.Fatalf("%+v", verdict)
 		}
 	}

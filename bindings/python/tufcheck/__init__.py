@@ -32,7 +32,7 @@ from typing import Callable, Dict, List, Mapping, Optional, Sequence, Set, Tuple
 __all__ = [
     "Digests", "End", "Fault", "Job", "Kind", "LibraryError", "LimitError", "Listed", "Listing",
     "MomentError", "Need", "Needs", "Outcome", "Place", "StateError", "Status", "TextError",
-    "TufcheckError", "Verdict", "fetch_all", "first", "version",
+    "TufcheckError", "Verdict", "fetch_all", "first", "lms_verify", "version",
 ]
 
 
@@ -138,11 +138,12 @@ class LimitError(TufcheckError, ValueError):
 
 @dataclass(frozen=True)
 class Digests:
-    """A target file by its length in bytes and both digests of its bytes."""
+    """A target file by its length in bytes and the digests of its bytes. Those that are listed are
+    needed: `Job.list` says which."""
 
     length: int
-    sha256: bytes
-    sha512: bytes
+    sha256: Optional[bytes] = None
+    sha512: Optional[bytes] = None
 
 
 @dataclass(frozen=True)
@@ -156,6 +157,9 @@ class Verdict:
     """The length of an accepted file in bytes, or 0."""
     role: str
     """The role that lists the accepted file, or whose own file is refused, or ``""``."""
+    file: Optional[str]
+    """The name of the file that was checked, in the job's `digests` or else its `targets`. Install
+    no other one."""
 
     def __bool__(self) -> bool:
         return self.kind is Kind.ACCEPTED
@@ -189,6 +193,8 @@ class Listed:
     role: str
     sha256: Optional[bytes]
     sha512: Optional[bytes]
+    name: str
+    """The first name under which the file is looked up, or ``""``."""
 
     def __bool__(self) -> bool:
         return self.kind is Kind.LISTED
@@ -253,8 +259,8 @@ class Job:
         while True:
             state, names = _buffer(rooms.state), _buffer(rooms.names)
             verdicts, roles = (_Verdict * (rooms.rows + 1))(), (_Role * (rooms.roles + 1))()
-            answer = _Answer(state, rooms.state, verdicts, rooms.rows, roles, rooms.roles, names,
-                             rooms.names)
+            answer = _Answer(_c.sizeof(_Answer), state, rooms.state, verdicts, rooms.rows, roles,
+                             rooms.roles, names, rooms.names)
             status = _status(_library().tufcheck_verify(self._in_c(), answer))
             if status is not None:
                 break
@@ -264,7 +270,7 @@ class Job:
             status, End(found.end), _fault(found.fault), found.root_version,
             state.raw[: found.state_len],
             {path: Verdict(Kind(row.kind), _fault(row.fault), row.length,
-                           _cut(text, row.role_at, row.role_len))
+                           _cut(text, row.role_at, row.role_len), self._file(row))
              for path, row in zip(self.wanted, verdicts)},
             {_cut(text, row.name_at, row.name_len): row.version
              for row in roles[: found.role_count]})
@@ -276,7 +282,8 @@ class Job:
         while True:
             state, names = _buffer(rooms.state), _buffer(rooms.names)
             rows = (_Listed * (rooms.rows + 1))()
-            listing = _Listing(state, rooms.state, rows, rooms.rows, names, rooms.names)
+            listing = _Listing(_c.sizeof(_Listing), state, rooms.state, rows, rooms.rows, names,
+                               rooms.names)
             status = _status(_library().tufcheck_list(self._in_c(), listing))
             if status is not None:
                 break
@@ -288,7 +295,8 @@ class Job:
             {path: Listed(Kind(row.kind), _fault(row.fault), row.length,
                           _cut(text, row.role_at, row.role_len),
                           bytes(row.sha256) if row.has_sha256 else None,
-                          bytes(row.sha512) if row.has_sha512 else None)
+                          bytes(row.sha512) if row.has_sha512 else None,
+                          _cut(text, row.name_at, row.name_len))
              for path, row in zip(self.wanted, rows)})
 
     def next(self) -> Needs:
@@ -296,7 +304,7 @@ class Job:
         rooms = _Rooms(0, len(self.wanted) + 2, 0, 4096)
         while True:
             rows, names = (_Need * (rooms.rows + 1))(), _buffer(rooms.names)
-            needs = _Needs(rows, rooms.rows, names, rooms.names)
+            needs = _Needs(_c.sizeof(_Needs), rows, rooms.rows, names, rooms.names)
             status = _status(_library().tufcheck_next(self._in_c(), needs))
             if status is not None:
                 break
@@ -308,9 +316,13 @@ class Job:
                   bool(row.optional))
              for row in rows[: found.verdict_count]])
 
+    def _file(self, row: _Verdict) -> Optional[str]:
+        files = {_IN_TARGETS: self.targets, _IN_DIGESTS: self.digests}.get(row.source)
+        return None if files is None else list(files)[row.file_at]
+
     def _state_room(self) -> int:
-        # A state has files of the job in hexadecimal, or those of the state before.
-        return min(len(self.state) + 2 * sum(map(len, self.metadata.values())) + 64, _STATE_MOST)
+        # A guess: a state has files of the job in hexadecimal, or those of the state before.
+        return len(self.state) + 2 * sum(map(len, self.metadata.values())) + 64
 
     def _in_c(self) -> _Job:
         # ctypes would take a number that is too large, or below 0, modulo 2 to the power of 64.
@@ -318,14 +330,12 @@ class Job:
             raise MomentError(_FAULTS[-4][1])
         if not 0 <= self.limit < 1 << 64:
             raise LimitError(_FAULTS[-5][1])
-        # Each array is one longer than its count, so that no pointer is null.
-        digests = (_Digests * (len(self.digests) + 1))()
-        for place, (name, d) in enumerate(self.digests.items()):
-            digests[place] = _Digests(_text(name), d.length,
-                                      (_c.c_uint8 * 32).from_buffer_copy(d.sha256),
-                                      (_c.c_uint8 * 64).from_buffer_copy(d.sha512))
-        wanted = (_Bytes * (len(self.wanted) + 1))(*map(_text, self.wanted))
-        return _Job(_bytes(self.state), _files(self.metadata), len(self.metadata),
+        digests = (_Digests * len(self.digests))(
+            *(_Digests(_text(name), d.length, d.sha256 is not None, d.sha512 is not None,
+                       _digest(d.sha256, 32), _digest(d.sha512, 64))
+              for name, d in self.digests.items()))
+        wanted = (_Bytes * len(self.wanted))(*map(_text, self.wanted))
+        return _Job(_c.sizeof(_Job), _bytes(self.state), _files(self.metadata), len(self.metadata),
                     _files(self.targets), len(self.targets), digests, len(self.digests),
                     wanted, len(self.wanted), self.moment, self.limit)
 
@@ -339,9 +349,19 @@ def version() -> str:
 def first(root: bytes) -> bytes:
     """The text of the state of a first root file, which the caller trusts. Raises `StateError` if it
     isn't a root file, `LibraryError` or `MemoryError`."""
-    room, used = _buffer(2 * len(root) + 64), _c.c_size_t()
-    _status(_library().tufcheck_first(root, len(root), room, len(room) - 1, used))
-    return room.raw[: used.value]
+    used = _c.c_size_t(2 * len(root) + 64)
+    while True:
+        room = _buffer(used.value)
+        result = _library().tufcheck_first(root, len(root), room, len(room) - 1, used)
+        if _status(result) is not None:
+            return room.raw[: used.value]
+
+
+def lms_verify(key: bytes, message: bytes, signature: bytes) -> bool:
+    """Whether an LMS signature of a message is valid for a public key of 56 bytes (RFC 8554). Raises
+    `LibraryError`."""
+    return _library().tufcheck_lms_verify(key, len(key), message, len(message), signature,
+                                          len(signature)) == 1
 
 
 def fetch_all(job: Job, fetch: Callable[[Need], Union[bytes, Digests, None]]) -> List[Need]:
@@ -367,8 +387,8 @@ def fetch_all(job: Job, fetch: Callable[[Need], Union[bytes, Digests, None]]) ->
 
 # The rest is the layout of the header.
 
-_STATE_MOST = 15_056_821
 _NO_ROOM = -6
+_IN_TARGETS, _IN_DIGESTS = 81, 82
 _FAULTS = {
     -2: (StateError, "the state, or the first root, is not one"),
     -3: (TextError, "a file's name or a wanted path is not UTF-8"),
@@ -386,12 +406,13 @@ class _File(_c.Structure):
 
 
 class _Digests(_c.Structure):
-    _fields_ = [("name", _Bytes), ("length", _c.c_uint64), ("sha256", _c.c_uint8 * 32),
+    _fields_ = [("name", _Bytes), ("length", _c.c_uint64), ("has_sha256", _c.c_uint8),
+                ("has_sha512", _c.c_uint8), ("sha256", _c.c_uint8 * 32),
                 ("sha512", _c.c_uint8 * 64)]
 
 
 class _Job(_c.Structure):
-    _fields_ = [("state", _Bytes),
+    _fields_ = [("size", _c.c_size_t), ("state", _Bytes),
                 ("metadata", _c.POINTER(_File)), ("metadata_count", _c.c_size_t),
                 ("targets", _c.POINTER(_File)), ("target_count", _c.c_size_t),
                 ("digests", _c.POINTER(_Digests)), ("digest_count", _c.c_size_t),
@@ -402,20 +423,23 @@ class _Job(_c.Structure):
 class _Summary(_c.Structure):
     _fields_ = [("end", _c.c_uint32), ("fault", _c.c_uint32), ("root_version", _c.c_uint64),
                 ("state_len", _c.c_size_t), ("verdict_count", _c.c_size_t),
-                ("role_count", _c.c_size_t), ("name_len", _c.c_size_t)]
+                ("role_count", _c.c_size_t), ("name_len", _c.c_size_t),
+                ("reserved", _c.c_uint64 * 4)]
 
 
 class _Verdict(_c.Structure):
     _fields_ = [("kind", _c.c_uint32), ("fault", _c.c_uint32), ("length", _c.c_uint64),
-                ("role_at", _c.c_size_t), ("role_len", _c.c_size_t)]
+                ("role_at", _c.c_size_t), ("role_len", _c.c_size_t), ("file_at", _c.c_size_t),
+                ("source", _c.c_uint32), ("reserved", _c.c_uint32 * 5)]
 
 
 class _Role(_c.Structure):
-    _fields_ = [("version", _c.c_uint64), ("name_at", _c.c_size_t), ("name_len", _c.c_size_t)]
+    _fields_ = [("version", _c.c_uint64), ("name_at", _c.c_size_t), ("name_len", _c.c_size_t),
+                ("reserved", _c.c_uint64 * 2)]
 
 
 class _Answer(_c.Structure):
-    _fields_ = [("state", _c.POINTER(_c.c_char)), ("state_room", _c.c_size_t),
+    _fields_ = [("size", _c.c_size_t), ("state", _c.POINTER(_c.c_char)), ("state_room", _c.c_size_t),
                 ("verdicts", _c.POINTER(_Verdict)), ("verdict_room", _c.c_size_t),
                 ("roles", _c.POINTER(_Role)), ("role_room", _c.c_size_t),
                 ("names", _c.POINTER(_c.c_char)), ("name_room", _c.c_size_t),
@@ -424,13 +448,14 @@ class _Answer(_c.Structure):
 
 class _Listed(_c.Structure):
     _fields_ = [("kind", _c.c_uint32), ("fault", _c.c_uint32), ("length", _c.c_uint64),
-                ("role_at", _c.c_size_t), ("role_len", _c.c_size_t), ("has_sha256", _c.c_uint8),
+                ("role_at", _c.c_size_t), ("role_len", _c.c_size_t), ("name_at", _c.c_size_t),
+                ("name_len", _c.c_size_t), ("has_sha256", _c.c_uint8),
                 ("has_sha512", _c.c_uint8), ("sha256", _c.c_uint8 * 32),
-                ("sha512", _c.c_uint8 * 64)]
+                ("sha512", _c.c_uint8 * 64), ("reserved", _c.c_uint8 * 30)]
 
 
 class _Listing(_c.Structure):
-    _fields_ = [("state", _c.POINTER(_c.c_char)), ("state_room", _c.c_size_t),
+    _fields_ = [("size", _c.c_size_t), ("state", _c.POINTER(_c.c_char)), ("state_room", _c.c_size_t),
                 ("rows", _c.POINTER(_Listed)), ("row_room", _c.c_size_t),
                 ("names", _c.POINTER(_c.c_char)), ("name_room", _c.c_size_t),
                 ("summary", _Summary)]
@@ -438,11 +463,11 @@ class _Listing(_c.Structure):
 
 class _Need(_c.Structure):
     _fields_ = [("place", _c.c_uint32), ("optional", _c.c_uint8), ("most", _c.c_uint64),
-                ("name_at", _c.c_size_t), ("name_len", _c.c_size_t)]
+                ("name_at", _c.c_size_t), ("name_len", _c.c_size_t), ("reserved", _c.c_uint64 * 2)]
 
 
 class _Needs(_c.Structure):
-    _fields_ = [("rows", _c.POINTER(_Need)), ("row_room", _c.c_size_t),
+    _fields_ = [("size", _c.c_size_t), ("rows", _c.POINTER(_Need)), ("row_room", _c.c_size_t),
                 ("names", _c.POINTER(_c.c_char)), ("name_room", _c.c_size_t),
                 ("summary", _Summary)]
 
@@ -475,8 +500,12 @@ def _text(name: str) -> _Bytes:
 
 
 def _files(files: Mapping[str, bytes]) -> _c.Array:
-    return (_File * (len(files) + 1))(*(_File(_text(name), _bytes(data))
-                                        for name, data in files.items()))
+    return (_File * len(files))(*(_File(_text(name), _bytes(data))
+                                  for name, data in files.items()))
+
+
+def _digest(digest: Optional[bytes], size: int) -> _c.Array:
+    return (_c.c_uint8 * size).from_buffer_copy(bytes(size) if digest is None else digest)
 
 
 def _cut(names: bytes, at: int, length: int) -> str:
@@ -519,6 +548,7 @@ def _declare(library: _c.CDLL) -> None:
     library.tufcheck_next.argtypes = [_c.POINTER(_Job), _c.POINTER(_Needs)]
     library.tufcheck_list.argtypes = [_c.POINTER(_Job), _c.POINTER(_Listing)]
     library.tufcheck_verify.argtypes = [_c.POINTER(_Job), _c.POINTER(_Answer)]
+    library.tufcheck_lms_verify.argtypes = [_c.c_char_p, size] * 3
     for call in (library.tufcheck_first, library.tufcheck_next, library.tufcheck_list,
-                 library.tufcheck_verify):
+                 library.tufcheck_verify, library.tufcheck_lms_verify):
         call.restype = _c.c_int32

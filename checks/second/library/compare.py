@@ -52,6 +52,18 @@ def digests(data):
     return Digests(len(data), hashlib.sha256(data).digest(), hashlib.sha512(data).digest())
 
 
+def listed(outcome, listing, targets):
+    """The files that verdicts are by, by those digests alone that are listed."""
+    found = {}
+    for path, row in listing.listed.items():
+        name = outcome.verdicts[path].file
+        if name is not None:
+            whole, known = digests(targets[name]), found.get(name, Digests(0))
+            found[name] = Digests(whole.length, whole.sha256 if row.sha256 else known.sha256,
+                                  whole.sha512 if row.sha512 else known.sha512)
+    return found
+
+
 def brief(outcome):
     """The outcome with a digest in place of its state."""
     return dataclasses.replace(outcome, state=hashlib.sha256(outcome.state).hexdigest()[:16])
@@ -107,6 +119,11 @@ def compared(case):
             return f"{path}: {row} {verdict}", outcome
         if verdict and (row.length, row.role) != (verdict.length, verdict.role):
             return f"{path}: {row} {verdict}", outcome
+        if row.name in targets and verdict.file != row.name or verdict and verdict.file not in targets:
+            return f"{path}: {row} {verdict}", outcome
+    by_listed = tufcheck.Job(state, wanted, SECONDS, metadata, {}, listed(outcome, listing, targets), limit).verify()
+    if by_listed != outcome:
+        return f"by bytes {brief(outcome)}\nby listed digests {brief(by_listed)}", outcome
     return None, outcome
 
 

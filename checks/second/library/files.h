@@ -86,7 +86,7 @@ static list read_folder(const char *folder)
 /* The job of STATE METADATA TARGETS SECONDS LIMIT PATH.. */
 static tufcheck_job job_of(char **words, int count)
 {
-    tufcheck_job job = {0};
+    tufcheck_job job = {.size = sizeof job};
     list metadata = read_folder(words[1]), targets = read_folder(words[2]);
     tufcheck_bytes *wanted = room((size_t)count * sizeof *wanted);
     for (int i = 5; i < count; i++)
@@ -96,7 +96,6 @@ static tufcheck_job job_of(char **words, int count)
     job.metadata_count = metadata.count;
     job.targets = targets.files;
     job.target_count = targets.count;
-    job.digests = TUFCHECK_NOTHING;
     job.wanted = wanted;
     job.moment = strtoull(words[3], NULL, 10);
     job.limit = (size_t)strtoull(words[4], NULL, 10);

@@ -13,7 +13,7 @@ static const char *const FAULTS[] = {"NotListed",   "Missing",   "TooLong",  "Le
 /* Rooms of these sizes, each in a block of its own. */
 static tufcheck_answer rooms(size_t state, size_t verdicts, size_t roles, size_t names)
 {
-    tufcheck_answer answer = {0};
+    tufcheck_answer answer = {.size = sizeof answer};
     answer.state_room = state;
     answer.state = malloc(state + 1);
     answer.verdict_room = verdicts;
@@ -44,8 +44,19 @@ static void quoted(const uint8_t *name, size_t len)
     putchar('"');
 }
 
-static void print_verdict(tufcheck_bytes path, const tufcheck_verdict *row, const uint8_t *names)
+/* Whether the verdict names a file of the job, whose length is that of an accepted target. */
+static int has_file(const tufcheck_job *job, const tufcheck_verdict *row)
 {
+    if (row->source != TUFCHECK_IN_TARGETS)
+        return row->source == 0 && row->kind != TUFCHECK_ACCEPTED;
+    return row->file_at < job->target_count
+        && (row->kind != TUFCHECK_ACCEPTED || job->targets[row->file_at].bytes.len == row->length);
+}
+
+static void print_verdict(const tufcheck_job *job, tufcheck_bytes path, const tufcheck_verdict *row, const uint8_t *names)
+{
+    if (!has_file(job, row))
+        fputs("another file: ", stdout);
     fputs(row->kind == TUFCHECK_ACCEPTED ? "ok " : "no ", stdout);
     quoted(path.data, path.len);
     if (row->kind == TUFCHECK_ACCEPTED)
@@ -72,7 +83,7 @@ static void print_all(const tufcheck_job *job, const tufcheck_answer *answer)
         printf(" %" PRIu64 "\n", answer->roles[i].version);
     }
     for (size_t i = 0; i < summary->verdict_count; i++)
-        print_verdict(job->wanted[i], &answer->verdicts[i], answer->names);
+        print_verdict(job, job->wanted[i], &answer->verdicts[i], answer->names);
 }
 
 int main(int argc, char **argv)

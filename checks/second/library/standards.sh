@@ -24,8 +24,7 @@ cat > calls.c << 'END'
 static int32_t first(tufcheck_answer *answer)
 {
     size_t len = 0;
-    const uint8_t *root = TUFCHECK_NOTHING;
-    return tufcheck_first(root, 0, answer->state, answer->state_room, &len);
+    return tufcheck_first(NULL, 0, answer->state, answer->state_room, &len);
 }
 
 static int32_t next(const tufcheck_job *job, tufcheck_needs *needs)
@@ -39,23 +38,27 @@ int main(void)
     tufcheck_answer answer;
     tufcheck_listing listing;
     tufcheck_needs needs;
-    job.state.data = TUFCHECK_NOTHING;
-    job.metadata = TUFCHECK_NOTHING;
-    job.targets = TUFCHECK_NOTHING;
-    job.digests = TUFCHECK_NOTHING;
-    job.wanted = TUFCHECK_NOTHING;
+    job.size = sizeof job;
+    job.state.data = NULL;
+    job.metadata = NULL;
+    job.targets = NULL;
+    job.digests = NULL;
+    job.wanted = NULL;
     job.state.len = job.metadata_count = job.target_count = job.digest_count = job.wanted_count = 0;
     job.moment = 0;
     job.limit = 32;
-    answer.state = answer.names = TUFCHECK_NOTHING;
-    answer.verdicts = TUFCHECK_NOTHING;
-    answer.roles = TUFCHECK_NOTHING;
+    answer.size = sizeof answer;
+    answer.state = answer.names = NULL;
+    answer.verdicts = NULL;
+    answer.roles = NULL;
     answer.state_room = answer.verdict_room = answer.role_room = answer.name_room = 0;
-    listing.state = listing.names = TUFCHECK_NOTHING;
-    listing.rows = TUFCHECK_NOTHING;
+    listing.size = sizeof listing;
+    listing.state = listing.names = NULL;
+    listing.rows = NULL;
     listing.state_room = listing.row_room = listing.name_room = 0;
-    needs.rows = TUFCHECK_NOTHING;
-    needs.names = TUFCHECK_NOTHING;
+    needs.size = sizeof needs;
+    needs.rows = NULL;
+    needs.names = NULL;
     needs.row_room = needs.name_room = 0;
 #if defined(__cplusplus) && __cplusplus >= 201103L
     static_assert(noexcept(tufcheck_version()), "version");
@@ -64,11 +67,13 @@ int main(void)
     static_assert(noexcept(tufcheck_next(&job, &needs)), "next");
     static_assert(noexcept(tufcheck_list(&job, &listing)), "list");
     static_assert(noexcept(tufcheck_verify(&job, &answer)), "verify");
+    static_assert(noexcept(tufcheck_lms_verify(NULL, 0, NULL, 0, NULL, 0)), "lms_verify");
 #endif
     if (tufcheck_version() / 1000000 != TUFCHECK_VERSION / 1000000 || tufcheck_text(TUFCHECK_GOOD) == NULL)
         return 1;
     return first(&answer) == TUFCHECK_GOOD && next(&job, &needs) == TUFCHECK_GOOD
-        && tufcheck_list(&job, &listing) == TUFCHECK_GOOD && tufcheck_verify(&job, &answer) == TUFCHECK_GOOD;
+        && tufcheck_list(&job, &listing) == TUFCHECK_GOOD && tufcheck_verify(&job, &answer) == TUFCHECK_GOOD
+        && tufcheck_lms_verify(NULL, 0, NULL, 0, NULL, 0) == 0;
 }
 END
 cat > block.c << 'END'

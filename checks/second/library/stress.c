@@ -92,16 +92,16 @@ static seen call(int which, const tufcheck_job *input, const size_t *sizes)
     }
     counting = was;
     if (which == VERIFY) {
-        tufcheck_answer a = {s.rooms[0], sizes[0], (void *)s.rooms[1], sizes[1], (void *)s.rooms[2], sizes[2], s.rooms[3],
-                             sizes[3], {0}};
+        tufcheck_answer a = {sizeof a, s.rooms[0], sizes[0], (void *)s.rooms[1], sizes[1], (void *)s.rooms[2], sizes[2],
+                             s.rooms[3], sizes[3], {0}};
         s.result = tufcheck_verify(input, &a);
         s.summary = a.summary;
     } else if (which == LIST) {
-        tufcheck_listing a = {s.rooms[0], sizes[0], (void *)s.rooms[1], sizes[1], s.rooms[3], sizes[3], {0}};
+        tufcheck_listing a = {sizeof a, s.rooms[0], sizes[0], (void *)s.rooms[1], sizes[1], s.rooms[3], sizes[3], {0}};
         s.result = tufcheck_list(input, &a);
         s.summary = a.summary;
     } else {
-        tufcheck_needs a = {(void *)s.rooms[1], sizes[1], s.rooms[3], sizes[3], {0}};
+        tufcheck_needs a = {sizeof a, (void *)s.rooms[1], sizes[1], s.rooms[3], sizes[3], {0}};
         s.result = tufcheck_next(input, &a);
         s.summary = a.summary;
     }
@@ -182,7 +182,7 @@ static void cut(int which, const size_t *sizes)
 /* Digests that no file has, under a name that nobody lists, change nothing. */
 static void unlisted(int which, const size_t *sizes, const seen *whole)
 {
-    tufcheck_digests none = {{(const uint8_t *)"no/such/path", 12}, 0, {0}, {0}};
+    tufcheck_digests none = {{(const uint8_t *)"no/such/path", 12}, 0, 1, 1, {0}, {0}};
     tufcheck_job more = job;
     more.digests = &none;
     more.digest_count = 1;
@@ -195,7 +195,7 @@ static void errors(int which, const size_t *sizes)
 {
     tufcheck_bytes odd = {(const uint8_t *)"\xff", 1};
     tufcheck_file odd_file = {odd, odd};
-    tufcheck_digests odd_digests = {odd, 0, {0}, {0}};
+    tufcheck_digests odd_digests = {odd, 0, 0, 0, {0}, {0}};
     struct {
         tufcheck_job job;
         int32_t result;
@@ -203,7 +203,7 @@ static void errors(int which, const size_t *sizes)
     } cases[] = {{job, -5, "a limit of 0"}, {job, -5, "a limit of 257"}, {job, -4, "a moment past 9999"},
                  {job, -2, "a state that was cut"}, {job, -3, "a path that is not UTF-8"},
                  {job, -3, "a metadata file's name that is not UTF-8"}, {job, -3, "a target file's name"},
-                 {job, -3, "a name of digests"}, {job, -2, "no state"}};
+                 {job, -3, "a name of digests"}, {job, -2, "no state"}, {job, -7, "another size"}};
     cases[0].job.limit = 0;
     cases[1].job.limit = 257;
     cases[2].job.moment = 253402300800;
@@ -216,7 +216,8 @@ static void errors(int which, const size_t *sizes)
     cases[6].job.target_count = 1;
     cases[7].job.digests = &odd_digests;
     cases[7].job.digest_count = 1;
-    cases[8].job.state.len = 0;
+    cases[8].job.state = (tufcheck_bytes){NULL, 0};
+    cases[9].job.size--;
     for (size_t i = 0; i < sizeof cases / sizeof *cases; i++) {
         seen s = call(which, &cases[i].job, sizes);
         /* A listing doesn't look at target files. */
@@ -224,6 +225,29 @@ static void errors(int which, const size_t *sizes)
         check(unseen ? s.result >= 0 : s.result == cases[i].result, cases[i].what);
         drop(&s);
     }
+}
+
+/* Null with length or count 0: an empty file, path and name, no list, no room, and no struct of another size is read. */
+static void nulls(void)
+{
+    tufcheck_bytes nothing = {NULL, 0};
+    tufcheck_file file = {nothing, nothing};
+    tufcheck_digests digests = {nothing, 0, 0, 0, {0}, {0}};
+    tufcheck_job bare = {.size = sizeof bare, .state = job.state, .moment = job.moment, .limit = 32};
+    tufcheck_answer answer = {.size = sizeof answer}, other = {.size = sizeof answer + 8};
+    tufcheck_listing listing = {.size = sizeof listing};
+    tufcheck_needs needs = {.size = sizeof needs};
+    size_t len;
+    check(tufcheck_verify(&bare, &answer) == -6 && tufcheck_list(&bare, &listing) == -6, "no lists and no rooms");
+    check(tufcheck_next(&bare, &needs) == -6 && needs.summary.name_len > 0, "no lists and no rooms for needs");
+    bare.metadata = bare.targets = &file;
+    bare.digests = &digests;
+    bare.wanted = &nothing;
+    bare.metadata_count = bare.target_count = bare.digest_count = bare.wanted_count = 1;
+    check(tufcheck_verify(&bare, &answer) == -6 && answer.summary.verdict_count == 1, "empty names and an empty path");
+    check(tufcheck_verify(&bare, &other) == -7 && other.summary.verdict_count == 0, "an answer of another size");
+    check(tufcheck_first(NULL, 0, NULL, 0, &len) == -2, "no root");
+    check(tufcheck_lms_verify(NULL, 0, NULL, 0, NULL, 0) == 0, "no key");
 }
 
 static size_t whole_sizes[3][4];
@@ -273,10 +297,11 @@ int main(int argc, char **argv)
     size_t len = 0, short_len = 0;
     uint8_t *text = malloc(2 * root.len + 64);
     check(tufcheck_first(root.data, root.len, text, 2 * root.len + 64, &len) == 0, "a first state");
-    check(tufcheck_first(root.data, root.len, TUFCHECK_NOTHING, 0, &short_len) == -6 && short_len == len, "its length");
+    check(tufcheck_first(root.data, root.len, NULL, 0, &short_len) == -6 && short_len == len, "its length");
     check(tufcheck_first(root.data, root.len, text, len, &short_len) == 0 && short_len == len, "a room of its length");
     check(tufcheck_first(root.data, root.len - 1, text, len, &short_len) == -2, "a root that was cut");
     job = job_of(argv + 2, argc - 2);
+    nulls();
     for (int which = VERIFY; which <= NEXT; which++) {
         size_t none[4] = {0};
         seen s = call(which, &job, none);

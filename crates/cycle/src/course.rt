@@ -1,8 +1,7 @@
 //! The workflow up to the searches.
 
 ghost use Rattle.std.specs.Prelude.{◌≡◌, All, IfOk, IfSome};
-ghost use Rattle.examine.specs.Checks.{Files};
-ghost use Rattle.cycle.specs.Workflow.{closed_course, target_of};
+ghost use Rattle.cycle.specs.Workflow.{Checks, closed_by, target_of};
 
 use crate::order::close;
 use crate::outcome::Outcome;
@@ -106,14 +105,14 @@ impl Course {
         (trusted, end)
     }
 
-    /// Ends the workflow: a verdict for each wanted path, by the files of the store, which has to
-    /// know enough of each target that a search found. This is the outcome for all files that may
-    /// be the store's. Fails only if out of memory.
+    /// Ends the workflow: a verdict for each wanted path, by the checks of the store, which has to
+    /// know enough of each target that a search found. This is the outcome by all results that the
+    /// store may give. Fails only if out of memory.
     pub fn close<S: Store>(self, alloc: Global, store: &S) -> Result<Outcome, NoMemory>
         requires known { All (λ s. IfSome (target_of s)
             (S.knows store.now self.trusted.root.reading.consistent)) self.searches }
-        ensures outcome { IfOk result (λ o. (files : Files) → S.may_be store.now files
-            → o ≡ closed_course files self) }
+        ensures outcome { IfOk result (λ o. (checks : Checks) → S.may_give store.now checks
+            → o ≡ closed_by checks self) }
         ensures state { IfOk result (λ o. o.trusted ≡ self.trusted) }
     {
         let stats = self.stats;

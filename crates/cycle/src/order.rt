@@ -1,7 +1,7 @@
 //! The workflow, done sequentially by any judge.
 
 ghost use Rattle.std.specs.Prelude.{◌≡◌, All, IfOk, IfSome, map, string_bytes, true};
-ghost use Rattle.examine.specs.Checks.{Files, file_in};
+ghost use Rattle.examine.specs.Checks.{file_in};
 ghost use Rattle.rolechain.specs.Advance.{is_ready};
 ghost use Rattle.cycle.specs.Inputs.{repository_of, request_of};
 ghost use Rattle.cycle.specs.Workflow as spec;
@@ -82,7 +82,7 @@ fn close_in_memory<J: Judge>(
     close(cycle.alloc, course, &store, judge)
 }
 
-/// Ends the course, by the files of a store.
+/// Ends the course, by the checks of a store.
 pub(crate) fn close<S: Store, J: Judge>(
     alloc: Global,
     course: Course,
@@ -91,8 +91,8 @@ pub(crate) fn close<S: Store, J: Judge>(
 ) -> Result<Outcome, NoMemory>
     requires known { All (λ s. IfSome (spec.target_of s)
         (S.knows store.now course.trusted.root.reading.consistent)) course.searches }
-    ensures outcome { IfOk result (λ o. (files : Files) → S.may_be store.now files
-        → o ≡ spec.closed_course files course) }
+    ensures outcome { IfOk result (λ o. (checks : spec.Checks) → S.may_give store.now checks
+        → o ≡ spec.closed_by checks course) }
     ensures state { IfOk result (λ o. o.trusted ≡ course.trusted) }
 {
     let consistent = course.has_consistent_names();

@@ -2,8 +2,8 @@
 
 ghost use Rattle.std.specs.Prelude.{◌≡◌, Bool};
 ghost use Rattle.meta.specs.Content.{Answers};
-ghost use Rattle.examine.specs.Checks.{Files, Target, file_in};
-ghost use Rattle.cycle.specs.Workflow.{target_checked};
+ghost use Rattle.examine.specs.Checks.{Target, file_in};
+ghost use Rattle.cycle.specs.Workflow.{Checks, target_checked};
 
 use examine::target_file;
 use keys::Judge;
@@ -11,11 +11,11 @@ use meta::{Fault, Stop, Target};
 use std::alloc::Global;
 use std::collections::BTreeMap;
 
-/// The target files of a repository, or as much of them as is known. So several maps of files may
-/// be the store's; what it returns holds for each of them.
+/// The target files of a repository, or as much of them as is known. So the store may give several
+/// results of checks; what it returns is that of each of them.
 pub trait Store {
-    /// Whether these may be the files.
-    ghost may_be: { Self → Files → Type 0 };
+    /// Whether the checks of target files may come to these results.
+    ghost may_give: { Self → Checks → Type 0 };
 
     /// Whether enough is known to check the file of the target, under consistent names or not.
     ghost knows: { Self → Bool → Target → Type 0 };
@@ -25,8 +25,8 @@ pub trait Store {
     /// memory.
     fn check<J: Judge>(&self, consistent: bool, target: &Target, judge: &mut J) -> Result<(), Stop>
         requires known { knows self.now consistent target.now }
-        ensures checked { (files : Files) → may_be self.now files
-            → Answers (target_checked files consistent target.now) result (λ x. x) };
+        ensures checked { (checks : Checks) → may_give self.now checks
+            → Answers (checks consistent target.now) result (λ x. x) };
 }
 
 /// Target files in memory, by name.
@@ -39,7 +39,7 @@ pub struct InMemory<'a> {
 }
 
 impl Store for InMemory<'_> {
-    ghost may_be = { λ s files. files ≡ file_in s.files.now };
+    ghost may_give = { λ s checks. checks ≡ target_checked (file_in s.files.now) };
 
     ghost knows = { λ _ _ _. Unit {0} };
 

@@ -1,16 +1,17 @@
 -- The course, the outcome and the faults of a job.
-use Rattle.std.proofs.Common.{◌≡◌, ◌⊎◌, ℕ, List, Result, Ok, Err, IfOk, IfErr, IsErrAnd, inl, inr, sym, ap, ◌∙◌, subst}
+use Rattle.std.proofs.Common.{◌≡◌, ◌⊎◌, ℕ, List, Option, Result, Ok, Err, IfOk, IfErr, IsErrAnd, inl, inr, sym, ap, ◌∙◌, subst}
 use Rattle.rolechain.specs.Text.{state_of}
-use Rattle.cycle.specs.Workflow.{Course, Outcome, State, closed_course, course}
+use Rattle.cycle.specs.Workflow.{Course, Outcome, State, closed_by, course}
 use Rattle.needs.specs.Needs.{Names, needs}
 use Rattle.needs.specs.declared.need.Need.{Need}
-use Rattle.embed.proofs.Targets.{are_whole}
+use Rattle.embed.proofs.Indices.{are_rows}
+use Rattle.embed.proofs.Targets.{are_whole, closed_alike}
 use Rattle.embed.specs.declared.fault.JobFault.{JobFault}
 use Rattle.embed.specs.declared.fault.JobFault.TheVariants as fault
 use Rattle.embed.specs.declared.fetching.Missing.{Missing}
 use Rattle.embed.specs.declared.job.Job.{Job}
 use Rattle.embed.specs.declared.listing.Listing.{Listing}
-use Rattle.embed.specs.Jobs.{Files, Givens, Moment, AreDigestsNamed, AreGiven, AreNamed, AreTexts, HasCause, IsNoText, course_for, files_of, givens_of, moment_at, paths_of, request_for}
+use Rattle.embed.specs.Jobs.{Files, Given, Givens, Moment, AreDigestsNamed, AreNamed, HasCause, IsNoText, course_for, files_of, given_checked, givens_for, givens_of, moment_at, paths_of, request_for}
 use Rattle.embed.specs.Outcomes.{EncodesCourse, EncodesNeeds, IsListing, IsNext, IsOutcome, has_name}
 
 -- the course on what the parts of the job represent
@@ -32,15 +33,20 @@ followed job trusted metadata now wanted limit (Err e) of_metadata of_now of_wan
 followed job trusted metadata now wanted limit (Ok c) of_metadata of_now of_wanted of_limit said = said ∙ course_is job trusted metadata now wanted limit of_metadata of_now of_wanted of_limit
 
 -- the outcome of the job, if its course was closed by what is given of its targets
-pub outcome_is : (job : Job) (trusted : State) (given : Givens) (c : Course) (o : Outcome)
+pub outcome_is : (job : Job) (trusted : State) (given : Givens) (c : Course) (o : Outcome) (files : List (Option Given))
     → state_of job.state.now ≡ Ok trusted → c ≡ course_for job trusted → given ≡ givens_of job
-    → ((targets : Files) → AreGiven given targets → o ≡ closed_course targets c) → IsOutcome job o
-outcome_is job trusted given c o read of_course of_given closed = record {
-  trusted = trusted;
-  read = read;
-  workflow = λ targets are. closed targets (subst (λ g. AreGiven g targets) (sym of_given) are) ∙ ap (closed_course targets) of_course;
-  whole = are_whole job;
-}
+    → o ≡ closed_by (given_checked given) c → files ≡ givens_for given c → IsOutcome job o files
+outcome_is job trusted given c o files read of_course of_given closed of_files =
+    let by_course = closed ∙ ap (closed_by (given_checked given)) of_course ∙ ap (λ g. closed_by (given_checked g) (course_for job trusted)) of_given in
+    record {
+      trusted = trusted;
+      read = read;
+      given = by_course;
+      files_are = of_files ∙ ap (givens_for given) of_course ∙ ap (λ g. givens_for g (course_for job trusted)) of_given;
+      named = are_rows job;
+      workflow = λ targets are covered. by_course ∙ sym (closed_alike (givens_of job) targets are (course_for job trusted) covered);
+      whole = are_whole job;
+    }
 
 -- a target file without a name is a cause, and so is being out of memory
 pub no_targets : {T : Type 0} (job : Job) (f : JobFault) (r : Result T JobFault)

@@ -1,3 +1,5 @@
 pub mod Courses
 pub mod Files
+pub mod Indices
 pub mod Targets
+pub mod Verdicts

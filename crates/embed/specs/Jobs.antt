@@ -1,12 +1,17 @@
 -- What the parts of a caller's job represent, and why a job fails.
-use Rattle.std.specs.Prelude.{◌≡◌, ◌≢◌, ◌⊎◌, ◌<◌, ◌≤◌, All, ℕ, ◌/◌, ◌%◌, pos, List, Option, Result, Ok, Err, Some, None, if◌then◌else◌, bytes_eq, fold, length, map, option_map}
+use Rattle.std.specs.Prelude.{◌≡◌, ◌≢◌, ◌⊎◌, ◌<◌, ◌≤◌, ◌==◌, ◌&&◌, ◌||◌, ⊤, not, true, false, Bool, All, ℕ, ◌+◌, ◌/◌, ◌%◌, pos, List, [], ◌∷◌, Option, Result, Err, Some, None, IfSome, is_some, slice_get, if◌then◌else◌, bytes_eq, fold, length, map, option_and_then}
+use Rattle.std.specs.Option.{option_map_or}
 use Rattle.std.specs.Str.{IsUtf8}
 use Rattle.keys.specs.Keys.{digest_by}
 use Rattle.keys.specs.declared.judge.Algorithm.TheVariants.{Sha256, Sha512}
 use Rattle.rolechain.specs.Text.{root_state, state_of}
 use Rattle.rolechain.specs.declared.fault.StateFault.{StateFault}
 use Rattle.rolechain.specs.declared.fault.StateFault.TheVariants as state
-use Rattle.cycle.specs.Workflow.{Request, Repository, Course, State, course}
+use Rattle.cjson.specs.Document.{◌>>=◌, or_refuse, refuse_if}
+use Rattle.meta.specs.Content.{content, has_no_known_hash, target_names}
+use Rattle.deleg.specs.declared.accepted.Search.{Search}
+use Rattle.meta.specs.declared.fault.Fault.TheVariants.{HashWrong, LengthWrong, Missing, NoKnownHash}
+use Rattle.cycle.specs.Workflow.{Checks, Course, Fault, Repository, Request, State, Target, course, target_of}
 pub use Rattle.cycle.specs.Workflow.{Files, Moment}
 use Rattle.embed.specs.declared.fault.JobFault.{JobFault}
 use Rattle.embed.specs.declared.fault.JobFault.TheVariants as fault
@@ -39,23 +44,16 @@ moment_at seconds = record { day = pos (seconds / 86400); second = seconds % 864
 
 -- # What is given of target files.
 
--- the length and the digests of a file
+-- the length of a file, and those of its digests that are given
 pub record Measure : Type 0 where
   pub length : ℕ
-  pub sha256 : List ℕ
-  pub sha512 : List ℕ
+  pub sha256 : Option (List ℕ)
+  pub sha512 : Option (List ℕ)
 
-abbrev pub measure_of : List ℕ → Measure
-measure_of bytes = record {
-  length = length bytes;
-  sha256 = digest_by Sha256 bytes;
-  sha512 = digest_by Sha512 bytes;
-}
-
--- the bytes of a file, or their length and digests alone
+-- the bytes of a file, or their length and digests alone, and the index in its list
 pub data Given : Type 0 where
-  Whole : List ℕ → Given
-  Measured : Measure → Given
+  Whole : ℕ → List ℕ → Given
+  Measured : ℕ → Measure → Given
 
 -- what is given of the file of a name
 abbrev pub Givens : Type 0
@@ -68,24 +66,66 @@ nothing_given name = None
 abbrev pub with_given : Givens → List ℕ → Given → Givens
 with_given all own given name = if bytes_eq own name then Some given else all name
 
-abbrev pub with_whole : Givens → File → Givens
-with_whole all f = with_given all f.name.now (Whole f.bytes.now)
+-- these files as well, of which the first has the index
+abbrev pub with_files : ℕ → Givens → List File → Givens
+with_files at all [] = all
+with_files at all (f ∷ more) =
+    with_files (at + 1) (with_given all f.name.now (Whole at f.bytes.now)) more
+
+-- a digest is given if its byte isn't 0
+abbrev pub given_digest : ℕ → List ℕ → Option (List ℕ)
+given_digest has digest = if has == 0 then None else Some digest
 
 abbrev pub measure_in : Digests → Measure
-measure_in d = record { length = d.length; sha256 = d.sha256; sha512 = d.sha512 }
+measure_in d = record {
+  length = d.length;
+  sha256 = given_digest d.has_sha256 d.sha256;
+  sha512 = given_digest d.has_sha512 d.sha512;
+}
 
-abbrev pub with_measure : Givens → Digests → Givens
-with_measure all d = with_given all d.name.now (Measured (measure_in d))
+abbrev pub with_digests : ℕ → Givens → List Digests → Givens
+with_digests at all [] = all
+with_digests at all (d ∷ more) =
+    with_digests (at + 1) (with_given all d.name.now (Measured at (measure_in d))) more
 
 -- of all rows with one name the last counts, and digests count after bytes
 abbrev pub givens_of : Job → Givens
-givens_of job = fold with_measure (fold with_whole nothing_given job.targets.now) job.digests.now
+givens_of job =
+    with_digests 0 (with_files 0 nothing_given job.targets.now) job.digests.now
+
+-- the job's targets have a file of that name and these bytes at the index
+pub record IsFileAt (job : Job) (name : List ℕ) (at : ℕ) (bytes : List ℕ) : Type 0 where
+  pub file : File
+  pub there : slice_get job.targets.now at ≡ Some file
+  pub named : file.name.now ≡ name
+  pub has : file.bytes.now ≡ bytes
+
+-- the job's digests have a row of that name and measure at the index
+pub record AreDigestsAt (job : Job) (name : List ℕ) (at : ℕ) (m : Measure) : Type 0 where
+  pub row : Digests
+  pub there : slice_get job.digests.now at ≡ Some row
+  pub named : row.name.now ≡ name
+  pub has : measure_in row ≡ m
+
+-- what is given under the name is that of the row at the index
+abbrev pub IsRow : Job → List ℕ → Option Given → Type 0
+IsRow job name None = Unit {0}
+IsRow job name (Some (Whole at bytes)) = IsFileAt job name at bytes
+IsRow job name (Some (Measured at m)) = AreDigestsAt job name at m
+
+-- there is a file, and it has the length and the digests that are given
+pub record HasMeasure (m : Measure) (file : Option (List ℕ)) : Type 0 where
+  pub bytes : List ℕ
+  pub there : file ≡ Some bytes
+  pub of_length : m.length ≡ length bytes
+  pub of_sha256 : IfSome m.sha256 (λ d. d ≡ digest_by Sha256 bytes)
+  pub of_sha512 : IfSome m.sha512 (λ d. d ≡ digest_by Sha512 bytes)
 
 -- the file is one of which this is given
 abbrev pub Agrees : Option Given → Option (List ℕ) → Type 0
 Agrees None file = file ≡ None
-Agrees (Some (Whole bytes)) file = file ≡ Some bytes
-Agrees (Some (Measured m)) file = option_map measure_of file ≡ Some m
+Agrees (Some (Whole at bytes)) file = file ≡ Some bytes
+Agrees (Some (Measured at m)) file = HasMeasure m file
 
 -- these may be the target files
 abbrev pub AreGiven : Givens → Files → Type 0
@@ -93,6 +133,67 @@ AreGiven given files = (name : List ℕ) → Agrees (given name) (files name)
 
 abbrev pub AreTargets : Job → Files → Type 0
 AreTargets job files = AreGiven (givens_of job) files
+
+-- # The check of a target's file by what is given (TUF 1.0 section 5.7).
+
+-- what is given under the first of the names of which something is
+abbrev pub first_given : Givens → List (List ℕ) → Option Given
+first_given given [] = None
+first_given given (name ∷ names) = option_map_or Some (given name) (first_given given names)
+
+-- what is given of the target's file: under the first of its names
+abbrev pub given_for : Givens → Bool → Target → Option Given
+given_for given consistent t =
+    first_given given (target_names consistent t.path t.hashes.sha256 t.hashes.sha512)
+
+-- what is given of the file of the target that each search found
+abbrev pub given_to : Givens → Bool → Option Search → Option Given
+given_to given consistent s = option_and_then (given_for given consistent) (target_of s)
+
+abbrev pub givens_for : Givens → Course → List (Option Given)
+givens_for given c = map (given_to given c.trusted.root.reading.consistent) c.searches
+
+-- a digest is listed, and the given one is another or none
+abbrev pub differs_from : Option (List ℕ) → Option (List ℕ) → Bool
+differs_from None given = false
+differs_from (Some listed) None = true
+differs_from (Some listed) (Some given) = not (bytes_eq listed given)
+
+-- the target's length and digests are those of the measure
+abbrev pub measured_content : Target → Measure → Result ⊤ Fault
+measured_content t m = do
+  sized ← refuse_if (not (t.length == m.length)) LengthWrong
+  hashed ← refuse_if
+      (differs_from t.hashes.sha256 m.sha256 || differs_from t.hashes.sha512 m.sha512)
+      HashWrong
+  refuse_if (has_no_known_hash t.hashes) NoKnownHash
+
+abbrev pub given_content : Target → Given → Result ⊤ Fault
+given_content t (Whole at bytes) = content None (Some t.length) (Some t.hashes) bytes
+given_content t (Measured at m) = measured_content t m
+
+abbrev pub given_checked : Givens → Checks
+given_checked given consistent t = do
+  found ← or_refuse (given_for given consistent t) Missing
+  given_content t found
+
+-- # Digests that are listed and not given.
+
+-- the digest is given if it is listed
+abbrev pub is_covered : Option (List ℕ) → Option (List ℕ) → Bool
+is_covered listed given = not (is_some listed) || is_some given
+
+-- enough is given of the file to check the target: each digest that is listed
+abbrev pub covers : Option Given → Target → Bool
+covers (Some (Measured at m)) t =
+    is_covered t.hashes.sha256 m.sha256 && is_covered t.hashes.sha512 m.sha512
+covers other t = true
+
+-- so it is of each target that a search found
+abbrev pub AreCovered : Givens → Course → Type 0
+AreCovered given c =
+    All (λ s. IfSome (target_of s)
+    (λ t. covers (given_for given c.trusted.root.reading.consistent t) t ≡ true)) c.searches
 
 -- # What is requested, and on which files.
 

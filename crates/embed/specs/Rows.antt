@@ -1,5 +1,5 @@
 -- An outcome and a course as rows of numbers, whose names are in one list of bytes.
-use Rattle.std.specs.Prelude.{◌≡◌, ℕ, ◌+◌, List, [], ◌∷◌, length, flat_map, replicate, Option, None, Some, option_and_then, is_some}
+use Rattle.std.specs.Prelude.{ℕ, ◌+◌, Bool, List, [], ◌∷◌, length, flat_map, replicate, drop, Option, None, Some, option_and_then, is_some, ◌++◌}
 use Rattle.std.specs.Option.{option_map_or, unwrap_or}
 use Rattle.meta.specs.declared.fault.Fault.{Fault}
 use Rattle.meta.specs.declared.fault.Fault.TheVariants as fault
@@ -11,9 +11,11 @@ use Rattle.deleg.specs.declared.accepted.Search.{Search}
 use Rattle.cycle.specs.Workflow.{End, Ready, Stopped, Accepted, target_of}
 use Rattle.cycle.specs.declared.verdict.Verdict.{Verdict}
 use Rattle.cycle.specs.declared.verdict.Verdict.TheVariants.{Good, NotFound, LimitReached, RoleRefused, FileRefused, NotSearched}
+use Rattle.meta.specs.Content.{target_names}
 use Rattle.needs.specs.declared.need.Need.{Need}
 use Rattle.needs.specs.declared.need.Place.TheVariants as place
 use Rattle.needs.specs.declared.need.Place.{Place}
+use Rattle.embed.specs.Jobs.{Given, Whole, Measured}
 use Rattle.embed.specs.declared.rows.ListedRow.{ListedRow}
 use Rattle.embed.specs.declared.rows.NeedRow.{NeedRow}
 use Rattle.embed.specs.declared.rows.RoleRow.{RoleRow}
@@ -77,20 +79,41 @@ verdict_role (Good role length) = role
 verdict_role (RoleRefused role fault) = role
 verdict_role _ = []
 
--- a verdict whose role's name begins at `at` in the names
-abbrev pub verdict_row : ℕ → Verdict → VerdictRow
-verdict_row at v = record {
+-- the list of the file: 81 for the targets, 82 for the digests, or 0 if there is no file
+abbrev pub source_number : Option Given → ℕ
+source_number None = 0
+source_number (Some (Whole at bytes)) = 81
+source_number (Some (Measured at m)) = 82
+
+-- the file's index in its list, or 0
+abbrev pub file_index : Option Given → ℕ
+file_index None = 0
+file_index (Some (Whole at bytes)) = at
+file_index (Some (Measured at m)) = at
+
+-- a verdict whose role's name begins at `at` in the names, by what is given of the target's file
+abbrev pub verdict_row : ℕ → Verdict → Option Given → VerdictRow
+verdict_row at v given = record {
   kind = kind_number v;
   fault = verdict_fault v;
   length = verdict_length v;
   role_at = at;
   role_len = length (verdict_role v);
+  file_at = file_index given;
+  source = source_number given;
+  reserved = replicate 5 0;
 }
 
--- one verdict after the other, and so their names
-abbrev pub verdict_rows : ℕ → List Verdict → List VerdictRow
-verdict_rows at [] = []
-verdict_rows at (v ∷ vs) = verdict_row at v ∷ verdict_rows (at + length (verdict_role v)) vs
+abbrev pub first_or_none : List (Option Given) → Option Given
+first_or_none [] = None
+first_or_none (g ∷ more) = g
+
+-- one verdict after the other, and so the files and the names
+abbrev pub verdict_rows : ℕ → List Verdict → List (Option Given) → List VerdictRow
+verdict_rows at [] files = []
+verdict_rows at (v ∷ vs) files =
+    verdict_row at v (first_or_none files)
+    ∷ verdict_rows (at + length (verdict_role v)) vs (drop 1 files)
 
 abbrev pub verdict_names : List Verdict → List ℕ
 verdict_names vs = flat_map verdict_role vs
@@ -98,7 +121,12 @@ verdict_names vs = flat_map verdict_role vs
 -- # Accepted roles.
 
 abbrev pub role_row : ℕ → Accepted → RoleRow
-role_row at a = record { version = a.version; name_at = at; name_len = length a.role }
+role_row at a = record {
+  version = a.version;
+  name_at = at;
+  name_len = length a.role;
+  reserved = replicate 2 0;
+}
 
 abbrev pub role_rows : ℕ → List Accepted → List RoleRow
 role_rows at [] = []
@@ -141,26 +169,48 @@ listed_sha256 s = option_and_then (λ t. t.hashes.sha256) (target_of s)
 abbrev pub listed_sha512 : Option Search → Option (List ℕ)
 listed_sha512 s = option_and_then (λ t. t.hashes.sha512) (target_of s)
 
--- a search whose role's name begins at `at` in the names; a digest that isn't listed is zeros
-abbrev pub listed_row : ℕ → Option Search → ListedRow
-listed_row at s = record {
+-- the first of the names, or no name
+abbrev pub first_name : List (List ℕ) → List ℕ
+first_name [] = []
+first_name (name ∷ more) = name
+
+-- the name to fetch of the target that the search found, or no name
+abbrev pub listed_name : Bool → Option Search → List ℕ
+listed_name consistent s =
+    option_map_or
+    (λ t. first_name (target_names consistent t.path t.hashes.sha256 t.hashes.sha512))
+    (target_of s) []
+
+-- a search whose role's name, and the name to fetch, are there in the names; a digest that isn't
+-- listed is zeros
+abbrev pub listed_row : ℕ → ℕ → ℕ → Option Search → ListedRow
+listed_row at name_at name_len s = record {
   kind = search_kind s;
   fault = search_fault s;
   length = option_map_or (λ t. t.length) (target_of s) 0;
   role_at = at;
   role_len = length (search_role s);
+  name_at = name_at;
+  name_len = name_len;
   has_sha256 = is_some (listed_sha256 s);
   has_sha512 = is_some (listed_sha512 s);
   sha256 = unwrap_or (listed_sha256 s) (replicate 32 0);
   sha512 = unwrap_or (listed_sha512 s) (replicate 64 0);
+  reserved = replicate 30 0;
 }
 
-abbrev pub listed_rows : ℕ → List (Option Search) → List ListedRow
-listed_rows at [] = []
-listed_rows at (s ∷ more) = listed_row at s ∷ listed_rows (at + length (search_role s)) more
+-- the names of a search: of its role, and to fetch
+abbrev pub search_names : Bool → Option Search → List ℕ
+search_names consistent s = search_role s ++ listed_name consistent s
 
-abbrev pub listed_names : List (Option Search) → List ℕ
-listed_names all = flat_map search_role all
+abbrev pub listed_rows : Bool → ℕ → List (Option Search) → List ListedRow
+listed_rows consistent at [] = []
+listed_rows consistent at (s ∷ more) =
+    listed_row at (at + length (search_role s)) (length (listed_name consistent s)) s
+    ∷ listed_rows consistent (at + length (search_names consistent s)) more
+
+abbrev pub listed_names : Bool → List (Option Search) → List ℕ
+listed_names consistent all = flat_map (search_names consistent) all
 
 -- # Files to fetch.
 
@@ -176,6 +226,7 @@ need_row at n = record {
   most = n.most;
   name_at = at;
   name_len = length n.name;
+  reserved = replicate 2 0;
 }
 
 abbrev pub need_rows : ℕ → List Need → List NeedRow

@@ -117,6 +117,7 @@ fn need_row(at: usize, need: &Need) -> NeedRow
         most: need.most,
         name_at: at,
         name_len: need.name.as_str().len(),
+        reserved: [0; 2],
     }
 }
 

@@ -1,6 +1,6 @@
 //! The target files of a job, by name.
 
-ghost use Rattle.std.specs.Prelude.{◌≡◌, ◌⊎◌, IfErr, OnOk, fold, string_bytes};
+ghost use Rattle.std.specs.Prelude.{◌≡◌, ◌⊎◌, IfErr, OnOk, string_bytes};
 ghost use Rattle.std.specs.Str.{IsUtf8};
 ghost use Rattle.embed.specs.Inputs.{given_by, held_in};
 ghost use Rattle.embed.specs.Jobs as spec;
@@ -13,10 +13,10 @@ use std::collections::BTreeMap;
 /// What the caller holds of a target file.
 #[derive(Clone, Copy)]
 pub enum Held<'a> {
-    /// The bytes.
-    Bytes(&'a [u8]),
-    /// The length and the digests.
-    Digests(&'a Digests<'a>),
+    /// The index in the job's `targets`, and the bytes.
+    Bytes(usize, &'a [u8]),
+    /// The index in the job's `digests`, and the length and the digests.
+    Digests(usize, &'a Digests<'a>),
 }
 
 /// Adds the target files of the job, by name. Fails with `Name` if a name isn't UTF-8, or with
@@ -43,11 +43,11 @@ fn add_files<'a>(
     all: &mut BTreeMap<String, Held<'a>>,
 ) -> Result<(), JobFault>
     ensures added { OnOk result
-        (held_in all.new ≡ fold spec.with_whole (held_in all.old) files.now) }
+        (held_in all.new ≡ spec.with_files 0 (held_in all.old) files.now) }
     ensures errors { IfErr result (spec.IsNoText (spec.AreNamed files.now)) }
 {
-    for file in files {
-        add(alloc, file.name, Held::Bytes(file.bytes), all)?;
+    for (at, file) in files.iter().enumerate() {
+        add(alloc, file.name, Held::Bytes(at, file.bytes), all)?;
     }
     Ok(())
 }
@@ -59,11 +59,11 @@ fn add_digests<'a>(
     all: &mut BTreeMap<String, Held<'a>>,
 ) -> Result<(), JobFault>
     ensures added { OnOk result
-        (held_in all.new ≡ fold spec.with_measure (held_in all.old) digests.now) }
+        (held_in all.new ≡ spec.with_digests 0 (held_in all.old) digests.now) }
     ensures errors { IfErr result (spec.IsNoText (spec.AreDigestsNamed digests.now)) }
 {
-    for row in digests {
-        add(alloc, row.name, Held::Digests(row), all)?;
+    for (at, row) in digests.iter().enumerate() {
+        add(alloc, row.name, Held::Digests(at, row), all)?;
     }
     Ok(())
 }

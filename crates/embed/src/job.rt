@@ -27,7 +27,8 @@ pub struct File<'a> {
     pub bytes: &'a [u8],
 }
 
-/// A target file that isn't in memory: its length and both digests.
+/// A target file that isn't in memory: its length, and those of its digests that are listed. A
+/// listed digest that isn't given is refused as another one.
 #[repr(C)]
 #[derive(Clone, Copy)]
 pub struct Digests<'a> {
@@ -35,6 +36,10 @@ pub struct Digests<'a> {
     pub name: &'a [u8],
     /// The file's length in bytes.
     pub length: u64,
+    /// 0 if the SHA-256 digest isn't given.
+    pub has_sha256: u8,
+    /// 0 if the SHA-512 digest isn't given.
+    pub has_sha512: u8,
     /// The SHA-256 digest of the file's bytes.
     pub sha256: [u8; 32],
     /// The SHA-512 digest of the file's bytes.

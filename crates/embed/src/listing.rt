@@ -1,7 +1,9 @@
 //! What roles list of the wanted paths, for a caller that has no target file yet.
 
 ghost use Rattle.std.specs.Prelude.{◌≡◌, ◌≤◌, ◌++◌, IfErr, IfOk, OnOk, length, option_map};
+ghost use Rattle.std.specs.Prelude.{string_bytes};
 ghost use Rattle.std.specs.List.{list_all};
+ghost use Rattle.meta.specs.Content.{target_names};
 ghost use Rattle.cycle.specs.Workflow.{target_of};
 ghost use Rattle.embed.specs.Jobs.{HasCause};
 ghost use Rattle.embed.specs.Outcomes as spec;
@@ -13,7 +15,8 @@ use crate::job::Job;
 use crate::rows::{ListedRow, Summary, fault_number, summary_of};
 use crate::verifying::status_of;
 use cycle::{Course, Found, Search, Target};
-use std::alloc::Global;
+use meta::names::digest_name;
+use std::alloc::{AllocError, Global};
 
 /// What roles list of the wanted paths.
 pub struct Listing {
@@ -68,7 +71,8 @@ fn listing_of(alloc: Global, course: &Course) -> Result<Listing, JobFault>
 {
     let state = course.trusted().to_text(alloc)?;
     let mut names = Vec::new(alloc);
-    let rows = listed_rows(alloc, course.searches(), &mut names)?;
+    let consistent = course.has_consistent_names();
+    let rows = listed_rows(alloc, consistent, course.searches(), &mut names)?;
     let mut summary = summary_of(course.trusted(), course.end(), state.as_slice());
     summary.verdict_count = rows.len();
     summary.name_len = names.len();
@@ -82,29 +86,36 @@ fn listing_of(alloc: Global, course: &Course) -> Result<Listing, JobFault>
     })
 }
 
-/// Returns a row for each search, and adds the names of the roles to the names.
+/// Returns a row for each search, and adds the names of the roles and of the files to fetch to the
+/// names.
 fn listed_rows(
     alloc: Global,
+    consistent: bool,
     all: &[Option<Search>],
     names: &mut Vec<u8>,
 ) -> Result<Vec<ListedRow>, JobFault>
     ensures rows { IfOk result (λ rows. rows.items
-        ≡ row.listed_rows (length names.old.items) all.now) }
-    ensures names { OnOk result (names.new.items ≡ names.old.items ++ row.listed_names all.now) }
+        ≡ row.listed_rows consistent (length names.old.items) all.now) }
+    ensures names { OnOk result (names.new.items
+        ≡ names.old.items ++ row.listed_names consistent all.now) }
     ensures errors { IfErr result (λ f. f ≡ JobFault.Memory) }
 {
     let mut rows = Vec::with_capacity(alloc, all.len())?;
     for search in all {
-        let row = listed_row(names.len(), search);
+        let name = name_in(alloc, consistent, search)?;
+        let at = names.len();
         names.extend_from_slice(role_in(search).as_bytes())?;
-        rows.push(row)?;
+        let name_at = names.len();
+        names.extend_from_slice(name.as_bytes())?;
+        rows.push(listed_row(at, name_at, name.len(), search))?;
     }
     Ok(rows)
 }
 
-/// Returns the row of a search whose role's name begins at `at` in the names.
-fn listed_row(at: usize, search: &Option<Search>) -> ListedRow
-    ensures { result ≡ row.listed_row at search.now }
+/// Returns the row of a search whose role's name begins at `at` in the names, and whose file has
+/// the name at `name_at`.
+fn listed_row(at: usize, name_at: usize, name_len: usize, search: &Option<Search>) -> ListedRow
+    ensures { result ≡ row.listed_row at name_at name_len search.now }
 {
     let (kind, fault) = kind_of(search);
     let (length, sha256, sha512) = match target_in(search) {
@@ -121,10 +132,13 @@ fn listed_row(at: usize, search: &Option<Search>) -> ListedRow
         length,
         role_at: at,
         role_len: role_in(search).len(),
+        name_at,
+        name_len,
         has_sha256: sha256.is_some(),
         has_sha512: sha512.is_some(),
         sha256: sha256.unwrap_or([0; 32]),
         sha512: sha512.unwrap_or([0; 64]),
+        reserved: [0; 30],
     }
 }
 
@@ -143,8 +157,36 @@ fn kind_of(search: &Option<Search>) -> (u32, u32)
     }
 }
 
+/// Returns the name to fetch of the target that the search found, or no name.
+fn name_in(alloc: Global, consistent: bool, search: &Option<Search>) -> Result<String, AllocError>
+    ensures { IfOk result (λ name. string_bytes name ≡ row.listed_name consistent search.now) }
+{
+    match target_in(search) {
+        Some(target) => first_name(alloc, consistent, target),
+        None => Ok(String::new(alloc)),
+    }
+}
+
+/// Returns the first of the target's names, or no name.
+fn first_name(alloc: Global, consistent: bool, target: &Target) -> Result<String, AllocError>
+    ensures { IfOk result (λ name. string_bytes name ≡ row.first_name (target_names consistent
+        target.now.path target.now.hashes.sha256 target.now.hashes.sha512)) }
+{
+    let path = target.path.as_str();
+    if !consistent {
+        return String::from_str(alloc, path);
+    }
+    if let Some(digest) = &target.hashes.sha256 {
+        return digest_name(alloc, digest, path);
+    }
+    match &target.hashes.sha512 {
+        Some(digest) => digest_name(alloc, digest, path),
+        None => Ok(String::new(alloc)),
+    }
+}
+
 /// Returns the target that the search found.
-fn target_in(search: &Option<Search>) -> Option<&Target>
+pub(crate) fn target_in(search: &Option<Search>) -> Option<&Target>
     ensures { option_map (λ t. t.now) result ≡ target_of search.now }
 {
     match &search.as_ref()?.found {

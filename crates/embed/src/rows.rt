@@ -1,6 +1,6 @@
 //! Rows of numbers in which outcomes and listings are returned.
 
-ghost use Rattle.std.specs.Prelude.{◌≡◌, length};
+ghost use Rattle.std.specs.Prelude.{◌≡◌, length, replicate};
 ghost use Rattle.embed.specs.Rows as spec;
 
 use cycle::{End, Fault, Step, Trusted};
@@ -20,6 +20,12 @@ pub struct VerdictRow {
     pub role_at: usize,
     /// The length of the role's name in bytes, or 0.
     pub role_len: usize,
+    /// The index of the file that was checked, or 0.
+    pub file_at: usize,
+    /// 81: that file is in the job's `targets`; 82: in its `digests`; 0: there is no file.
+    pub source: u32,
+    /// Zeros.
+    pub reserved: [u32; 5],
 }
 
 /// A delegated role that was accepted. Its name is in the list of names.
@@ -32,9 +38,12 @@ pub struct RoleRow {
     pub name_at: usize,
     /// The length of the name in bytes.
     pub name_len: usize,
+    /// Zeros.
+    pub reserved: [u64; 2],
 }
 
-/// What roles list of a wanted path. The role's name is in the list of names.
+/// What roles list of a wanted path. The role's name, and the name of the file to fetch, are in the
+/// list of names.
 #[repr(C)]
 #[derive(Clone, Copy)]
 pub struct ListedRow {
@@ -48,6 +57,10 @@ pub struct ListedRow {
     pub role_at: usize,
     /// The length of the role's name in bytes, or 0.
     pub role_len: usize,
+    /// The place of the name to fetch in the names.
+    pub name_at: usize,
+    /// The length of the name to fetch in bytes, or 0.
+    pub name_len: usize,
     /// Whether a sha256 digest is listed.
     pub has_sha256: bool,
     /// Whether a sha512 digest is listed.
@@ -56,6 +69,8 @@ pub struct ListedRow {
     pub sha256: [u8; 32],
     /// The listed sha512 digest, or zeros.
     pub sha512: [u8; 64],
+    /// Zeros.
+    pub reserved: [u8; 30],
 }
 
 /// A file to fetch. Its name is in the list of names.
@@ -72,6 +87,8 @@ pub struct NeedRow {
     pub name_at: usize,
     /// The length of the name in bytes.
     pub name_len: usize,
+    /// Zeros.
+    pub reserved: [u64; 2],
 }
 
 /// How the cycle ended, and how much was returned.
@@ -92,6 +109,8 @@ pub struct Summary {
     pub role_count: usize,
     /// The length of all names in bytes.
     pub name_len: usize,
+    /// Zeros.
+    pub reserved: [u64; 4],
 }
 
 /// Returns the summary of a state and an end, with no rows and no names.
@@ -100,6 +119,7 @@ pub(crate) fn summary_of(trusted: &Trusted, end: End, text: &[u8]) -> Summary
     ensures fault { result.fault ≡ spec.end_fault end }
     ensures root { result.root_version ≡ trusted.now.root.reading.header.version }
     ensures text { result.state_len ≡ length text.now }
+    ensures reserved { result.reserved ≡ replicate 4 0 }
 {
     let (end, fault) = end_numbers(end);
     Summary {
@@ -110,6 +130,7 @@ pub(crate) fn summary_of(trusted: &Trusted, end: End, text: &[u8]) -> Summary
         verdict_count: 0,
         role_count: 0,
         name_len: 0,
+        reserved: [0; 4],
     }
 }
 

@@ -1,11 +1,10 @@
 //! The check of a target's file, by its bytes or by its length and digests.
 
 ghost use Rattle.std.specs.Prelude.{◌≡◌, ◌||◌, IfOk, None, Some, option_map};
-ghost use Rattle.meta.specs.Content.{Answers, content, differs, has_no_known_hash};
-ghost use Rattle.meta.specs.Content.{target_names};
-ghost use Rattle.embed.specs.Inputs as spec;
-ghost use Rattle.embed.specs.Inputs.{held_in};
-ghost use Rattle.embed.specs.Jobs.{AreGiven, measure_in};
+ghost use Rattle.meta.specs.Content.{Answers, content, has_no_known_hash};
+ghost use Rattle.embed.specs.Inputs.{given_by, held_in};
+ghost use Rattle.embed.specs.Jobs as spec;
+ghost use Rattle.embed.specs.Jobs.{measure_in};
 
 use crate::held::Held;
 use crate::job::Digests;
@@ -26,7 +25,7 @@ pub(crate) struct HeldFiles<'m, 'a> {
 }
 
 impl Store for HeldFiles<'_, '_> {
-    ghost may_be = { λ s files. AreGiven (held_in s.files.now) files };
+    ghost may_give = { λ s checks. checks ≡ spec.given_checked (held_in s.files.now) };
 
     ghost knows = { λ _ _ _. Unit {0} };
 
@@ -38,8 +37,8 @@ impl Store for HeldFiles<'_, '_> {
     ) -> Result<(), Stop> {
         match held_of(self.alloc, self.files, consistent, target)? {
             None => Err(Stop::Refused(Fault::Missing)),
-            Some(Held::Bytes(bytes)) => check_bytes(target, bytes, judge),
-            Some(Held::Digests(digests)) => Ok(check_digests(target, digests)?),
+            Some(Held::Bytes(_, bytes)) => check_bytes(target, bytes, judge),
+            Some(Held::Digests(_, digests)) => Ok(check_digests(target, digests)?),
         }
     }
 }
@@ -47,15 +46,14 @@ impl Store for HeldFiles<'_, '_> {
 /// Returns what is held under the first of the target's names that is there: its path, or under
 /// consistent snapshots the names under its sha256 and its sha512 digest, each if it is listed (TUF
 /// 1.0 section 5.7). Fails only if out of memory.
-fn held_of<'a>(
+pub(crate) fn held_of<'a>(
     alloc: Global,
     files: &BTreeMap<String, Held<'a>>,
     consistent: bool,
     target: &Target,
 ) -> Result<Option<Held<'a>>, AllocError>
-    ensures { IfOk result (λ o. option_map spec.given_by o
-        ≡ spec.first_given (held_in files.now) (target_names consistent target.now.path
-        target.now.hashes.sha256 target.now.hashes.sha512)) }
+    ensures { IfOk result (λ o. option_map given_by o
+        ≡ spec.given_for (held_in files.now) consistent target.now) }
 {
     if !consistent {
         return Ok(held_at(files, target.path.as_str()));
@@ -75,7 +73,7 @@ fn held_of<'a>(
 
 /// Returns what is held of the file of that name.
 fn held_at<'a>(files: &BTreeMap<String, Held<'a>>, name: &str) -> Option<Held<'a>>
-    ensures { option_map spec.given_by result ≡ held_in files.now name.now }
+    ensures { option_map given_by result ≡ held_in files.now name.now }
 {
     Some(*files.get(name)?)
 }
@@ -102,20 +100,22 @@ fn check_digests(target: &Target, digests: &Digests) -> Result<(), Fault>
 }
 
 fn has_wrong_hash(target: &Target, digests: &Digests) -> bool
-    ensures { result ≡ (differs target.now.hashes.sha256 digests.now.sha256
-        || differs target.now.hashes.sha512 digests.now.sha512) }
+    ensures { result ≡ (spec.differs_from target.now.hashes.sha256 (measure_in digests.now).sha256
+        || spec.differs_from target.now.hashes.sha512 (measure_in digests.now).sha512) }
 {
     let sha256 = target.hashes.sha256.as_ref().map(|d| d.as_slice());
     let sha512 = target.hashes.sha512.as_ref().map(|d| d.as_slice());
-    is_other(sha256, digests.sha256.as_slice()) || is_other(sha512, digests.sha512.as_slice())
+    is_other(sha256, digests.has_sha256, digests.sha256.as_slice())
+        || is_other(sha512, digests.has_sha512, digests.sha512.as_slice())
 }
 
-/// Returns whether a digest is listed that differs from the other one.
-fn is_other(listed: Option<&[u8]>, found: &[u8]) -> bool
-    ensures { result ≡ differs (option_map (λ d. d.now) listed.entry) found.now }
+/// Returns whether a digest is listed that differs from the given one, or that isn't given.
+fn is_other(listed: Option<&[u8]>, has: u8, given: &[u8]) -> bool
+    ensures { result ≡ spec.differs_from (option_map (λ d. d.now) listed.entry)
+        (spec.given_digest has given.now) }
 {
     match listed {
-        Some(listed) => listed != found,
+        Some(listed) => has == 0 || listed != given,
         None => false,
     }
 }

@@ -1,10 +1,12 @@
 //! The verification of a job.
 
-ghost use Rattle.std.specs.Prelude.{◌≡◌, ◌≤◌, ◌++◌, IfErr, IfOk, OnOk, length};
+ghost use Rattle.std.specs.Prelude.{◌≡◌, ◌≤◌, ◌++◌, IfErr, IfOk, None, OnOk, get_or, length};
+ghost use Rattle.std.specs.Prelude.{option_map};
 ghost use Rattle.std.specs.List.{list_all};
-ghost use Rattle.cycle.specs.Workflow.{closed_course};
-ghost use Rattle.embed.specs.Inputs.{held_in};
-ghost use Rattle.embed.specs.Jobs.{AreGiven, Files, HasCause};
+ghost use Rattle.cycle.specs.Workflow.{closed_by};
+ghost use Rattle.embed.specs.Inputs.{given_by, givens_by, held_in};
+ghost use Rattle.embed.specs.Jobs as job;
+ghost use Rattle.embed.specs.Jobs.{HasCause};
 ghost use Rattle.embed.specs.Outcomes as spec;
 ghost use Rattle.embed.specs.Rows as row;
 
@@ -12,11 +14,12 @@ use crate::fault::JobFault;
 use crate::held::{Held, add_targets};
 use crate::input::{follow, read};
 use crate::job::Job;
+use crate::listing::target_in;
 use crate::rows::{RoleRow, Summary, VerdictRow, fault_number, summary_of};
-use crate::store::HeldFiles;
+use crate::store::{HeldFiles, held_of};
 use cjson::NoMemory;
-use cycle::{Accepted, Course, End, Outcome, Verdict};
-use std::alloc::Global;
+use cycle::{Accepted, Course, End, Outcome, Search, Verdict};
+use std::alloc::{AllocError, Global};
 use std::collections::BTreeMap;
 
 /// The outcome of a verification.
@@ -48,9 +51,10 @@ impl Drop for Verification {
     }
 }
 
-/// Verifies the job: runs one cycle of the client workflow on its files (TUF 1.0 section 5). The
-/// outcome is that for all target files that have the bytes, or the length and the digests, which
-/// the job has of them. Fails with the first fault of the job, or with `Memory`.
+/// Verifies the job: runs one cycle of the client workflow on its files (TUF 1.0 section 5). Checks
+/// a target's file by its bytes, or by its length and digests, as the job has them, and so returns
+/// the outcome for all target files that have these, if each listed digest is given. Each verdict
+/// names the file that it is by. Fails with the first fault of the job, or with `Memory`.
 pub fn verify(alloc: Global, job: &Job) -> Result<Verification, JobFault>
     ensures verified { IfOk result (λ v. spec.IsVerified job.now v.status v.summary v.state.items
         v.verdicts.items v.roles.items v.names.items) }
@@ -59,13 +63,23 @@ pub fn verify(alloc: Global, job: &Job) -> Result<Verification, JobFault>
     ensures status_range { IfOk result (λ v. v.status ≤ 2) }
     ensures errors { IfErr result (HasCause job.now) }
 {
-    let outcome = outcome_of(alloc, job)?;
-    verification_of(alloc, &outcome)
+    let judged = judged_of(alloc, job)?;
+    verification_of(alloc, &judged)
+}
+
+/// An outcome, and what is held of the file of each wanted target that is listed.
+#[derive(Drop)]
+struct Judged<'a> {
+    /// The outcome.
+    outcome: Outcome,
+    /// What is held of the file of each wanted path, by position.
+    files: Vec<Option<Held<'a>>>,
 }
 
 /// Runs one cycle of the client workflow on the files of the job.
-fn outcome_of<'a>(alloc: Global, job: &Job<'a>) -> Result<Outcome, JobFault>
-    ensures outcome { IfOk result (spec.IsOutcome job.now) }
+fn judged_of<'a>(alloc: Global, job: &Job<'a>) -> Result<Judged<'a>, JobFault>
+    ensures outcome { IfOk result
+        (λ j. spec.IsOutcome job.now j.outcome (givens_by j.files.items)) }
     ensures errors { IfErr result (HasCause job.now) }
 {
     let input = read(alloc, job)?;
@@ -76,26 +90,71 @@ fn outcome_of<'a>(alloc: Global, job: &Job<'a>) -> Result<Outcome, JobFault>
 }
 
 /// Ends the course by the target files. Fails only if out of memory.
-fn close(alloc: Global, course: Course, files: &BTreeMap<String, Held>) -> Result<Outcome, NoMemory>
-    ensures { IfOk result (λ o. (targets : Files) → AreGiven (held_in files.now) targets
-        → o ≡ closed_course targets course) }
+fn close<'a>(
+    alloc: Global,
+    course: Course,
+    held: &BTreeMap<String, Held<'a>>,
+) -> Result<Judged<'a>, NoMemory>
+    ensures outcome { IfOk result
+        (λ j. j.outcome ≡ closed_by (job.given_checked (held_in held.now)) course) }
+    ensures files { IfOk result
+        (λ j. givens_by j.files.items ≡ job.givens_for (held_in held.now) course) }
 {
-    let store = HeldFiles { alloc, files };
-    course.close(alloc, &store)
+    let files = files_of(alloc, &course, held)?;
+    let store = HeldFiles { alloc, files: held };
+    let outcome = course.close(alloc, &store)?;
+    Ok(Judged { outcome, files })
+}
+
+/// Returns what is held of the file of each target that a search found.
+fn files_of<'a>(
+    alloc: Global,
+    course: &Course,
+    held: &BTreeMap<String, Held<'a>>,
+) -> Result<Vec<Option<Held<'a>>>, AllocError>
+    ensures { IfOk result
+        (λ all. givens_by all.items ≡ job.givens_for (held_in held.now) course.now) }
+{
+    let consistent = course.has_consistent_names();
+    let searches = course.searches();
+    let mut all = Vec::new(alloc);
+    for search in searches {
+        all.push(file_of(alloc, held, consistent, search)?)?;
+    }
+    Ok(all)
+}
+
+/// Returns what is held of the file of the target that the search found.
+fn file_of<'a>(
+    alloc: Global,
+    held: &BTreeMap<String, Held<'a>>,
+    consistent: bool,
+    search: &Option<Search>,
+) -> Result<Option<Held<'a>>, AllocError>
+    ensures { IfOk result
+        (λ o. option_map given_by o ≡ job.given_to (held_in held.now) consistent search.now) }
+{
+    match target_in(search) {
+        Some(target) => held_of(alloc, held, consistent, target),
+        None => Ok(None),
+    }
 }
 
 /// Returns the rows of the outcome. Fails only with `Memory`.
-fn verification_of(alloc: Global, outcome: &Outcome) -> Result<Verification, JobFault>
-    ensures rows { IfOk result (λ v. spec.Encodes outcome.now v.status v.summary v.state.items
-        v.verdicts.items v.roles.items v.names.items) }
+fn verification_of(alloc: Global, judged: &Judged) -> Result<Verification, JobFault>
+    ensures rows { IfOk result (λ v. spec.Encodes judged.now.outcome
+        (givens_by judged.now.files.items) v.status v.summary v.state.items v.verdicts.items
+        v.roles.items v.names.items) }
     ensures counts { IfOk result (λ v. spec.AreCounted v.summary v.state.items v.verdicts.items
         v.roles.items v.names.items) }
     ensures status_range { IfOk result (λ v. v.status ≤ 2) }
     ensures errors { IfErr result (λ f. f ≡ JobFault.Memory) }
 {
+    let outcome = &judged.outcome;
     let state = outcome.trusted().to_text(alloc)?;
     let mut names = Vec::new(alloc);
-    let verdicts = verdict_rows(alloc, outcome.verdicts(), &mut names)?;
+    let files = judged.files.as_slice();
+    let verdicts = verdict_rows(alloc, outcome.verdicts(), files, &mut names)?;
     let roles = role_rows(alloc, outcome.accepted(), &mut names)?;
     let mut summary = summary_of(outcome.trusted(), outcome.end(), state.as_slice());
     summary.verdict_count = verdicts.len();
@@ -112,31 +171,40 @@ fn verification_of(alloc: Global, outcome: &Outcome) -> Result<Verification, Job
     })
 }
 
-/// Returns a row for each verdict, and adds the names of the roles to the names.
+/// Returns a row for each verdict, with its file, and adds the names of the roles to the names.
 fn verdict_rows(
     alloc: Global,
     verdicts: &[Verdict],
+    files: &[Option<Held>],
     names: &mut Vec<u8>,
 ) -> Result<Vec<VerdictRow>, JobFault>
     ensures rows { IfOk result (λ rows. rows.items
-        ≡ row.verdict_rows (length names.old.items) verdicts.now) }
+        ≡ row.verdict_rows (length names.old.items) verdicts.now (givens_by files.now)) }
     ensures names { OnOk result (names.new.items
         ≡ names.old.items ++ row.verdict_names verdicts.now) }
     ensures errors { IfErr result (λ f. f ≡ JobFault.Memory) }
 {
     let mut rows = Vec::with_capacity(alloc, verdicts.len())?;
-    for verdict in verdicts {
-        let row = verdict_row(names.len(), verdict);
+    for (at, verdict) in verdicts.iter().enumerate() {
+        let row = verdict_row(names.len(), verdict, file_at(files, at));
         names.extend_from_slice(role_of(verdict).as_bytes())?;
         rows.push(row)?;
     }
     Ok(rows)
 }
 
-/// Returns the row of a verdict whose role's name begins at `at` in the names.
-fn verdict_row(at: usize, verdict: &Verdict) -> VerdictRow
-    ensures { result ≡ row.verdict_row at verdict.now }
+/// Returns what is held of the file at that place of the list, if there is one.
+fn file_at<'a>(files: &[Option<Held<'a>>], at: usize) -> Option<Held<'a>>
+    ensures { option_map given_by result ≡ get_or (givens_by files.now) at None }
 {
+    if at < files.len() { files[at] } else { None }
+}
+
+/// Returns the row of a verdict whose role's name begins at `at` in the names, with its file.
+fn verdict_row(at: usize, verdict: &Verdict, file: Option<Held>) -> VerdictRow
+    ensures { result ≡ row.verdict_row at verdict.now (option_map given_by file.entry) }
+{
+    let (source, file_at) = source_of(file);
     let (kind, fault, length) = match verdict {
         Verdict::Good { length, .. } => (17, 0, *length),
         Verdict::NotFound => (18, 0, 0),
@@ -151,6 +219,21 @@ fn verdict_row(at: usize, verdict: &Verdict) -> VerdictRow
         length,
         role_at: at,
         role_len: role_of(verdict).len(),
+        file_at,
+        source,
+        reserved: [0; 5],
+    }
+}
+
+/// Returns the number of the file's list, and the file's index there.
+fn source_of(file: Option<Held>) -> (u32, usize)
+    ensures source { result.0 ≡ row.source_number (option_map given_by file.entry) }
+    ensures index { result.1 ≡ row.file_index (option_map given_by file.entry) }
+{
+    match file {
+        Some(Held::Bytes(at, _)) => (81, at),
+        Some(Held::Digests(at, _)) => (82, at),
+        None => (0, 0),
     }
 }
 
@@ -183,6 +266,7 @@ fn role_rows(
             version: accepted.version,
             name_at: names.len(),
             name_len: name.len(),
+            reserved: [0; 2],
         };
         names.extend_from_slice(name.as_bytes())?;
         rows.push(row)?;

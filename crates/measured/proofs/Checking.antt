@@ -10,11 +10,11 @@ use Rattle.meta.specs.Content.{content, differs, has_no_known_hash}
 use Rattle.meta.specs.declared.fault.Fault.TheVariants.{HashWrong, LengthWrong, NoKnownHash}
 use Rattle.examine.specs.Checks.{first_there, target_names, target_file, Missing}
 use Rattle.cjson.specs.Document.{◌>>=◌, or_refuse, refuse_if}
-use Rattle.cycle.specs.Workflow.{Fault, Files, Target, target_checked}
+use Rattle.cycle.specs.Workflow.{Checks, Fault, Files, Target, target_checked}
 use Rattle.folder.specs.Measures.{measure_of}
 use Rattle.folder.specs.declared.measure.Measure.{Measure}
 use Rattle.folder.specs.declared.measure.Need.{Need}
-use Rattle.measured.specs.Known.{MayBe, covers, differs_from, has_wrong_hash, measured_content, place}
+use Rattle.measured.specs.Known.{MayBe, MayGive, covers, differs_from, has_wrong_hash, measured_content, place}
 use Rattle.measured.proofs.Covering.{first_of_three, second_of_three, third_of_three}
 use Rattle.measured.specs.declared.known.Known.{Known}
 use Rattle.measured.specs.declared.known.Wanted.{Wanted}
@@ -47,9 +47,12 @@ bytes_at k files name w m may at measured =
     (subst (λ o. IfSome o (λ v. IfSome v (λ w. IfSome w.measure (λ m. option_map (measure_of w.need) (files name) ≡ Some m)))) at (may.measures name)))
 
 -- the file isn't there
-pub missing : (k : Known) (files : Files) (consistent : Bool) (t : Target) → MayBe k files → place k consistent t ≡ None → target_checked files consistent t ≡ Err Missing
-missing k files consistent t may none =
+absent : (k : Known) (files : Files) (consistent : Bool) (t : Target) → MayBe k files → place k consistent t ≡ None → target_checked files consistent t ≡ Err Missing
+absent k files consistent t may none =
     ap (λ o. or_refuse o Missing >>= content None (Some t.length) (Some t.hashes)) (file_of k files consistent t may ∙ ap (option_and_then files) none)
+
+pub missing : (k : Known) (checks : Checks) (consistent : Bool) (t : Target) → MayGive k checks → place k consistent t ≡ None → checks consistent t ≡ Err Missing
+missing k checks consistent t gives none = ap (λ (f : Checks). f consistent t) gives.are ∙ absent k gives.files consistent t gives.may_be none
 
 -- ---- a measure beside the bytes
 
@@ -93,10 +96,16 @@ measured_is need bytes t covered =
     (ap (λ bs. differs_from t.hashes.sha512 (if need.sha512 then Some (sha512 bs) else None)) all ∙ same_digest t.hashes.sha512 need.sha512 (sha512 bytes) (third_of_three a b c covered))))
 
 -- the file is there, and was measured as far as it is needed
-pub checked : (k : Known) (files : Files) (consistent : Bool) (t : Target) (name : List ℕ) (w : Wanted) (m : Measure)
+beside : (k : Known) (files : Files) (consistent : Bool) (t : Target) (name : List ℕ) (w : Wanted) (m : Measure)
     → MayBe k files → place k consistent t ≡ Some name → get_by_text k.files name ≡ Some (Some w) → w.measure ≡ Some m → covers w.need t ≡ true
     → target_checked files consistent t ≡ measured_content t m
-checked k files consistent t name w m may is at measured covered =
+beside k files consistent t name w m may is at measured covered =
     let found = bytes_at k files name w m may at measured in
     ap (λ o. or_refuse o Missing >>= content None (Some t.length) (Some t.hashes)) (file_of k files consistent t may ∙ ap (option_and_then files) is ∙ found.1)
     ∙ sym (ap (measured_content t) found.2 ∙ measured_is w.need found.0 t covered)
+
+pub checked : (k : Known) (checks : Checks) (consistent : Bool) (t : Target) (name : List ℕ) (w : Wanted) (m : Measure)
+    → MayGive k checks → place k consistent t ≡ Some name → get_by_text k.files name ≡ Some (Some w) → w.measure ≡ Some m → covers w.need t ≡ true
+    → checks consistent t ≡ measured_content t m
+checked k checks consistent t name w m gives is at measured covered =
+    ap (λ (f : Checks). f consistent t) gives.are ∙ beside k gives.files consistent t name w m gives.may_be is at measured covered

@@ -3,14 +3,14 @@ use Rattle.std.proofs.Common.{◌≡◌, ℕ, List, Bool, true, Option, None, So
 use Rattle.std.specs.BTreeMap.{get_by_text}
 use Rattle.sha2.specs.Sha256.{sha256}
 use Rattle.sha2.specs.Sha512.{sha512}
-use Rattle.cycle.specs.Workflow.{Course, Files, Outcome, closed_course}
+use Rattle.cycle.specs.Workflow.{Checks, Course, Files, Outcome, closed_by, target_checked}
 use Rattle.folder.specs.Seen.{AreSeen, IsStartOf, MayBeSeen, Seen, Start}
 use Rattle.folder.proofs.SeenFiles.{some_are_seen}
 use Rattle.folder.specs.Measures.{IsMeasureOf, measure_of}
 use Rattle.folder.specs.declared.measure.Measure.{Measure}
 use Rattle.folder.specs.declared.measure.Need.{Need}
 use Rattle.measured.specs.Closed.{IsClosed, is_found}
-use Rattle.measured.specs.Known.{IsKnown, IsWanted, MayBe}
+use Rattle.measured.specs.Known.{IsKnown, IsWanted, MayBe, MayGive}
 use Rattle.measured.specs.declared.known.Known.{Known}
 use Rattle.measured.specs.declared.known.Wanted.{Wanted}
 
@@ -109,7 +109,7 @@ may_be names holds found k known files are = record {
 
 pub closed : (lists : List (List ℕ) → Bool) (holds : List ℕ → List ℕ → Bool) (names : List (List ℕ)) (k : Known) (course : Course) (o : Outcome)
     → lists names ≡ true → IsKnown names holds (is_found course.trusted.root.reading.consistent course.searches) k
-    → ((files : Files) → MayBe k files → o ≡ closed_course files course) → IsClosed lists holds course o
+    → ((checks : Checks) → MayGive k checks → o ≡ closed_by checks course) → IsClosed lists holds course o
 unfolding seen_of
 closed lists holds names k course o listed known outcome =
     let found = is_found course.trusted.root.reading.consistent course.searches in
@@ -119,7 +119,7 @@ closed lists holds names k course o listed known outcome =
       seen = seen_of names holds found k known;
       may_be_seen = may;
       found = λ name. was_found (found name) (holds name) (get_by_text k.files name) (known.wanted name);
-      outcome = λ files are. outcome files (may_be names holds found k known files are);
+      outcome = λ files are. outcome (target_checked files) (record { files = files; may_be = may_be names holds found k known files are; are = refl });
       files = some.0;
       are_seen = some.1;
     }

@@ -8,7 +8,7 @@ use Rattle.meta.specs.declared.hashes.Hashes.{Hashes}
 use Rattle.meta.specs.declared.fault.Fault.TheVariants.{HashWrong, LengthWrong, NoKnownHash}
 use Rattle.examine.specs.Checks.{Fault, target_names}
 use Rattle.deleg.specs.declared.accepted.Search.{Search}
-use Rattle.cycle.specs.Workflow.{Files, Target, target_of}
+use Rattle.cycle.specs.Workflow.{Checks, Files, Target, target_checked, target_of}
 use Rattle.folder.specs.Seen.{is_named}
 use Rattle.folder.specs.Measures.{IsMeasureOf, IsMeasuredIn, measure_of}
 use Rattle.folder.specs.declared.job.Done.{Done}
@@ -83,6 +83,12 @@ pub record MayBe (k : Known) (files : Files) : Type 0 where
   pub names : (name : List ℕ) → is_some (files name) ≡ is_some (get_by_text k.files name)
   pub measures : (name : List ℕ) → IfSome (get_by_text k.files name) (λ o. IfSome o
       (λ w. IfSome w.measure (λ m. option_map (measure_of w.need) (files name) ≡ Some m)))
+
+-- what the checks come to, if the files are such files
+pub record MayGive (k : Known) (checks : Checks) : Type 0 where
+  pub files : Files
+  pub may_be : MayBe k files
+  pub are : checks ≡ target_checked files
 
 -- a file that is wanted is one that was found, and its measure is of bytes that it may have
 pub record IsWanted (found : Bool) (holds : List ℕ → Bool) (w : Wanted) : Type 0 where

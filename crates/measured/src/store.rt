@@ -18,7 +18,7 @@ pub(crate) struct Measured<'a> {
 }
 
 impl Store for Measured<'_> {
-    ghost may_be = { λ s files. spec.MayBe s.known.now files };
+    ghost may_give = { λ s checks. spec.MayGive s.known.now checks };
 
     ghost knows = { λ s consistent t. spec.knows s.known.now consistent t ≡ true };
 
@@ -39,6 +39,9 @@ impl Store for Measured<'_> {
         let Some(measure) = &wanted.measure else {
             unreachable!();
         };
-        Ok(check_measure(target, measure)?)
+        match check_measure(target, measure) {
+            Ok(()) => Ok(()),
+            Err(fault) => Err(Stop::Refused(fault)),
+        }
     }
 }

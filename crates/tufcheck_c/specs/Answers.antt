@@ -1,5 +1,5 @@
 -- What is in the caller's memory after a call.
-use Rattle.std.specs.Prelude.{◌≡◌, ◌≤◌, ℕ, ℤ, pos, negsuc, List, Bool, false, ◌&&◌, nat_le, take, length}
+use Rattle.std.specs.Prelude.{◌≡◌, ◌≤◌, ◌==◌, ℕ, ℤ, pos, negsuc, List, Bool, false, ◌&&◌, nat_le, take, length}
 use denote.Ref.{MutBor}
 pub use Rattle.embed.specs.Jobs.{HasCause, IsNoRoot}
 pub use Rattle.embed.specs.Outcomes.{AreCounted, AreListed, AreNeeds, IsFirst, IsListing, IsNext, IsVerified}
@@ -16,6 +16,7 @@ use Rattle.embed.specs.declared.verifying.Verification.{Verification}
 use Rattle.tufcheck_c.specs.declared.answer.Answer.{Answer}
 use Rattle.tufcheck_c.specs.declared.listed.Listed.{Listed}
 use Rattle.tufcheck_c.specs.declared.fetching.Needs.{Needs}
+use Rattle.tufcheck_c.specs.declared.sized.SizedJob.{SizedJob}
 
 -- # The result of a call.
 
@@ -29,10 +30,10 @@ abbrev pub IfError : ℤ → Type 0 → Type 0
 IfError (pos status) P = Unit {0}
 IfError (negsuc n) P = P
 
--- a status up to the greatest, or -1 to -6
+-- a status up to the greatest, or -1 to -7
 abbrev pub IsResult : ℕ → ℤ → Type 0
 IsResult greatest (pos status) = status ≤ greatest
-IsResult greatest (negsuc n) = n ≤ 5
+IsResult greatest (negsuc n) = n ≤ 6
 
 -- the number of a fault, -1 to -5
 abbrev pub number_of : JobFault → ℤ
@@ -45,6 +46,14 @@ number_of fault.Limit = negsuc 4
 -- -6, some room is too small
 abbrev pub no_room : ℤ
 no_room = negsuc 5
+
+-- -7, a struct has another size
+abbrev pub no_size : ℤ
+no_size = negsuc 6
+
+-- the job has its size in this version, and so has the answer
+abbrev pub is_sized : SizedJob → ℕ → ℕ → Bool
+is_sized job size own = (job.size == 104) && (size == own)
 
 -- # Rooms stay where they are, and as long.
 
@@ -61,6 +70,7 @@ pub record KeepsRooms (old new : Answer) : Type 0 where
   pub names : new.names.now ≡ old.names.now
 
 pub record SameRooms (old new : Answer) : Type 0 where
+  pub size : new.size ≡ old.size
   pub state : IsSameRoom old.state new.state
   pub verdicts : IsSameRoom old.verdicts new.verdicts
   pub roles : IsSameRoom old.roles new.roles
@@ -109,6 +119,7 @@ pub record KeepsListed (old new : Listed) : Type 0 where
   pub names : new.names.now ≡ old.names.now
 
 pub record SameListed (old new : Listed) : Type 0 where
+  pub size : new.size ≡ old.size
   pub state : IsSameRoom old.state new.state
   pub rows : IsSameRoom old.rows new.rows
   pub names : IsSameRoom old.names new.names
@@ -150,6 +161,7 @@ pub record KeepsNeeds (old new : Needs) : Type 0 where
   pub names : new.names.now ≡ old.names.now
 
 pub record SameNeeds (old new : Needs) : Type 0 where
+  pub size : new.size ≡ old.size
   pub rows : IsSameRoom old.rows new.rows
   pub names : IsSameRoom old.names new.names
 

@@ -4,13 +4,22 @@ ghost use Rattle.std.specs.Prelude.{◌≡◌, ◌≤◌, ◌⊎◌, false, pos,
 ghost use Rattle.embed.specs.declared.fault.JobFault.{JobFault};
 ghost use Rattle.tufcheck_c.specs.Answers as spec;
 
-use crate::room::{NO_ROOM, number_of, put};
-use embed::{Job, JobFault, RoleRow, Summary, VerdictRow, Verification, verify};
+use crate::room::{NO_ROOM, NO_SIZE, number_of, put};
+use crate::sized::{SizedJob, is_sized};
+use embed::{JobFault, RoleRow, Summary, VerdictRow, Verification, verify};
 use std::alloc::Global;
+use std::mem::size_of;
+
+/// The size of [`Answer`] in bytes.
+const ANSWER_SIZE: usize = 152;
+
+const _: () = prove!(size_of::<Answer>() == ANSWER_SIZE);
 
 /// The caller's rooms for the outcome, and the summary.
 #[repr(C)]
 pub struct Answer<'a> {
+    /// The size of this struct in bytes, 152.
+    pub size: usize,
     /// Room for the text of the new state.
     pub state: &'a mut [u8],
     /// Room for a row for each wanted path.
@@ -27,21 +36,29 @@ pub struct Answer<'a> {
 /// `answer`. Returns 0 if the cycle is ready and all wanted targets are accepted, 1 if it is ready
 /// and some target is refused, 2 if it stopped, or the number of an error: -1 out of memory, -2 not
 /// a state, -3 a name or path that is not UTF-8, -4 a moment past the year 9999, -5 a limit that is
-/// not 1 to 256, -6 too little room; then the summary counts how much is needed. On any error the
-/// rooms are unchanged.
+/// not 1 to 256, -6 too little room; then the summary counts how much is needed; -7 another size of
+/// the job or the answer than that of this version. On any error the rooms are unchanged.
 #[unsafe(no_mangle)]
-pub extern "C" fn tufcheck_verify(alloc: Global, job: &Job, answer: &mut Answer) -> i32
-    ensures verified { spec.IfStatus result (λ status. spec.IsAnswered job.now status answer.new) }
-    ensures errors { (f : JobFault) → result ≡ spec.number_of f → spec.HasCause job.now f }
-    ensures room_needed { result ≡ spec.no_room → spec.IsShort job.now answer.new }
+pub extern "C" fn tufcheck_verify(alloc: Global, job: &SizedJob, answer: &mut Answer) -> i32
+    ensures verified { spec.IfStatus result
+        (λ status. spec.IsAnswered job.now.job status answer.new) }
+    ensures errors { (f : JobFault) → result ≡ spec.number_of f → spec.HasCause job.now.job f }
+    ensures room_needed { result ≡ spec.no_room → spec.IsShort job.now.job answer.new }
     ensures bounded { spec.IfStatus result (λ _. spec.has_room answer.new ≡ true) }
     ensures unchanged_on_error { spec.IfError result (spec.KeepsRooms answer.old answer.new) }
     ensures same_summary { (f : JobFault) → result ≡ spec.number_of f
         → answer.new.summary ≡ answer.old.summary }
+    ensures other_size { spec.is_sized job.now answer.old.size 152 ≡ false → result ≡ spec.no_size }
+    ensures size_error { result ≡ spec.no_size → spec.is_sized job.now answer.old.size 152 ≡ false }
+    ensures same_at_other_size { result ≡ spec.no_size
+        → answer.new.summary ≡ answer.old.summary }
     ensures same_rooms { spec.SameRooms answer.old answer.new }
     ensures status_range { spec.IsResult 2 result }
 {
-    match verify(alloc, job) {
+    if !is_sized(job, answer.size, ANSWER_SIZE) {
+        return NO_SIZE;
+    }
+    match verify(alloc, &job.job) {
         Ok(verification) => write(answer, &verification),
         Err(fault) => number_of(fault),
     }

@@ -4,13 +4,22 @@ ghost use Rattle.std.specs.Prelude.{◌≡◌, ◌≤◌, ◌⊎◌, false, pos,
 ghost use Rattle.embed.specs.declared.fault.JobFault.{JobFault};
 ghost use Rattle.tufcheck_c.specs.Answers as spec;
 
-use crate::room::{NO_ROOM, number_of, put};
-use embed::{Job, JobFault, Missing, NeedRow, Summary, next};
+use crate::room::{NO_ROOM, NO_SIZE, number_of, put};
+use crate::sized::{SizedJob, is_sized};
+use embed::{JobFault, Missing, NeedRow, Summary, next};
 use std::alloc::Global;
+use std::mem::size_of;
+
+/// The size of [`Needs`] in bytes.
+const NEEDS_SIZE: usize = 120;
+
+const _: () = prove!(size_of::<Needs>() == NEEDS_SIZE);
 
 /// The caller's rooms for the files to fetch, and the summary.
 #[repr(C)]
 pub struct Needs<'a> {
+    /// The size of this struct in bytes, 120.
+    pub size: usize,
     /// Room for a row for each file.
     pub rows: &'a mut [NeedRow],
     /// Room for the names that the rows cite.
@@ -24,18 +33,25 @@ pub struct Needs<'a> {
 /// some file isn't optional, else 2 if the cycle stopped, else 0, or the number of an error, as
 /// there. On any error the rooms are unchanged.
 #[unsafe(no_mangle)]
-pub extern "C" fn tufcheck_next(alloc: Global, job: &Job, needs: &mut Needs) -> i32
-    ensures next { spec.IfStatus result (λ status. spec.IsNeeded job.now status needs.new) }
-    ensures errors { (f : JobFault) → result ≡ spec.number_of f → spec.HasCause job.now f }
-    ensures room_needed { result ≡ spec.no_room → spec.IsNeedsShort job.now needs.new }
+pub extern "C" fn tufcheck_next(alloc: Global, job: &SizedJob, needs: &mut Needs) -> i32
+    ensures next { spec.IfStatus result (λ status. spec.IsNeeded job.now.job status needs.new) }
+    ensures errors { (f : JobFault) → result ≡ spec.number_of f → spec.HasCause job.now.job f }
+    ensures room_needed { result ≡ spec.no_room → spec.IsNeedsShort job.now.job needs.new }
     ensures bounded { spec.IfStatus result (λ _. spec.has_needs_room needs.new ≡ true) }
     ensures unchanged_on_error { spec.IfError result (spec.KeepsNeeds needs.old needs.new) }
     ensures same_summary { (f : JobFault) → result ≡ spec.number_of f
         → needs.new.summary ≡ needs.old.summary }
+    ensures other_size { spec.is_sized job.now needs.old.size 120 ≡ false → result ≡ spec.no_size }
+    ensures size_error { result ≡ spec.no_size → spec.is_sized job.now needs.old.size 120 ≡ false }
+    ensures same_at_other_size { result ≡ spec.no_size
+        → needs.new.summary ≡ needs.old.summary }
     ensures same_rooms { spec.SameNeeds needs.old needs.new }
     ensures status_range { spec.IsResult 2 result }
 {
-    match next(alloc, job) {
+    if !is_sized(job, needs.size, NEEDS_SIZE) {
+        return NO_SIZE;
+    }
+    match next(alloc, &job.job) {
         Ok(missing) => write(needs, &missing),
         Err(fault) => number_of(fault),
     }

@@ -8,6 +8,9 @@ use embed::JobFault;
 /// Some room is too small.
 pub(crate) const NO_ROOM: i32 = -6;
 
+/// A struct of the caller has another size than that of this version.
+pub(crate) const NO_SIZE: i32 = -7;
+
 /// Copies the items to the front of the room.
 pub(crate) fn put<T: Copy>(room: &mut [T], items: &[T])
     requires { length items.now ≤ length room.old }

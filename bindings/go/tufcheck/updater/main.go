@@ -118,29 +118,9 @@ func fetch(repository string, need tufcheck.Need) *tufcheck.Found {
 	return nil
 }
 
-// verified returns the file that was verified for an accepted path: the first of the names that the
-// cycle looks up for it. Under consistent names these begin with the listed digests.
-func verified(job tufcheck.Job, path string) ([]byte, error) {
-	targets := job.Targets
-	job.Wanted, job.Targets = []string{path}, nil
-	needs, err := job.Next()
-	if err != nil {
-		return nil, err
-	}
-	for _, need := range needs.Files {
-		if data, ok := targets[need.Name]; ok && need.Place == tufcheck.TargetsFolder {
-			return data, nil
-		}
-	}
-	return nil, errors.New("no verified file")
-}
-
-// install installs the verified file of an accepted path, whose folders it makes.
-func install(job tufcheck.Job, path, temporary, out string) error {
-	data, err := verified(job, path)
-	if err != nil {
-		return err
-	}
+// install installs the verified file of an accepted path, whose folders it makes. This updater has
+// no digests, so it is one of the targets.
+func install(data []byte, path, temporary, out string) error {
 	place := out + "/" + path
 	if err := os.MkdirAll(filepath.Dir(place), 0o777); err != nil {
 		return err
@@ -170,7 +150,7 @@ func update(root, place, repository, out string, moment time.Time, wanted []stri
 	for at, verdict := range outcome.Verdicts {
 		fmt.Printf("%q: %v: %v, %d bytes, role %q\n", wanted[at], verdict.Kind, verdict.Fault, verdict.Length, verdict.Role)
 		if verdict.Accepted() {
-			if err := install(job, wanted[at], place+".new", out); err != nil {
+			if err := install(job.Targets[verdict.File], wanted[at], place+".new", out); err != nil {
 				return 4, err
 			}
 		}

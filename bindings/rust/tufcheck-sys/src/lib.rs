@@ -1,7 +1,8 @@
 //! The C interface of libtufcheck, as its header `tufcheck.h` declares it.
 //!
-//! No pointer may be null, also where its length or count is 0, and no room may overlap another
-//! room, its own answer or any memory of the job. A call needs a stack of 256 KB.
+//! A pointer may be null only where its length or count is 0, and no room may overlap another room,
+//! its own answer or any memory of the job. `size` is the size of its struct. A call needs a stack of
+//! 256 KB.
 #![no_std]
 
 /// Bytes of the caller.
@@ -20,12 +21,14 @@ pub struct File {
     pub bytes: Bytes,
 }
 
-/// A target file by its length and digests.
+/// A target file by its length and digests. `has_sha256` is 0 if that digest isn't given.
 #[repr(C)]
 #[derive(Clone, Copy, Debug)]
 pub struct Digests {
     pub name: Bytes,
     pub length: u64,
+    pub has_sha256: u8,
+    pub has_sha512: u8,
     pub sha256: [u8; 32],
     pub sha512: [u8; 64],
 }
@@ -34,6 +37,7 @@ pub struct Digests {
 #[repr(C)]
 #[derive(Clone, Copy, Debug)]
 pub struct Job {
+    pub size: usize,
     pub state: Bytes,
     pub metadata: *const File,
     pub metadata_count: usize,
@@ -58,6 +62,7 @@ pub struct Summary {
     pub verdict_count: usize,
     pub role_count: usize,
     pub name_len: usize,
+    pub reserved: [u64; 4],
 }
 
 /// The verdict of a wanted path.
@@ -69,6 +74,9 @@ pub struct Verdict {
     pub length: u64,
     pub role_at: usize,
     pub role_len: usize,
+    pub file_at: usize,
+    pub source: u32,
+    pub reserved: [u32; 5],
 }
 
 /// A delegated role that was accepted.
@@ -78,12 +86,14 @@ pub struct Role {
     pub version: u64,
     pub name_at: usize,
     pub name_len: usize,
+    pub reserved: [u64; 2],
 }
 
 /// The rooms for the outcome of a verification.
 #[repr(C)]
 #[derive(Debug)]
 pub struct Answer {
+    pub size: usize,
     pub state: *mut u8,
     pub state_room: usize,
     pub verdicts: *mut Verdict,
@@ -104,16 +114,20 @@ pub struct Listed {
     pub length: u64,
     pub role_at: usize,
     pub role_len: usize,
+    pub name_at: usize,
+    pub name_len: usize,
     pub has_sha256: u8,
     pub has_sha512: u8,
     pub sha256: [u8; 32],
     pub sha512: [u8; 64],
+    pub reserved: [u8; 30],
 }
 
 /// The rooms for a listing.
 #[repr(C)]
 #[derive(Debug)]
 pub struct Listing {
+    pub size: usize,
     pub state: *mut u8,
     pub state_room: usize,
     pub rows: *mut Listed,
@@ -132,12 +146,14 @@ pub struct Need {
     pub most: u64,
     pub name_at: usize,
     pub name_len: usize,
+    pub reserved: [u64; 2],
 }
 
 /// The rooms for the files to fetch.
 #[repr(C)]
 #[derive(Debug)]
 pub struct Needs {
+    pub size: usize,
     pub rows: *mut Need,
     pub row_room: usize,
     pub names: *mut u8,
@@ -157,6 +173,14 @@ extern "C" {
     pub fn tufcheck_next(job: *const Job, needs: *mut Needs) -> i32;
     pub fn tufcheck_list(job: *const Job, listing: *mut Listing) -> i32;
     pub fn tufcheck_verify(job: *const Job, answer: *mut Answer) -> i32;
+    pub fn tufcheck_lms_verify(
+        key: *const u8,
+        key_len: usize,
+        message: *const u8,
+        message_len: usize,
+        signature: *const u8,
+        signature_len: usize,
+    ) -> i32;
 }
 
 /// Checks that the structs have the layout of the header, as `layout.c` does for it: the crate
@@ -177,19 +201,20 @@ mod layout {
 
     layout!(Bytes, 16: data 0, len 8);
     layout!(File, 32: name 0, bytes 16);
-    layout!(Digests, 120: name 0, length 16, sha256 24, sha512 56);
-    layout!(Job, 96: state 0, metadata 16, metadata_count 24, targets 32, target_count 40,
-        digests 48, digest_count 56, wanted 64, wanted_count 72, moment 80, limit 88);
-    layout!(Summary, 48: end 0, fault 4, root_version 8, state_len 16, verdict_count 24,
-        role_count 32, name_len 40);
-    layout!(Verdict, 32: kind 0, fault 4, length 8, role_at 16, role_len 24);
-    layout!(Role, 24: version 0, name_at 8, name_len 16);
-    layout!(Answer, 112: state 0, state_room 8, verdicts 16, verdict_room 24, roles 32,
-        role_room 40, names 48, name_room 56, summary 64);
-    layout!(Listed, 136: kind 0, fault 4, length 8, role_at 16, role_len 24, has_sha256 32,
-        has_sha512 33, sha256 34, sha512 66);
-    layout!(Listing, 96: state 0, state_room 8, rows 16, row_room 24, names 32, name_room 40,
-        summary 48);
-    layout!(Need, 32: place 0, optional 4, most 8, name_at 16, name_len 24);
-    layout!(Needs, 80: rows 0, row_room 8, names 16, name_room 24, summary 32);
+    layout!(Digests, 128: name 0, length 16, has_sha256 24, has_sha512 25, sha256 26, sha512 58);
+    layout!(Job, 104: size 0, state 8, metadata 24, metadata_count 32, targets 40, target_count 48,
+        digests 56, digest_count 64, wanted 72, wanted_count 80, moment 88, limit 96);
+    layout!(Summary, 80: end 0, fault 4, root_version 8, state_len 16, verdict_count 24,
+        role_count 32, name_len 40, reserved 48);
+    layout!(Verdict, 64: kind 0, fault 4, length 8, role_at 16, role_len 24, file_at 32, source 40,
+        reserved 44);
+    layout!(Role, 40: version 0, name_at 8, name_len 16, reserved 24);
+    layout!(Answer, 152: size 0, state 8, state_room 16, verdicts 24, verdict_room 32, roles 40,
+        role_room 48, names 56, name_room 64, summary 72);
+    layout!(Listed, 176: kind 0, fault 4, length 8, role_at 16, role_len 24, name_at 32,
+        name_len 40, has_sha256 48, has_sha512 49, sha256 50, sha512 82, reserved 146);
+    layout!(Listing, 136: size 0, state 8, state_room 16, rows 24, row_room 32, names 40,
+        name_room 48, summary 56);
+    layout!(Need, 48: place 0, optional 4, most 8, name_at 16, name_len 24, reserved 32);
+    layout!(Needs, 120: size 0, rows 8, row_room 16, names 24, name_room 32, summary 40);
 }

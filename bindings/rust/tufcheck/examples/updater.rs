@@ -16,7 +16,7 @@ use std::io::{self, ErrorKind, Read, Write};
 use std::path::{Path, PathBuf};
 use std::time::{SystemTime, UNIX_EPOCH};
 use std::{env, process};
-use tufcheck::{Job, Kind, Need, Place};
+use tufcheck::{Job, Kind, Need, Place, Source, Verdict};
 
 type Failure = Box<dyn std::error::Error>;
 
@@ -116,17 +116,12 @@ fn fetch_all(repository: &str, job: Job) -> Result<Fetched, Failure> {
     }
 }
 
-/// Installs the file that was verified for an accepted path: the first of the names that the cycle
-/// looks up for it. Under consistent names these begin with the listed digests. Of files with one
-/// name the last counts.
-fn install(job: Job, path: &str, new: &str, place: PathBuf) -> Result<(), Failure> {
-    let needs = Job { wanted: &[path], targets: &[], ..job }.next()?;
-    let mut names = needs.files.iter().filter(|need| need.place == Place::Targets);
-    let (_, bytes) = names
-        .find_map(|need| job.targets.iter().rfind(|(name, _)| *name == need.name))
-        .ok_or("no verified file")?;
+/// Installs the file that was verified for an accepted path. This updater has no digests, so it is
+/// one of the targets.
+fn install(job: Job, verdict: &Verdict, new: &str, place: PathBuf) -> Result<(), Failure> {
+    let Some(Source::Targets(at)) = verdict.file else { return Err("no verified file".into()) };
     fs::create_dir_all(place.parent().ok_or("no folder")?)?;
-    Ok(replace(new, &place, bytes)?)
+    Ok(replace(new, &place, job.targets[at].1)?)
 }
 
 fn update(words: &[&str], moment: u64) -> Result<i32, Failure> {
@@ -143,7 +138,7 @@ fn update(words: &[&str], moment: u64) -> Result<i32, Failure> {
     for (path, verdict) in wanted.iter().zip(&outcome.verdicts) {
         println!("{path:?}: {verdict:?}");
         if verdict.kind == Kind::Accepted {
-            install(job, path, &new, Path::new(out).join(path))?;
+            install(job, verdict, &new, Path::new(out).join(path))?;
         }
     }
     Ok(outcome.status as i32)

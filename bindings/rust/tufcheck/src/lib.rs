@@ -9,7 +9,7 @@
 
 use std::error;
 use std::fmt;
-use std::ptr::NonNull;
+use std::mem::size_of;
 use tufcheck_sys as c;
 
 /// Why a call failed.
@@ -121,13 +121,26 @@ pub enum Place {
     Unknown(u32),
 }
 
-/// A target file by its length in bytes and both digests of its bytes.
+/// A target file by its length in bytes and the digests of its bytes. Those that are listed are
+/// needed: [`Job::list`] says which.
 #[derive(Clone, Copy, Debug)]
 pub struct Digests<'a> {
     pub name: &'a str,
     pub length: u64,
-    pub sha256: [u8; 32],
-    pub sha512: [u8; 64],
+    pub sha256: Option<[u8; 32]>,
+    pub sha512: Option<[u8; 64]>,
+}
+
+/// A file of the job, by its index.
+#[derive(Clone, Copy, Debug, PartialEq, Eq)]
+#[non_exhaustive]
+pub enum Source {
+    /// In [`Job::targets`].
+    Targets(usize),
+    /// In [`Job::digests`].
+    Digests(usize),
+    /// A list that this crate doesn't know.
+    Unknown(u32),
 }
 
 /// The input of a call. Of all files with one name the last counts, and one of `digests` counts
@@ -155,6 +168,8 @@ pub struct Verdict {
     pub length: u64,
     /// The role that lists the accepted file, or whose own file is refused, or no name.
     pub role: String,
+    /// The file that was checked. Install no other one.
+    pub file: Option<Source>,
 }
 
 /// The outcome of a cycle. Keep `state` whatever the status is.
@@ -183,6 +198,8 @@ pub struct Listed {
     pub fault: Option<Fault>,
     pub length: u64,
     pub role: String,
+    /// The first name under which the file is looked up, or no name.
+    pub name: String,
     pub sha256: Option<[u8; 32]>,
     pub sha512: Option<[u8; 64]>,
 }
@@ -234,21 +251,40 @@ pub fn version() -> u32 {
 /// `Memory` or `Version`.
 pub fn first(root: &[u8]) -> Result<Vec<u8>, Error> {
     same_version(version())?;
-    let mut state = vec![0; 2 * root.len() + 64];
-    let mut len = 0;
-    // A slice's pointer and that of a vector are never null.
+    let mut len = 2 * root.len() + 64;
+    loop {
+        let mut state = vec![0; len];
+        let result = unsafe {
+            c::tufcheck_first(
+                root.as_ptr(),
+                root.len(),
+                state.as_mut_ptr(),
+                state.len(),
+                &mut len,
+            )
+        };
+        if status_of(result)?.is_some() {
+            state.truncate(len);
+            return Ok(state);
+        }
+    }
+}
+
+/// Returns whether an LMS signature of a message is valid for a public key of 56 bytes (RFC 8554).
+/// Fails with `Version`.
+pub fn lms_verify(key: &[u8], message: &[u8], signature: &[u8]) -> Result<bool, Error> {
+    same_version(version())?;
     let result = unsafe {
-        c::tufcheck_first(
-            root.as_ptr(),
-            root.len(),
-            state.as_mut_ptr(),
-            state.len(),
-            &mut len,
+        c::tufcheck_lms_verify(
+            key.as_ptr(),
+            key.len(),
+            message.as_ptr(),
+            message.len(),
+            signature.as_ptr(),
+            signature.len(),
         )
     };
-    status_of(result)?;
-    state.truncate(len);
-    Ok(state)
+    Ok(result == 1)
 }
 
 impl Job<'_> {
@@ -262,6 +298,7 @@ impl Job<'_> {
             let mut roles = vec![c::Role::default(); rooms.role_count];
             let mut names = vec![0; rooms.name_len];
             let mut answer = c::Answer {
+                size: size_of::<c::Answer>(),
                 state: state.as_mut_ptr(),
                 state_room: state.len(),
                 verdicts: verdicts.as_mut_ptr(),
@@ -291,6 +328,7 @@ impl Job<'_> {
                         fault: fault_of(row.fault),
                         length: row.length,
                         role: cut(&names, row.role_at, row.role_len),
+                        file: source_of(row.source, row.file_at),
                     })
                     .collect(),
                 roles: roles[..rooms.role_count]
@@ -309,10 +347,13 @@ impl Job<'_> {
             length: 0,
             role_at: 0,
             role_len: 0,
+            name_at: 0,
+            name_len: 0,
             has_sha256: 0,
             has_sha512: 0,
             sha256: [0; 32],
             sha512: [0; 64],
+            reserved: [0; 30],
         };
         let mut rooms = self.rooms(0);
         loop {
@@ -320,6 +361,7 @@ impl Job<'_> {
             let mut rows = vec![none; rooms.verdict_count];
             let mut names = vec![0; rooms.name_len];
             let mut listing = c::Listing {
+                size: size_of::<c::Listing>(),
                 state: state.as_mut_ptr(),
                 state_room: state.len(),
                 rows: rows.as_mut_ptr(),
@@ -347,6 +389,7 @@ impl Job<'_> {
                         fault: fault_of(row.fault),
                         length: row.length,
                         role: cut(&names, row.role_at, row.role_len),
+                        name: cut(&names, row.name_at, row.name_len),
                         sha256: (row.has_sha256 == 1).then_some(row.sha256),
                         sha512: (row.has_sha512 == 1).then_some(row.sha512),
                     })
@@ -362,6 +405,7 @@ impl Job<'_> {
             let mut rows = vec![c::Need::default(); rooms.verdict_count];
             let mut names = vec![0; rooms.name_len];
             let mut needs = c::Needs {
+                size: size_of::<c::Needs>(),
                 rows: rows.as_mut_ptr(),
                 row_room: rows.len(),
                 names: names.as_mut_ptr(),
@@ -395,7 +439,7 @@ impl Job<'_> {
     fn rooms(&self, roles: usize) -> c::Summary {
         let files: usize = self.metadata.iter().map(|(_, bytes)| bytes.len()).sum();
         c::Summary {
-            state_len: (self.state.len() + 2 * files + 64).min(15_056_821),
+            state_len: self.state.len() + 2 * files + 64,
             verdict_count: self.wanted.len(),
             role_count: roles,
             name_len: 4096,
@@ -421,12 +465,15 @@ impl Job<'_> {
             .map(|row| c::Digests {
                 name: bytes(row.name.as_bytes()),
                 length: row.length,
-                sha256: row.sha256,
-                sha512: row.sha512,
+                has_sha256: row.sha256.is_some().into(),
+                has_sha512: row.sha512.is_some().into(),
+                sha256: row.sha256.unwrap_or([0; 32]),
+                sha512: row.sha512.unwrap_or([0; 64]),
             })
             .collect();
         let wanted: Vec<c::Bytes> = self.wanted.iter().map(|path| bytes(path.as_bytes())).collect();
         Ok(call(&c::Job {
+            size: size_of::<c::Job>(),
             state: bytes(self.state),
             metadata: metadata.as_ptr(),
             metadata_count: metadata.len(),
@@ -444,7 +491,7 @@ impl Job<'_> {
 
 fn bytes(data: &[u8]) -> c::Bytes {
     c::Bytes {
-        data: NonNull::from(data).cast().as_ptr(),
+        data: data.as_ptr(),
         len: data.len(),
     }
 }
@@ -506,6 +553,15 @@ fn place_of(number: u32) -> Place {
     }
 }
 
+fn source_of(number: u32, at: usize) -> Option<Source> {
+    Some(match number {
+        0 => return None,
+        81 => Source::Targets(at),
+        82 => Source::Digests(at),
+        _ => Source::Unknown(number),
+    })
+}
+
 fn fault_of(number: u32) -> Option<Fault> {
     Some(match number {
         0 => return None,
@@ -535,6 +591,9 @@ mod tests {
         assert_eq!([49, 50].map(place_of), [Place::Metadata, Place::Targets]);
         assert_eq!([65, 75].map(fault_of), [Some(Fault::NotListed), Some(Fault::Expired)]);
         assert_eq!(fault_of(0), None);
+        assert_eq!(source_of(81, 2), Some(Source::Targets(2)));
+        assert_eq!(source_of(82, 3), Some(Source::Digests(3)));
+        assert_eq!(source_of(0, 0), None);
         assert_eq!(status_of(0), Ok(Some(Status::Good)));
         assert_eq!(status_of(-6), Ok(None));
     }
@@ -547,6 +606,7 @@ mod tests {
             assert_eq!(place_of(number), Place::Unknown(number));
         }
         assert_eq!(fault_of(76), Some(Fault::Unknown(76)));
+        assert_eq!(source_of(83, 1), Some(Source::Unknown(83)));
         assert_eq!(fault_of(u32::MAX), Some(Fault::Unknown(u32::MAX)));
         for result in [3, -3, -7, i32::MIN, i32::MAX] {
             assert_eq!(status_of(result), Err(Error::Unknown(result)));

@@ -4,5 +4,5 @@ use Rattle.embed.proofs.held.add_digests.Goals as goal
 
 pub returns-in_err-add-clause-errors : goal.returns-in_err-add-clause-errors
 returns-in_err-add-clause-errors c =
-    not_all (λ f. IsUtf8 f.name.now) c.args.digests.now c.loop-row.row-index _ c.in_err-add.field-0.0 c.from_residual.result
-    c.loop-row-test.true c.in_err-add.ensures.errors c.from_residual.ensures.1
+    not_all (λ f. IsUtf8 f.name.now) c.args.digests.now c.loop-at.at _ c.in_err-add.field-0.0 c.from_residual.result
+    c.loop-at-test.true c.in_err-add.ensures.errors c.from_residual.ensures.1

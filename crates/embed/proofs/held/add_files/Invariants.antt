@@ -1,9 +1,9 @@
-use Rattle.std.proofs.Common.{◌≡◌, drop, fold}
+use Rattle.std.proofs.Common.{◌≡◌, drop}
 use Rattle.embed.specs.Inputs.{held_in}
-use Rattle.embed.specs.Jobs.{with_whole}
+use Rattle.embed.specs.Jobs.{with_files}
 use Rattle.embed.proofs.held.add_files.Given as goal
 
 -- the files so far, and then those that are left
-abbrev pub invariant-loop-file : goal.invariant-loop-file
-invariant-loop-file l =
-    fold with_whole (held_in l.all) (drop l.file-index l.files) ≡ fold with_whole (held_in l.initial.all) l.files
+abbrev pub invariant-loop-at : goal.invariant-loop-at
+invariant-loop-at l =
+    with_files l.at (held_in l.all) (drop l.at l.files) ≡ with_files 0 (held_in l.initial.all) l.files

@@ -5,6 +5,6 @@ use Rattle.embed.proofs.listing.listed_rows.Given as goal
 -- the rows and the names so far, and then those that are left
 abbrev pub invariant-loop-search : goal.invariant-loop-search
 invariant-loop-search l = record {
-  rows : l.rows.items ++ listed_rows (length l.names.items) (drop l.search-index l.all) ≡ listed_rows (length l.initial.names.items) l.all;
-  names : l.names.items ++ listed_names (drop l.search-index l.all) ≡ l.initial.names.items ++ listed_names l.all;
+  rows : l.rows.items ++ listed_rows l.consistent (length l.names.items) (drop l.search-index l.all) ≡ listed_rows l.consistent (length l.initial.names.items) l.all;
+  names : l.names.items ++ listed_names l.consistent (drop l.search-index l.all) ≡ l.initial.names.items ++ listed_names l.consistent l.all;
 }
