@@ -2,10 +2,11 @@
 
 ghost use Rattle.std.specs.Prelude.{◌≡◌, ◌≤◌, ◌&&◌, false, not, IfErr, IfOk, IfSome, OnOk, map};
 ghost use Rattle.std.specs.Prelude.{string_bytes};
-ghost use Rattle.cycle.specs.Looked.{is_metadata_name as is_json};
+ghost use Rattle.cycle.specs.Looked.{is_metadata_name as is_json, most_looked_at};
 ghost use Rattle.cycle.specs.Workflow.{course};
 ghost use Rattle.examine.specs.Checks.{file_in};
 ghost use Rattle.folder.specs.Folders.{HasFailed, IsSameFolder};
+ghost use Rattle.folder.specs.Seen.{IsStartOf};
 ghost use Rattle.folder.specs.declared.files.LoadFault.TheVariants as fault;
 ghost use Rattle.lookups.specs.Lookups as spec;
 ghost use Rattle.lookups.specs.Lookups.{Grows, IsPart, IsSettledOn};
@@ -226,7 +227,7 @@ impl Metadata {
             return Ok(false);
         }
         let key = String::from_str(alloc, name)?;
-        let bytes = folder.read_start(alloc, name, MOST_LOOKED_AT)?;
+        let bytes = read_start(alloc, folder, name)?;
         put(&mut self.repo.metadata, key, bytes)?;
         Ok(true)
     }
@@ -263,6 +264,19 @@ impl Metadata {
         }
         size
     }
+}
+
+/// Reads the file of that name, as far as the workflow looks at it, into no more room than it needs.
+#[tactic(auto, using(folder::proofs::Sameness::sameness))]
+fn read_start<F: Folder>(alloc: Global, folder: &mut F, name: &str) -> Result<Vec<u8>, LoadFault>
+    ensures given { IfOk result (λ bytes. IsStartOf
+        ((F.gives folder.old).holds name.now) most_looked_at bytes.items) }
+    ensures failed { IfErr result (λ e. e ≡ fault.Folder
+        → HasFailed (F.gives folder.old) (F.gives folder.new)) }
+    ensures same { IsSameFolder (F.gives folder.old) (F.gives folder.new) }
+{
+    let bytes = folder.read_start(alloc, name, MOST_LOOKED_AT)?;
+    Ok(Vec::from_slice(alloc, bytes.as_slice())?)
 }
 
 /// Returns whether the name ends in `.json`.
