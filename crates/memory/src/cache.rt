@@ -13,6 +13,9 @@ use std::alloc::Global;
 use std::collections::BTreeMap;
 use std::num::NonZeroUsize;
 
+/// Number of signed bytes for each file of a cache's capacity. All its files together have no more.
+const BYTES_EACH: usize = 16_384;
+
 /// A verdict on a signature: a key's public value, the signature's text, and whether it is valid.
 struct Verdict {
     public: Public,
@@ -112,17 +115,27 @@ fn verdict_on(alloc: Global, question: &SignatureAsk, valid: bool) -> Result<Ver
 pub struct Cache {
     alloc: Global,
     files: LruCache<[u8; 32], Remembered>,
+    /// Maximum number of signed bytes of all files together.
+    most: usize,
+    /// How many more of them there is room for.
+    left: usize,
 }
 
 impl Drop for Cache {
     fn drop(self) {
-        let Cache { alloc, files } = self;
+        let Cache {
+            alloc,
+            files,
+            most,
+            left,
+        } = self;
     }
 }
 
 impl Cache {
-    /// Returns an empty cache for `capacity` files, 1 to 4,096. The least recently used file is
-    /// dropped for one more. Fails only if out of memory.
+    /// Returns an empty cache for `capacity` files, 1 to 4,096, which together have at most 16,384
+    /// signed bytes for each. The least recently used files are dropped for one more; a file that
+    /// has more bytes than that alone isn't cached. Fails only if out of memory.
     pub fn new(alloc: Global, capacity: usize) -> Result<Cache, NoMemory>
         requires least { 1 ≤ capacity }
         requires most { capacity ≤ 4096 }
@@ -131,10 +144,20 @@ impl Cache {
             Some(capacity) => capacity,
             None => unreachable!(),
         };
+        let most = BYTES_EACH.saturating_mul(capacity.get());
         Ok(Cache {
             alloc,
             files: LruCache::sparse(alloc, capacity)?,
+            most,
+            left: most,
         })
+    }
+
+    /// Returns whether the check's file may be cached. A text of another length than the key's
+    /// signatures is refused without a hash, so it isn't looked up either.
+    pub(crate) fn takes(&self, question: &SignatureAsk) -> bool {
+        question.sig.len() / 2 == question.public.signature_len()
+            && question.message.len() <= self.most
     }
 
     /// Returns the digest by which the check's file is found. Doesn't compute it again if the file
@@ -174,8 +197,22 @@ impl Cache {
         }
         let mut file = Remembered::new(self.alloc, question.file, question.message)?;
         file.learn(question.place, verdict)?;
+        self.make_room(question.message.len());
         self.files.put(digest, file)?;
+        self.left = self.left.saturating_sub(question.message.len());
         Ok(())
+    }
+
+    /// Drops the files that were used least recently, until there is room for one more of this size.
+    fn make_room(&mut self, size: usize) {
+        for _ in 0..self.files.len() {
+            if size <= self.left && self.files.len() < self.files.cap().get() {
+                return;
+            }
+            if let Some((_, file)) = self.files.pop_lru() {
+                self.left = self.left.saturating_add(file.message.len());
+            }
+        }
     }
 }
 

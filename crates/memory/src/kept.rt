@@ -6,7 +6,8 @@ use keys::{Ask, Judge};
 
 /// A judge that takes verdicts on signatures from a cache, if message, public value and signature's
 /// text equal the cached ones. Passes all other checks to the inner judge, and caches its verdicts
-/// on signatures. Digests, and texts of another length than the key's signatures, are never cached.
+/// on signatures. Digests, texts of another length than the key's signatures, and files with more
+/// bytes than the cache has room for are never cached.
 ///
 /// If there is no memory to cache a verdict, continues without caching it: fails only if the inner
 /// judge does.
@@ -38,9 +39,7 @@ impl<J: Judge> Judge for Kept<'_, J> {
         let Ask::Signature(question) = ask else {
             return self.inner.valid(ask);
         };
-        // A text of another length than the key's signatures is refused without a hash, so it isn't
-        // looked up either.
-        if question.sig.len() / 2 != question.public.signature_len() {
+        if !self.cache.takes(question) {
             return self.inner.valid(ask);
         }
         let digest = self.cache.digest_of(question);
