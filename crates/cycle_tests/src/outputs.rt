@@ -1,7 +1,8 @@
 //! Texts that are written, and failures that are printed.
 
 use failure::{Failure, tell_failure};
-use report::{put, root_line};
+use inout::put;
+use report::root_line;
 use std::io::{self, ErrorKind, Write};
 
 /// A writer whose writes all fail.

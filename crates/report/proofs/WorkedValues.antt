@@ -6,17 +6,7 @@ use Rattle.meta.specs.declared.fault.Fault.TheVariants as fault
 use Rattle.rolechain.specs.declared.end.Step.TheVariants as step
 use Rattle.rolechain.specs.declared.end.End.TheVariants.{Ready, Stopped}
 use Rattle.cycle.specs.declared.verdict.Verdict.TheVariants.{Good, NotFound, RoleRefused, NotSearched}
-use Rattle.report.specs.Lines.{root_text, end_text, role_text, stored_text, verdict_text, verdict_texts, quoted_text}
-
--- `a`, a quote, `b`, a backslash, `é` in UTF-8 and a line feed
-quoted-escapes : quoted_text (97 ∷ 34 ∷ 98 ∷ 92 ∷ 195 ∷ 169 ∷ 10 ∷ []) ≡ codes "\"a\\x22b\\x5c\\xc3\\xa9\\x0a\""
-unfolding hex_on_literals
-quoted-escapes = refl
-
--- the first and the last byte that are printed unescaped, and their neighbors
-quoted-ends : quoted_text (31 ∷ 32 ∷ 126 ∷ 127 ∷ []) ≡ codes "\"\\x1f ~\\x7f\""
-unfolding hex_on_literals
-quoted-ends = refl
+use Rattle.report.specs.Lines.{root_text, end_text, role_text, stored_text, verdict_text, verdict_texts}
 
 root-line : root_text 1 ≡ codes "root 1" ++ 10 ∷ []
 unfolding digits

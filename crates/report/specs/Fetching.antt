@@ -4,7 +4,7 @@ use Rattle.failure.specs.Failures.{line}
 use Rattle.needs.specs.declared.need.Need.{Need}
 use Rattle.needs.specs.declared.need.Place.{Place}
 use Rattle.needs.specs.declared.need.Place.TheVariants.{Metadata, Targets}
-use Rattle.report.specs.Lines.{quoted_text}
+use Rattle.inout.specs.Quoted.{quoted_text}
 
 -- whether the file may be absent for good
 abbrev pub need_word : Bool → List ℕ

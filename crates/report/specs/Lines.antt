@@ -1,8 +1,7 @@
 -- The lines that a run prints, and its exit status.
 use Rattle.std.specs.List.{enumerate_from, list_all, slice_get}
 use Rattle.std.specs.Option.{option_map_or}
-use Rattle.std.specs.Prelude.{ℕ, ◌≤◌, Bool, not, ◌&&◌, ◌==◌, nat_le, List, [], ◌∷◌, ◌++◌, if◌then◌else◌, flat_map, zip, codes, decimal, ◌-◌, true, false, length}
-use Rattle.hex.specs.Hex.{encode_lower}
+use Rattle.std.specs.Prelude.{ℕ, ◌≤◌, Bool, ◌&&◌, List, [], ◌∷◌, ◌++◌, if◌then◌else◌, flat_map, zip, codes, decimal, ◌-◌, true, false, length}
 use Rattle.meta.specs.declared.fault.Fault.TheVariants.{NotListed, TooLong, LengthWrong, HashWrong, NoKnownHash, Malformed, Unsigned, VersionWrong, Rollback, Expired, Missing}
 pub use Rattle.rolechain.specs.declared.end.Step.TheVariants.{Root, Timestamp, Snapshot, Targets}
 use Rattle.rolechain.specs.declared.end.Step.{Step}
@@ -10,20 +9,7 @@ use Rattle.cycle.specs.Workflow.{Fault, End, Ready, Stopped, Accepted, Outcome}
 use Rattle.cycle.specs.declared.verdict.Verdict.TheVariants.{Good, NotFound, LimitReached, RoleRefused, FileRefused, NotSearched}
 use Rattle.cycle.specs.declared.verdict.Verdict.{Verdict}
 use Rattle.failure.specs.Failures.{line}
-
--- # The printed form of a name, on one line and between quotes.
-
--- whether the byte is printed unescaped: 0x20 to 0x7e, but neither `"` nor `\`
-abbrev pub is_plain : ℕ → Bool
-is_plain byte = nat_le 32 byte && nat_le byte 126 && not (byte == 34) && not (byte == 92)
-
--- a plain byte, or else `\x` and two lower-case hexadecimal digits
-abbrev pub quoted_byte : ℕ → List ℕ
-quoted_byte byte = if is_plain byte then byte ∷ [] else 92 ∷ 120 ∷ encode_lower (byte ∷ [])
-
--- each byte of the name, between double quotes
-abbrev pub quoted_text : List ℕ → List ℕ
-quoted_text name = 34 ∷ [] ++ flat_map quoted_byte name ++ 34 ∷ []
+pub use Rattle.inout.specs.Quoted.{quoted_text}
 
 -- # The lines.
 

@@ -6,9 +6,10 @@ ghost use Rattle.std.specs.Io.KnownBytes.{Appends};
 ghost use Rattle.report.specs.Lines as spec;
 ghost use Rattle.report.specs.Lines.{IsStatus};
 
-use crate::lines::{outcome_status, push_outcome, put};
+use crate::lines::{outcome_status, push_outcome};
 use cycle::Outcome;
 use failure::Failure;
+use inout::put;
 use std::alloc::{AllocError, Global};
 use std::io::Write;
 

@@ -5,9 +5,8 @@ ghost use Rattle.std.specs.Io.KnownBytes.{Appends};
 ghost use Rattle.failure.specs.Failures.{IsLate};
 ghost use Rattle.report.specs.Fetching as spec;
 
-use crate::lines::put;
-use crate::quote::quote_name;
 use failure::Failure;
+use inout::{put, quote_name};
 use needs::{Need, Place};
 use std::alloc::{AllocError, Global};
 use std::io::Write;

@@ -5,19 +5,17 @@
 //! - [`show`] prints what a trusted state has, and when it expires; [`moment_text`] returns the
 //!   text of a moment.
 //! - [`tell_needs`] prints the names of the files to fetch.
-//! - [`root_line`], [`push_end`] and [`push_verdict`] make single lines, and [`put`] and
-//!   [`put_bytes`] write.
+//! - [`root_line`], [`push_end`] and [`push_verdict`] make single lines.
 #![tactic(auto)]
 
 mod cycles;
 mod fetching;
 mod lines;
 mod moments;
-mod quote;
 mod shown;
 
 pub use cycles::tell_cycles;
 pub use fetching::tell_needs;
-pub use lines::{push_end, push_verdict, put, put_bytes, root_line, tell, tell_stored};
+pub use lines::{push_end, push_verdict, root_line, tell, tell_stored};
 pub use moments::moment_text;
 pub use shown::show;

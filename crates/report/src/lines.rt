@@ -9,9 +9,9 @@ ghost use Rattle.report.specs.Lines as spec;
 ghost use Rattle.std.specs.List.{list_all};
 ghost use Rattle.report.specs.Lines.{IsStatus};
 
-use crate::quote::quote_name;
 use cycle::{Accepted, End, Fault, Outcome, Step, Verdict};
-use failure::{Failure, of_io};
+use failure::Failure;
+use inout::{put, quote_name};
 use std::alloc::{AllocError, Global};
 use std::io::Write;
 
@@ -313,25 +313,5 @@ fn fault_name(fault: Fault) -> &'static str
         Fault::VersionWrong => "VersionWrong",
         Fault::Rollback => "Rollback",
         Fault::Expired => "Expired",
-    }
-}
-
-/// Writes the whole text. If the contract tracks the content of `out`, this text and nothing else
-/// was written. Fails with `Memory` or `Output`.
-pub fn put<W: Write>(out: &mut W, text: &str) -> Result<(), Failure>
-    ensures written { OnOk result (Appends (W.contents out.old) (W.contents out.new) text.now) }
-    ensures refused { IfErr result IsLate }
-{
-    put_bytes(out, text.as_bytes())
-}
-
-/// Writes all bytes, as [`put`] writes a text.
-pub fn put_bytes<W: Write>(out: &mut W, bytes: &[u8]) -> Result<(), Failure>
-    ensures written { OnOk result (Appends (W.contents out.old) (W.contents out.new) bytes.now) }
-    ensures refused { IfErr result IsLate }
-{
-    match out.write_all(bytes) {
-        Ok(()) => out.flush().map_err(|e| of_io(&e, Failure::Output)),
-        Err(e) => Err(of_io(&e, Failure::Output)),
     }
 }

@@ -7,10 +7,11 @@ ghost use Rattle.std.specs.List.{list_any};
 ghost use Rattle.failure.specs.Failures.{IsLate};
 ghost use Rattle.report.specs.Shown as spec;
 
-use crate::lines::{put, step_name};
+use crate::lines::step_name;
 use crate::moments::moment_text;
 use cycle::{Step, Trusted};
 use failure::Failure;
+use inout::put;
 use meta::Header;
 use moment::Moment;
 use std::alloc::{AllocError, Global};

@@ -1,7 +1,8 @@
 -- What a run reads, stores and prints.
-use Rattle.std.specs.Prelude.{ℕ, List, Bool, Option, ◌≡◌, ◌≢◌}
+use Rattle.std.specs.Prelude.{ℕ, List, Bool, Option, ◌≡◌}
 use Rattle.folder.specs.Folders.{Giving}
 use Rattle.system.specs.Blocked.{Obstacles}
+pub use Rattle.inout.specs.Stored.{OthersKept}
 
 -- the two folders of a repository
 pub record Mirror : Type 0 where
@@ -26,8 +27,3 @@ pub record World : Type 0 where
 -- nothing was stored or printed
 abbrev pub IsUntouched : World → World → Type 0
 IsUntouched old new = (new.keeps ≡ old.keeps) × (new.printed ≡ old.printed)
-
--- what is stored at each other place is as it was
-abbrev pub OthersKept : List ℕ → (List ℕ → List ℕ → Bool) → (List ℕ → List ℕ → Bool) → Type 0
-OthersKept place old new =
-    (other held : List ℕ) → other ≢ place → new other held ≡ old other held

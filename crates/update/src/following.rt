@@ -21,7 +21,7 @@ use std::sync::Wait;
 use std::thread::Threads;
 
 /// Number of files of which the verdicts on signatures are cached from one course to the next.
-pub(crate) const CACHED: usize = 4096;
+pub(crate) const CACHED: usize = 64;
 
 /// A course, and the names of the target files; with the paths of these names, if every file is
 /// wanted.

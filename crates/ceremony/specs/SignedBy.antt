@@ -1,0 +1,60 @@
+-- Who signed a metadata file, as a ceremony prints it.
+use Rattle.std.specs.Prelude.{◌≡◌, ℕ, List, Bool, true, Option, Some, None, Result, Ok, Err, if◌then◌else◌}
+use Rattle.cjson.specs.Document.{Document, document as document_of_file}
+use Rattle.cjson.specs.Form.{◌>>=◌, ok}
+use Rattle.signing.specs.declared.signing.Signing.{Signing}
+use Rattle.ceremony.specs.Required.{IsSigning, Required, required}
+use Rattle.ceremony.specs.declared.lines.Refusal.{Refusal}
+use Rattle.ceremony.specs.declared.lines.Refusal.TheVariants as refusal
+use Rattle.ceremony.specs.declared.required.Role.{Role}
+
+-- the exit status
+abbrev pub met_status : Bool → ℕ
+met_status is_met = if is_met then 0 else 1
+
+-- the keys that must sign in the role, of the file that lists them, if it is one
+abbrev pub required_in : Role → List ℕ → Option Required
+required_in role listing = do
+  by ← ok (document_of_file listing)
+  required role by.signed
+
+-- both files may be read as such
+pub record AreRead (file listing : List ℕ) (role : Role) (s : Signing) : Type 0 where
+  pub document : Document
+  pub required : Required
+  pub read : document_of_file file ≡ Ok document
+  pub listed : required_in role listing ≡ Some required
+  pub signing : IsSigning document required s
+
+-- why it can't be said: the file is malformed, or the second one, or it has no such role
+abbrev pub AreRefused : List ℕ → List ℕ → Role → Refusal → Type 0
+AreRefused file listing role (refusal.File f) = document_of_file file ≡ Err f
+AreRefused file listing role refusal.Role = required_in role listing ≡ None
+AreRefused file listing role _ = ⊥
+
+-- what the two files come to
+abbrev pub IsAnswer : List ℕ → List ℕ → Role → Result Signing Refusal → Type 0
+IsAnswer file listing role (Ok s) = AreRead file listing role s
+IsAnswer file listing role (Err r) = AreRefused file listing role r
+
+-- Of two files that may be read, it is said who signed, and more holds of that.
+pub record IsTold (gives by : List ℕ → Bool) (role : Role) (follows : Signing → Type 0)
+    : Type 0 where
+  pub file : List ℕ
+  pub listing : List ℕ
+  pub signing : Signing
+  pub read : gives file ≡ true
+  pub read_listing : by listing ≡ true
+  pub said : AreRead file listing role signing
+  pub more : follows signing
+
+-- Of two files that may be read, it can't be said, for a reason of which more holds.
+pub record IsUntold (gives by : List ℕ → Bool) (role : Role) (follows : Refusal → Type 0)
+    : Type 0 where
+  pub file : List ℕ
+  pub listing : List ℕ
+  pub refusal : Refusal
+  pub read : gives file ≡ true
+  pub read_listing : by listing ≡ true
+  pub refused : AreRefused file listing role refusal
+  pub more : follows refusal

@@ -1,5 +1,0 @@
-use Rattle.std.proofs.Common.{rules}
-use Rattle.report.proofs.quote.push_byte.Goals as goal
-
-pub returns-in_default : goal.returns-in_default
-returns-in_default = search rules
