@@ -9,7 +9,7 @@ _tufcheck() {
     --only) mapfile -t COMPREPLY < <(compgen -W "metadata targets" -- "$word"); return ;;
     esac
     if ((COMP_CWORD == 1)); then
-        mapfile -t COMPREPLY < <(compgen -W "init verify replay next show make help --help -h --version -V" -- "$word")
+        mapfile -t COMPREPLY < <(compgen -W "init verify replay next show key text attach signers make help --help -h --version -V" -- "$word")
         return
     fi
     case ${COMP_WORDS[1]} in
@@ -19,7 +19,10 @@ _tufcheck() {
     next) mapfile -t COMPREPLY < <(compgen -W "--state --metadata --targets --now --limit --paths-from --null --only --progress --help -h" -- "$word") ;;
     show) mapfile -t COMPREPLY < <(compgen -W "--before --file --help -h" -f -- "$word") ;;
     make) mapfile -t COMPREPLY < <(compgen -W "--help -h" -f -- "$word") ;;
-    help) mapfile -t COMPREPLY < <(compgen -W "init verify replay next show make" -- "$word") ;;
+    key | attach) mapfile -t COMPREPLY < <(compgen -W "--out --help -h" -f -- "$word") ;;
+    text) mapfile -t COMPREPLY < <(compgen -W "--help -h" -f -- "$word") ;;
+    signers) mapfile -t COMPREPLY < <(compgen -W "--root --from --role --help -h" -f -- "$word") ;;
+    help) mapfile -t COMPREPLY < <(compgen -W "init verify replay next show key text attach signers make" -- "$word") ;;
     esac
 }
 complete -o filenames -F _tufcheck tufcheck

@@ -1,5 +1,5 @@
 # Completions of tufcheck for fish: put this file into ~/.config/fish/completions.
-set -l commands init verify replay next show make help
+set -l commands init verify replay next show key text attach signers make help
 complete -c tufcheck -f
 complete -c tufcheck -s h -l help -d 'Print help'
 complete -c tufcheck -n "not __fish_seen_subcommand_from $commands" -a init -d 'Trust a root file'
@@ -8,10 +8,14 @@ complete -c tufcheck -n "not __fish_seen_subcommand_from $commands" -a replay -d
 complete -c tufcheck -n "not __fish_seen_subcommand_from $commands" -s V -l version -d 'Print the version'
 complete -c tufcheck -n "not __fish_seen_subcommand_from $commands" -a next -d 'Print what has to be fetched next'
 complete -c tufcheck -n "not __fish_seen_subcommand_from $commands" -a show -d 'Print what is trusted'
+complete -c tufcheck -n "not __fish_seen_subcommand_from $commands" -a key -d 'Make the key object of a public key'
+complete -c tufcheck -n "not __fish_seen_subcommand_from $commands" -a text -d 'Print the text that signatures cover'
+complete -c tufcheck -n "not __fish_seen_subcommand_from $commands" -a attach -d 'Attach a signature to a metadata file'
+complete -c tufcheck -n "not __fish_seen_subcommand_from $commands" -a signers -d 'Print who signed a metadata file'
 complete -c tufcheck -n "not __fish_seen_subcommand_from $commands" -a make -d 'Make a repository from a script'
 complete -c tufcheck -n "not __fish_seen_subcommand_from $commands" -a help -d 'Print help'
-complete -c tufcheck -n '__fish_seen_subcommand_from help' -a 'init verify replay next show make'
-complete -c tufcheck -n '__fish_seen_subcommand_from init make replay show' -F
+complete -c tufcheck -n '__fish_seen_subcommand_from help' -a 'init verify replay next show key text attach signers make'
+complete -c tufcheck -n '__fish_seen_subcommand_from init make replay show key text attach signers' -F
 complete -c tufcheck -n '__fish_seen_subcommand_from init verify replay' -l out -r -F -d 'Where the state is written'
 complete -c tufcheck -n '__fish_seen_subcommand_from verify replay next' -l state -r -F -d 'The trusted state'
 complete -c tufcheck -n '__fish_seen_subcommand_from verify replay' -l unlocked -d 'Read the trusted state without a lock'
@@ -29,3 +33,7 @@ complete -c tufcheck -n '__fish_seen_subcommand_from verify replay next' -l prog
 complete -c tufcheck -n '__fish_seen_subcommand_from next' -l only -x -a 'metadata targets' -d 'The only folder whose files are printed'
 complete -c tufcheck -n '__fish_seen_subcommand_from show' -l before -x -d 'The moment before which no file should expire'
 complete -c tufcheck -n '__fish_seen_subcommand_from show' -l file -x -a 'root timestamp snapshot targets' -d 'The trusted file whose bytes are printed'
+complete -c tufcheck -n '__fish_seen_subcommand_from key attach' -l out -r -F -d 'Where the file is written'
+complete -c tufcheck -n '__fish_seen_subcommand_from signers' -l root -r -F -d 'The root file that lists the keys'
+complete -c tufcheck -n '__fish_seen_subcommand_from signers' -l from -r -F -d 'The targets file that delegates to the role'
+complete -c tufcheck -n '__fish_seen_subcommand_from signers' -l role -x -a 'root timestamp snapshot targets' -d 'The role'

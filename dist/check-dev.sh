@@ -106,8 +106,8 @@ tried() {
     fi
     updates env -i PYTHONDONTWRITEBYTECODE=1 PYTHONPATH="$python" LD_LIBRARY_PATH="$lib" "$(command -v python3)" "$8"
     report $? "$taken: an updater in Python"
-    ls "$python/tufcheck" > "$work/seen" 2>&1 && [ -f "$python/tufcheck/py.typed" ]
-    report $? "$taken: the Python module has types"
+    ls "$python/tufcheck" > "$work/seen" 2>&1 && [ -f "$python/tufcheck/py.typed" ] && [ -f "$python/tufcheck/securesystemslib.py" ]
+    report $? "$taken: the Python module has types, and keys for securesystemslib"
     if has rustc "$taken: an updater in Rust"; then
         in_rust "$lib" "$sources/rust" > "$work/seen" 2>&1 && updates "$work/rust"
         report $? "$taken: an updater in Rust"

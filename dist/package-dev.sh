@@ -96,13 +96,13 @@ sources() {
 
 # python FOLDER: the Python module
 python() {
-    install -D -m 644 -t "$1/tufcheck" "$top"/bindings/python/tufcheck/{__init__.py,py.typed}
+    install -D -m 644 -t "$1/tufcheck" "$top"/bindings/python/tufcheck/{__init__.py,py.typed,securesystemslib.py}
 }
 
 # page FOLDER LANGUAGES: the page on the library, whose links to the example updaters of these languages (c|python) stay
 page() {
     install -D -m 644 -t "$1" "$top/docs/EMBEDDING.md" &&
-        sed -i -E 's,\]\(\.\./bindings/('"$2"')/(example_updater\.[a-z]+)\),](examples/\2),g; s,\[([^]]*)\]\((\.\./[^)]*|PROOFS[^)]*)\),\1,g' "$1/EMBEDDING.md"
+        sed -i -E 's,\]\(\.\./bindings/('"$2"')/(example_updater\.[a-z]+)\),](examples/\2),g; s,\[([^]]*)\]\((\.\./[^)]*|(PROOFS|SIGNING)[^)]*)\),\1,g' "$1/EMBEDDING.md"
 }
 
 # dated ROOT: sets the time of all files below ROOT
@@ -185,14 +185,15 @@ END
     python "$root/usr/lib/python3/dist-packages" &&
         install -D -m 644 -t "$root/$doc/examples" "$top/bindings/python/example_updater.py" &&
         install -D -m 755 -t "$root/DEBIAN" "$top"/dist/library/python3-tufcheck/{postinst,prerm} &&
-        packed python3-tufcheck all "Depends: libtufcheck1 (>= $version), python3:any (>= 3.8)" "Section: python" << 'END' ||
+        packed python3-tufcheck all "Depends: libtufcheck1 (>= $version), python3:any (>= 3.8)" \
+            "Suggests: python3-securesystemslib (>= 0.26), python3-tuf" "Section: python" << 'END' ||
 Description: verify a repository of The Update Framework, from Python
  libtufcheck verifies a repository of The Update Framework (TUF 1.0) with LMS
  signatures (RFC 8554) from files that its caller has in memory. It opens no
  file itself.
  .
- This package has the Python module tufcheck, with types, and an example
- updater.
+ This package has the Python module tufcheck, with types and with LMS keys
+ for securesystemslib, and an example updater.
 END
         refused "a file of python3-tufcheck is missing"
     (cd "$out" && sha256sum "$name.tar.gz" libtufcheck1_* libtufcheck-dev_* python3-tufcheck_*) > "$out/SHA256SUMS-dev" || exit 1

@@ -67,7 +67,7 @@ laid() {
         install -m 755 -t "$doc/examples" "$top"/examples/fetch-*.sh &&
         install -m 644 -t "$doc/examples" "$top/examples/fetching.sh" &&
         sed -i 's,](\.\./examples,](examples,g; s,\[man page\](tufcheck\.1),man page,g; s,\[\(tufcheck-run(8)\)\](tufcheck-run\.8),\1,g' "$doc"/{SCRIPTS,USERS,OPERATING}.md &&
-        sed -i -E 's,\[([A-Z]+)\]\((\.\./)?(ATTACKS|DECISIONS|PROOFS|SECURITY)\.md\),\1,g' "$doc"/{BENCHMARKS,FORMATS}.md &&
+        sed -i -E 's,\[([A-Za-z]+)\]\((\.\./)?(ATTACKS|DECISIONS|EMBEDDING|PROOFS|SECURITY)\.md(#[a-z-]+)?\),\1,g' "$doc"/{BENCHMARKS,FORMATS,SIGNING}.md &&
         install -m 644 "$top/dist/notices" "$doc/copyright" &&
         mkdir -p "$1/share/man/man1" || return 1
     for page in "$work"/pages/*; do

@@ -16,22 +16,22 @@ TOP = pathlib.Path(__file__).resolve().parents[1]
 SOURCE = TOP / "docs/tufcheck.1"
 # Sections, and items and paragraphs by their first words, with the subcommands whose pages lack them
 LACKS = {
-    ("NAMES", ""): "init show make",
-    ("FAULTS", ""): "init next show make",
+    ("NAMES", ""): "init show make key text attach signers",
+    ("FAULTS", ""): "init next show make key text attach signers",
     ("FAULTS", "NoPlace"): "replay",
-    ("DIAGNOSTICS", "now "): "init make",
-    ("DIAGNOSTICS", "state file "): "init make",
-    ("DIAGNOSTICS", "script LINE "): "init verify replay next show",
+    ("DIAGNOSTICS", "now "): "init make key text attach signers",
+    ("DIAGNOSTICS", "state file "): "init make key text attach signers",
+    ("DIAGNOSTICS", "script LINE "): "init verify replay next show key text attach signers",
     ("DIAGNOSTICS", "input "): "show",
-    ("DIAGNOSTICS", "folder "): "init show make",
-    ("DIAGNOSTICS", "clock "): "init show make",
-    ("FILES", "STATE\n"): "make",
-    ("FILES", "STATE.1.new"): "next show make",
-    ("FILES", "DIR/.tufcheck.1.new"): "init replay next show make",
-    ("FILES", "What a killed run"): "next show make",
-    ("FILES", "DIR/*.json"): "init show make",
-    ("FILES", "DIR\n"): "init show make",
-    ("FILES", "Links"): "init show make",
+    ("DIAGNOSTICS", "folder "): "init show make key text attach signers",
+    ("DIAGNOSTICS", "clock "): "init show make key text attach signers",
+    ("FILES", "STATE\n"): "make key text attach signers",
+    ("FILES", "STATE.1.new"): "next show make key text attach signers",
+    ("FILES", "DIR/.tufcheck.1.new"): "init replay next show make key text attach signers",
+    ("FILES", "What a killed run"): "next show make key text attach signers",
+    ("FILES", "DIR/*.json"): "init show make key text attach signers",
+    ("FILES", "DIR\n"): "init show make key text attach signers",
+    ("FILES", "Links"): "init show make key text attach signers",
 }
 
 

@@ -3,13 +3,13 @@
 
   checks/second/signing.py
 
-It takes the key object, the signed file, their canonical texts, the table of kinds and the Python program from the page.
-By tuf.py and reading.py of `checks` it checks that
+It takes the key object, the signed file, their canonical texts and the table of kinds from the page. By tuf.py and
+reading.py of `checks` it checks that
 
 - the canonical texts are those of the key object and of `signed`, and the key's id is the SHA-256 of the first;
 - the public value and the signature have the lengths, the type codes and the leaf that the page says;
 - the signature is valid, isn't with one bit turned, and is what tuf.py makes of the text by the same leaf;
-- the Python program makes the signed file, and a repository that reading.py accepts.
+- signing/example.py makes the signed file, and a repository that reading.py accepts.
 
 Then it verifies the signature, and turned ones, with Bouncy Castle, where a JDK and bcprov.jar (Debian's libbcprov-java;
 BCPROV may name another file) are here. Last it verifies the repository with the program that `rt run` in crates/tufcheck
@@ -115,11 +115,10 @@ def files_below(folder):
     return found
 
 
-def check_program(code, file, room):
-    """Runs the Python program of the page, and verifies what it makes."""
-    place = {**os.environ, "PYTHONPATH": f"{TOP}/checks"}
-    ran = subprocess.run([sys.executable, "-c", code, f"{room}/repo"], env=place, check=False)
-    check("the Python program ends with status 0", ran.returncode == 0)
+def check_program(file, room):
+    """Runs the program that the page names, and verifies what it makes."""
+    ran = subprocess.run([sys.executable, f"{TOP}/checks/second/signing/example.py", f"{room}/repo"], check=False)
+    check("the program ends with status 0", ran.returncode == 0)
     metadata, targets = files_below(f"{room}/repo/metadata"), files_below(f"{room}/repo/targets")
     made = metadata.get("timestamp.json", b"null")
     check("it makes the signed file", json.loads(made) == file)
@@ -138,12 +137,11 @@ def check_program(code, file, room):
 def main():
     text = page()
     key, file = (json.loads(it) for it in blocks(text, "json"))
-    code, = blocks(text, "python")
     check("the table of kinds", kinds(text) == expected_kinds())
     public, message, sig = check_texts(text, key, file)
     check_by_java(public, message, sig)
     with tempfile.TemporaryDirectory() as room:
-        check_program(code, file, room)
+        check_program(file, room)
     return 1 if "failed" in DONE else 0
 
 

@@ -15,9 +15,10 @@ use Rattle.update.specs.Shown.{IsCauseToShow, IsCauseToShowFile, IsFileShown, Is
 use Rattle.update.specs.World.{Mirror, World}
 use Rattle.replay.specs.declared.replaying.Cycles.{Cycles}
 use Rattle.update.specs.declared.start.Terms.{Terms}
+use Rattle.command.specs.Steps.{IsAttaching, IsMaking, IsNaming, IsPrinting}
 use Rattle.command.specs.declared.subcommand.FolderPaths.{FolderPaths}
 use Rattle.command.specs.declared.subcommand.Subcommand.{Subcommand}
-use Rattle.command.specs.declared.subcommand.Subcommand.TheVariants.{Init, Verify, VerifyInto, Replay, Next, Show, ShowFile, Make}
+use Rattle.command.specs.declared.subcommand.Subcommand.TheVariants.{Init, Verify, VerifyInto, Replay, Next, Show, ShowFile, Key, Text, Attach, Signers, Make}
 
 -- # What a run works on.
 
@@ -117,6 +118,10 @@ IsDone (Show state before) old new status = IsShown state.now (option_map (λ t.
     (system_with [] old) (system_with [] new) status
 IsDone (ShowFile state file) old new status =
     IsFileShown state.now file (system_with [] old) (system_with [] new) status
+IsDone (Key from to) old new status = IsMaking from.now to.now old new status
+IsDone (Text file) old new status = IsPrinting old new status
+IsDone (Attach paths) old new status = IsAttaching paths old new status
+IsDone (Signers file by) old new status = IsNaming by old new status
 IsDone (Make script folder) old new status = (status ≡ 0) × (new ≡ old)
 
 -- # Why it fails.
@@ -132,7 +137,7 @@ abbrev pub IsCauseOf : (World → World → Type 0) → Option (List ℕ) → Op
 IsCauseOf cause old new =
     OfHeld (λ h k. OfBoth (λ ms ns. cause (system_of h ms old) (system_of k ns new)))
 
--- the cause by the run's own definition; of `make` none is known
+-- the cause by the run's own definition; of the steps of a ceremony and of `make` none is known
 abbrev pub IsCause : Subcommand → Option (List ℕ) → Option (List ℕ) → Failure → Type 0
 IsCause (Init root state) old new f =
     IsCauseOf (λ w v. IsCauseOfFirst root.now state.now w v f) old new
@@ -145,4 +150,8 @@ IsCause (Next wants folders) old new f = IsCauseOf (λ w v. IsCauseOfNext wants 
 IsCause (Show state before) old new f =
     IsCauseToShow state.now (option_map (λ t. t.now) before) (system_with [] old) f
 IsCause (ShowFile state file) old new f = IsCauseToShowFile state.now (system_with [] old) f
+IsCause (Key from to) old new f = ⊤
+IsCause (Text file) old new f = ⊤
+IsCause (Attach paths) old new f = ⊤
+IsCause (Signers file by) old new f = ⊤
 IsCause (Make script folder) old new f = ⊤

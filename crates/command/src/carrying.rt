@@ -7,6 +7,7 @@ ghost use Rattle.command.specs.Done.{system_of, system_with};
 ghost use Rattle.update.specs.First.{IsCauseOfFirst};
 ghost use Rattle.update.specs.Shown.{IsCauseToShow, IsCauseToShowFile, IsFileShown, IsShown};
 
+use crate::ceremonies::{attach, key, signers, text};
 use crate::folders::{next_in, replay_in, verify_in};
 use crate::into::verify_into_in;
 use crate::making::make;
@@ -23,7 +24,7 @@ use update::Host;
 
 /// Carries out a subcommand on the file system, and returns its status: 0 if all wanted targets
 /// are accepted, 1 if one is refused or a file that is shown expires too soon or isn't there, 2 if
-/// the update stopped or the root is refused. Prints the lines of the outcome to `out`, which is
+/// the update stopped or the root is refused. A step of a ceremony returns 0 if it was done. Prints the lines of the outcome to `out`, which is
 /// returned too. Fails as the run does that the subcommand names.
 pub fn carry_out<T: Threads + Wait + Sync, W: Write>(
     run: &Runtime<'_, T>,
@@ -54,6 +55,10 @@ pub fn carry_out<T: Threads + Wait + Sync, W: Write>(
         Subcommand::Next { wants, folders } => next_in(run, wants, *folders, out),
         Subcommand::Show { state, before } => show(rt, alloc, state, *before, out),
         Subcommand::ShowFile { state, file } => show_file(rt, alloc, state, *file, out),
+        Subcommand::Key { from, to } => key(rt, alloc, from, to, out),
+        Subcommand::Text { file } => text(rt, alloc, file, out),
+        Subcommand::Attach { paths } => attach(rt, alloc, paths, out),
+        Subcommand::Signers { file, by } => signers(rt, alloc, file, by, out),
         Subcommand::Make { script, folder } => (make(rt, alloc, script, folder), out),
     }
 }

@@ -9,8 +9,8 @@ use crate::runtime::Runtime;
 use crate::sampling::sample;
 use clap::error::ErrorKind;
 use failure::{Failure, tell_failure};
+use inout::put;
 use progress::Progress;
-use report::put;
 use std::alloc::Global;
 use std::io::Write;
 use std::sync::Wait;
@@ -18,8 +18,9 @@ use std::thread::Threads;
 
 /// Carries out the command line of these arguments, those after the program's name, or verifies the
 /// sample repository if there are none. Returns the exit status: 0 if all wanted targets are
-/// accepted, 1 if one is refused or a file that is shown expires too soon or isn't there, 2 if the
-/// update stopped or the root is refused, 3 for a usage error and 4 for a system error. Prints
+/// accepted, 1 if one is refused, a file that is shown expires too soon or isn't there, a key or a
+/// signature is refused or too few have signed, 2 if the update stopped or the root or another file
+/// is refused, 3 for a usage error and 4 for a system error. Prints
 /// lines to `out`, and the reason of an error to `err`. Files, clock and standard input are those
 /// of `rt`, and `threads` starts the threads that decide checks in advance.
 pub fn command<T: Threads + Wait + Sync, W: Write, E: Write>(

@@ -4,10 +4,10 @@ use crate::terms::all_of;
 use clap::ArgMatches;
 use failure::{Failure, of_io};
 use folder::start_of_reader;
+use inout::read_file;
 use paths::read_list;
 use std::alloc::Global;
 use system::Machine;
-use update::read_file;
 
 /// Maximum number of bytes of a list of paths, and of a script.
 pub const MOST_GIVEN: u64 = 67_108_864;

@@ -5,11 +5,11 @@ ghost use Rattle.std.specs.Prelude.{◌≡◌, IfOk};
 use crate::listed::MOST_GIVEN;
 use failure::{Failure, of_io};
 use folder::path_below;
+use inout::read_file;
 use std::alloc::Global;
 use std::fs;
 use std::rt::Files;
 use system::Machine;
-use update::read_file;
 
 /// Writes what the script of that path makes below a folder, and returns status 0. If the script is
 /// invalid, nothing is written.

@@ -4,6 +4,7 @@ use crate::apart::are_apart;
 use crate::listed::given_paths;
 use crate::subcommand::{FolderPaths, Subcommand};
 use crate::terms::{all_of, number, settings, wants, word};
+use ceremony::{AttachPaths, By, Role};
 use clap::ArgMatches;
 use cycle::Step;
 use failure::Failure;
@@ -21,6 +22,10 @@ pub fn read_subcommand<'a>(
     let (name, words) = matches.subcommand().ok_or(Failure::Words)?;
     match name {
         "init" => init_of(words),
+        "key" => key_of(words),
+        "text" => text_of(words),
+        "attach" => attach_of(words),
+        "signers" => signers_of(words),
         "make" => make_of(words),
         "next" => next_of(rt, alloc, words),
         "replay" => replay_of(rt, alloc, words),
@@ -42,6 +47,54 @@ fn init_of<'a>(words: &ArgMatches<'a>) -> Result<Subcommand<'a>, Failure> {
         root: word(words, "ROOT")?,
         state: word(words, "out")?,
     })
+}
+
+fn key_of<'a>(words: &ArgMatches<'a>) -> Result<Subcommand<'a>, Failure> {
+    Ok(Subcommand::Key {
+        from: word(words, "FILE")?,
+        to: word(words, "out")?,
+    })
+}
+
+fn text_of<'a>(words: &ArgMatches<'a>) -> Result<Subcommand<'a>, Failure> {
+    Ok(Subcommand::Text {
+        file: word(words, "FILE")?,
+    })
+}
+
+fn attach_of<'a>(words: &ArgMatches<'a>) -> Result<Subcommand<'a>, Failure> {
+    Ok(Subcommand::Attach {
+        paths: AttachPaths {
+            file: word(words, "FILE")?,
+            key: word(words, "KEY")?,
+            sig: word(words, "SIG")?,
+            to: word(words, "out")?,
+        },
+    })
+}
+
+fn signers_of<'a>(words: &ArgMatches<'a>) -> Result<Subcommand<'a>, Failure> {
+    Ok(Subcommand::Signers {
+        file: word(words, "FILE")?,
+        by: by_of(words)?,
+    })
+}
+
+/// Returns the file that lists the keys of a role: a root file, or a targets file that delegates
+/// to it. Fails with `Words` unless just one of them is named.
+fn by_of<'a>(words: &ArgMatches<'a>) -> Result<By<'a>, Failure> {
+    let role = word(words, "role")?;
+    match (words.get_str("root"), words.get_str("from")) {
+        (Some(path), None) => Ok(By {
+            path,
+            role: Role::Top(step_of(role)?),
+        }),
+        (None, Some(path)) => Ok(By {
+            path,
+            role: Role::Delegated(role),
+        }),
+        _ => Err(Failure::Words),
+    }
 }
 
 fn make_of<'a>(words: &ArgMatches<'a>) -> Result<Subcommand<'a>, Failure> {

@@ -1,5 +1,6 @@
 //! The subcommands and their arguments.
 
+use ceremony::{AttachPaths, By};
 use cycle::Step;
 use replay::Cycles;
 use update::{Terms, Wants};
@@ -66,6 +67,30 @@ pub enum Subcommand<'a> {
         /// The step whose file it is.
         file: Step,
     },
+    /// Makes the key object of a public key.
+    Key {
+        /// The path of the public key.
+        from: &'a str,
+        /// The path of the key object.
+        to: &'a str,
+    },
+    /// Prints the text of a metadata file that signatures cover.
+    Text {
+        /// The path of the metadata file.
+        file: &'a str,
+    },
+    /// Attaches a signature to a metadata file.
+    Attach {
+        /// The paths of the files.
+        paths: AttachPaths<'a>,
+    },
+    /// Prints who signed a metadata file.
+    Signers {
+        /// The path of the metadata file.
+        file: &'a str,
+        /// The file that lists the keys, and the role.
+        by: By<'a>,
+    },
     /// Makes a repository from a script.
     Make {
         /// The path of the script.
@@ -92,6 +117,10 @@ impl<'a> Drop for Subcommand<'a> {
             Subcommand::Next { wants, folders } => {}
             Subcommand::Show { state, before } => {}
             Subcommand::ShowFile { state, file } => {}
+            Subcommand::Key { from, to } => {}
+            Subcommand::Text { file } => {}
+            Subcommand::Attach { paths } => {}
+            Subcommand::Signers { file, by } => {}
             Subcommand::Make { script, folder } => {}
         }
     }

@@ -1,8 +1,11 @@
 //! The commands.
 
 use crate::arguments::with_arguments;
-use crate::table::{INIT, MAKE, NEXT, REPLAY, SHOW, VERIFY};
-use crate::texts::{HELP_END, INIT_END, MAKE_END, NEXT_END, REPLAY_END, SHOW_END, VERIFY_END};
+use crate::table::{ATTACH, INIT, KEY, MAKE, NEXT, REPLAY, SHOW, SIGNERS, TEXT, VERIFY};
+use crate::texts::{
+    ATTACH_END, HELP_END, INIT_END, KEY_END, MAKE_END, NEXT_END, REPLAY_END, SHOW_END, SIGNERS_END,
+    TEXT_END, VERIFY_END,
+};
 use crate::version::VERSION;
 use clap::{ArgMatches, Command, Error};
 use std::alloc::{AllocError, Global};
@@ -23,6 +26,7 @@ fn tufcheck<'a>(alloc: Global) -> Result<Command<'a>, AllocError> {
     let command = with_command(command, init_command(alloc))?;
     let command = with_runs(alloc, command)?;
     let command = with_command(command, show_command(alloc))?;
+    let command = with_ceremonies(alloc, command)?;
     with_command(command, make_command(alloc))
 }
 
@@ -30,6 +34,13 @@ fn with_runs<'a>(alloc: Global, command: Command<'a>) -> Result<Command<'a>, All
     let command = with_command(command, verify_command(alloc))?;
     let command = with_command(command, replay_command(alloc))?;
     with_command(command, next_command(alloc))
+}
+
+fn with_ceremonies<'a>(alloc: Global, command: Command<'a>) -> Result<Command<'a>, AllocError> {
+    let command = with_command(command, key_command(alloc))?;
+    let command = with_command(command, text_command(alloc))?;
+    let command = with_command(command, attach_command(alloc))?;
+    with_command(command, signers_command(alloc))
 }
 
 fn with_command<'a>(
@@ -72,6 +83,34 @@ fn show_command<'a>(alloc: Global) -> Result<Command<'a>, AllocError> {
         .about("Prints the versions of the trusted files and when they expire")
         .after_help(SHOW_END);
     with_arguments(alloc, command, SHOW)
+}
+
+fn key_command<'a>(alloc: Global) -> Result<Command<'a>, AllocError> {
+    let command = Command::new(alloc, "key")
+        .about("Makes the key object of a public key")
+        .after_help(KEY_END);
+    with_arguments(alloc, command, KEY)
+}
+
+fn text_command<'a>(alloc: Global) -> Result<Command<'a>, AllocError> {
+    let command = Command::new(alloc, "text")
+        .about("Prints the text that signatures of a metadata file cover")
+        .after_help(TEXT_END);
+    with_arguments(alloc, command, TEXT)
+}
+
+fn attach_command<'a>(alloc: Global) -> Result<Command<'a>, AllocError> {
+    let command = Command::new(alloc, "attach")
+        .about("Attaches a signature to a metadata file, if it is valid")
+        .after_help(ATTACH_END);
+    with_arguments(alloc, command, ATTACH)
+}
+
+fn signers_command<'a>(alloc: Global) -> Result<Command<'a>, AllocError> {
+    let command = Command::new(alloc, "signers")
+        .about("Prints who signed a metadata file, and whether they are enough")
+        .after_help(SIGNERS_END);
+    with_arguments(alloc, command, SIGNERS)
 }
 
 fn make_command<'a>(alloc: Global) -> Result<Command<'a>, AllocError> {

@@ -94,6 +94,63 @@ pub const SHOW: &[Argument] = &[
     },
 ];
 
+/// The arguments of `key`.
+pub const KEY: &[Argument] = &[
+    Argument {
+        name: "FILE",
+        form: Form::One,
+        help: "The public key: 56 bytes, or 60 of HSS with one level; raw or hexadecimal",
+    },
+    Argument {
+        name: "out",
+        form: Form::Needed("FILE"),
+        help: "Where the key object is written",
+    },
+];
+
+/// The arguments of `text`.
+pub const TEXT: &[Argument] = &[DRAFT];
+
+/// The arguments of `attach`.
+pub const ATTACH: &[Argument] = &[
+    DRAFT,
+    Argument {
+        name: "KEY",
+        form: Form::One,
+        help: "The key object",
+    },
+    Argument {
+        name: "SIG",
+        form: Form::One,
+        help: "The signature; raw or hexadecimal",
+    },
+    Argument {
+        name: "out",
+        form: Form::Needed("FILE"),
+        help: "Where the new file is written; it may be FILE",
+    },
+];
+
+/// The arguments of `signers`.
+pub const SIGNERS: &[Argument] = &[
+    DRAFT,
+    Argument {
+        name: "root",
+        form: Form::Value("FILE"),
+        help: "The root file that lists the keys",
+    },
+    Argument {
+        name: "from",
+        form: Form::Value("FILE"),
+        help: "The targets file that delegates to the role, in place of --root",
+    },
+    Argument {
+        name: "role",
+        form: Form::Needed("NAME"),
+        help: "The role: root, timestamp, snapshot or targets, or with --from a delegated one",
+    },
+];
+
 /// The arguments of `make`.
 pub const MAKE: &[Argument] = &[
     Argument {
@@ -107,6 +164,12 @@ pub const MAKE: &[Argument] = &[
         help: "The folder below which the files are written",
     },
 ];
+
+const DRAFT: Argument = Argument {
+    name: "FILE",
+    form: Form::One,
+    help: "The metadata file, which may have no signatures yet",
+};
 
 const STATE: Argument = Argument {
     name: "state",

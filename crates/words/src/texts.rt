@@ -7,12 +7,18 @@ EXAMPLES:
   tufcheck verify --state state --metadata repo/metadata --targets repo/targets --out state abc.txt
   tufcheck next --state state --metadata repo/metadata --targets repo/targets abc.txt
   tufcheck show state
+  tufcheck key vendor.pub --out key.json
+  tufcheck text draft.json > to-sign
+  tufcheck attach draft.json key.json sig --out draft.json
+  tufcheck signers draft.json --root 1.root.json --role timestamp
   tufcheck make first.script repo
 
 EXIT STATUS:
   0  all wanted targets were accepted, a state was written or shown, or files, help or the version
-  1  some wanted target was refused, or `show` found a file that expires before --before
-  2  the update stopped, or `init` refused the root file
+  1  some wanted target, a key or a signature was refused, too few have signed, or `show` found a
+     file that expires before --before
+  2  the update stopped, or `init` refused the root file, or a metadata file or key object was
+     refused
   3  the command line, the moment, the state file, the script or a listed path was refused
   4  a file, a folder, the clock, the output or memory failed";
 
@@ -130,6 +136,72 @@ EXIT STATUS:
   1  the state was shown, and some file in it does; or it has no such file
   3  the command line, the moment or the state file was refused
   4  the output or memory failed";
+
+/// The end of the help of `key`.
+pub const KEY_END: &str = "\
+It writes the key object as canonical JSON and prints
+  key ID KIND HEIGHT LEAVES
+or `refused length N`, `refused levels N` or `refused kind`, and then writes nothing.
+
+EXAMPLES:
+  tufcheck key vendor.pub --out key.json
+
+EXIT STATUS:
+  0  the key object was written
+  1  the key was refused
+  3  the command line was refused
+  4  a file, the output or memory failed";
+
+/// The end of the help of `text`.
+pub const TEXT_END: &str = "\
+It prints the canonical text of `signed`, with no line feed behind it. LMS signs this text itself,
+and not a digest of it. A file that is refused has a line `refused WHY` on standard error.
+
+EXAMPLES:
+  tufcheck text draft/timestamp.json > to-sign
+
+EXIT STATUS:
+  0  the text was printed
+  2  the file was refused
+  3  the command line was refused
+  4  the file, the output or memory failed";
+
+/// The end of the help of `attach`.
+pub const ATTACH_END: &str = "\
+It adds the signature under the key's id, if it is valid, and prints
+  entry ID LEAF           or `again ID LEAF`, if a valid entry was there already
+  refused WHY             if it isn't valid, or a file is malformed; then nothing is written
+Entries under the id that aren't valid are removed. A signature of HSS with one level loses its
+first four bytes. WHY is `hexadecimal`, `length N M`, `kind`, `leaf N` or `root` for a signature: a
+digest that was signed in place of the text is `root`.
+
+EXAMPLES:
+  tufcheck attach draft/timestamp.json key.json sig --out draft/timestamp.json
+
+EXIT STATUS:
+  0  the new file was written
+  1  the signature was refused
+  2  the metadata file or the key object was refused
+  3  the command line was refused
+  4  a file, the output or memory failed";
+
+/// The end of the help of `signers`.
+pub const SIGNERS_END: &str = "\
+It prints
+  why keys FILE threshold T signed N
+and for each listed id
+  why key ID signed LEAF  or `again ID2`, `absent`, `unusable WHY`, `unsigned` or `invalid N WHY`
+
+EXAMPLES:
+  tufcheck signers draft/timestamp.json --root 3.root.json --role timestamp
+  tufcheck signers draft/apps.json --from draft/targets.json --role apps
+
+EXIT STATUS:
+  0  enough have signed
+  1  too few have signed
+  2  a file was refused, or it has no such role
+  3  the command line was refused
+  4  a file, the output or memory failed";
 
 /// The end of the help of `make`.
 pub const MAKE_END: &str = "\
