@@ -160,6 +160,13 @@ def key_mistakes(module):
         check(f"key of {what}", (line, 1, False), (ran.stdout, ran.returncode, os.path.exists("odd.json")))
 
 
+def text_mistake():
+    """Tries a text that can't be signed, of which only standard error says why."""
+    write("odd", b'{"signed":{"a":1.5}}')
+    ran = run("text", "odd", text=True)
+    check("text of a float", ("", "refused float\n", 2), (ran.stdout, ran.stderr, ran.returncode))
+
+
 def tried(module, kind):
     scheme, width, height = kind.split("-")
     common.told("kind", kind)
@@ -173,6 +180,7 @@ def tried(module, kind):
         verified()
         attach_mistakes(keys)
         key_mistakes(module)
+        text_mistake()
 
 
 def main():

@@ -80,9 +80,6 @@ The digest was signed in place of the text; a signature was cut; four bytes in f
   $ tufcheck attach float a.json a.sig --out draft
   refused float
   [2]
-  $ tufcheck text float
-  ! refused float
-  [2]
   $ same draft before
 
 Who signed, of a root with a threshold of two.
