@@ -134,7 +134,7 @@ packaged() {
     report $? "packages: the two others depend on libtufcheck1"
     tried packages "$root" "$lib" lib/python3/dist-packages share/libtufcheck-dev share/man \
         "$doc/libtufcheck-dev/examples/example_updater.c" "$doc/python3-tufcheck/examples/example_updater.py" "--define-variable=prefix=$root"
-    sed -n 's/^ \(tufcheck_[a-z]*\)@\([^ ]*\) .*/\1@@\2/p' "$work/control/libtufcheck1/symbols" | diff - "$work/shown" > "$work/seen"
+    sed -n 's/^ \(tufcheck_[a-z_]*\)@\([^ ]*\) .*/\1@@\2/p' "$work/control/libtufcheck1/symbols" | diff - "$work/shown" > "$work/seen"
     report $? "packages: the symbols file names what the library shows"
     cmp "$root/$lib/libtufcheck.so.1" "$work/tar/$name/lib/libtufcheck.so.1" > "$work/seen" 2>&1
     report $? "packages: their library is the tarball's"
