@@ -24,8 +24,9 @@ use update::Host;
 
 /// Carries out a subcommand on the file system, and returns its status: 0 if all wanted targets
 /// are accepted, 1 if one is refused or a file that is shown expires too soon or isn't there, 2 if
-/// the update stopped or the root is refused. A step of a ceremony returns 0 if it was done. Prints the lines of the outcome to `out`, which is
-/// returned too. Fails as the run does that the subcommand names.
+/// the update stopped or the root is refused. A step of a ceremony returns 0 if it was done. Prints
+/// the lines of the outcome to `out`, which is returned too. Fails as the run does that the
+/// subcommand names.
 pub fn carry_out<T: Threads + Wait + Sync, W: Write>(
     run: &Runtime<'_, T>,
     subcommand: &Subcommand<'_>,

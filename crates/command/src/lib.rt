@@ -4,8 +4,8 @@
 //! - [`sample`] verifies a small repository that it makes, which [`command`] does if there are no
 //!   arguments.
 //! - [`carry_out`] carries out a [`Subcommand`]: what it prints and returns is what the run of
-//!   `update`, `replay` or `ceremony` prints and returns that the subcommand names. A [`Runtime`] is
-//!   what it runs on.
+//!   `update`, `replay` or `ceremony` prints and returns that the subcommand names. A [`Runtime`]
+//!   is what it runs on.
 #![tactic(auto)]
 
 mod apart;

@@ -25,4 +25,5 @@ pub use hashed::HashedPath;
 pub use pattern::matches;
 pub use prefix::prefix_matches;
 pub use query::{has_role, target_of};
+pub use same::is_same;
 pub use searching::{Searcher, search};

@@ -10,7 +10,7 @@ use keys::{Key, RoleKeys};
 
 /// Returns whether both lead to a role of one name, have the same keys, and require the same of
 /// them.
-pub(crate) fn is_same(one: &Edge, other: &Edge) -> bool
+pub fn is_same(one: &Edge, other: &Edge) -> bool
     ensures { IsTrue result → RequireTheSame (edge_of one.now) (edge_of other.now) }
 {
     one.name == other.name

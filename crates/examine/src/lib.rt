@@ -8,6 +8,7 @@
 //!   [`examine_root`], [`examine_first_timestamp`] and [`examine_next_timestamp`] (without and with
 //!   a trusted timestamp), [`examine_snapshot`], [`examine_targets`].
 //! - [`target_file`] finds the file of a target.
+//! - [`place_kept`] finds a name of a trusted snapshot in a new one.
 //! - [`is_expired`] also applies to trusted files: to the last root, and to a timestamp that stays.
 #![tactic(auto)]
 
@@ -28,4 +29,4 @@ pub use kinds::{
     examine_targets,
 };
 pub use target::target_file;
-pub use timing::is_expired;
+pub use timing::{is_expired, place_kept};

@@ -62,9 +62,10 @@ fn lists_less(old: &Snapshot, new: &Snapshot) -> bool
     false
 }
 
-/// Returns the place of what keeps the file: the first from `from` on, or else the first before it.
+/// Returns the place of a file that has the name of `old` and no lower version (TUF 1.0 section
+/// 5.5.5): the first from `from` on, or else the first before it.
 #[tactic(auto, using(crate::proofs::Places::within))]
-fn place_kept(files: &[Named], from: usize, old: &Named) -> Option<usize>
+pub fn place_kept(files: &[Named], from: usize, old: &Named) -> Option<usize>
     requires { from ≤ length files.now }
     ensures none { is_none result ≡ spec.is_listed_below files.now old.now }
     ensures within { IfSome result (λ p. p < length files.now) }

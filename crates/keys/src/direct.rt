@@ -23,10 +23,11 @@ impl Judge for Direct {
     }
 }
 
-/// Returns whether the text is the hexadecimal of a valid signature.
+/// Returns whether the text is the hexadecimal of a signature of the message that is valid by RFC
+/// 8554 section 5.4.2. Does not allocate.
 #[tactic(auto, using(crate::proofs::Decoded::long_is_unsigned))]
-fn is_signed_by(public: &Public, message: &[u8], sig: &str) -> bool
-    ensures { result ≡ is_signed_by public.now message.now sig.now }
+pub fn is_signed_by(public: &Public, message: &[u8], sig: &str) -> bool
+    ensures valid { result ≡ is_signed_by public.now message.now sig.now }
 {
     let length = sig.len() / 2;
     if length > MOST_SIGNATURE {

@@ -61,8 +61,10 @@ pub(crate) fn usable_key(alloc: Global, id: &str, key: &Tree) -> Result<Option<K
     Ok(Some(Key { id, public }))
 }
 
-fn public_value(key: &Tree) -> Option<Public>
-    ensures { result ≡ spec.public_value (view key.now) }
+/// Returns the public value of a key object: 56 bytes in hexadecimal, of a supported kind. None if
+/// it has no such value.
+pub fn public_value(key: &Tree) -> Option<Public>
+    ensures value { result ≡ spec.public_value (view key.now) }
 {
     let text = key.get("keyval")?.get("public")?.as_str()?;
     match <[u8; 56] as FromHex>::from_hex(text) {
@@ -71,8 +73,9 @@ fn public_value(key: &Tree) -> Option<Public>
     }
 }
 
-fn is_lms(key: &Tree) -> bool
-    ensures { result ≡ spec.is_lms (view key.now) }
+/// Returns whether a key object has the type and scheme of LMS keys.
+pub fn is_lms(key: &Tree) -> bool
+    ensures value { result ≡ spec.is_lms (view key.now) }
 {
     is_text(key, "keytype", "lms") && is_text(key, "scheme", "lms-sha256")
 }

@@ -10,9 +10,11 @@ mod role_keys;
 mod signers;
 mod threshold;
 
-pub use direct::Direct;
+pub use direct::{Direct, is_signed_by};
+pub use entries::{Entries, Placed};
 pub use judge::{Algorithm, Ask, DigestAsk, Judge, SignatureAsk};
-pub use key::{Key, key_id};
+pub use key::{Key, is_lms, key_id, public_value};
 pub use ring::KeyRing;
 pub use role_keys::RoleKeys;
+pub use signers::Signers;
 pub use threshold::enough;

@@ -41,7 +41,7 @@ impl RoleKeys {
 
     /// Returns the set of the listed ids, in which a look-up takes a few comparisons. Fails only if
     /// out of memory.
-    pub(crate) fn id_set(&self, alloc: Global) -> Result<BTreeSet<&str>, NoMemory>
+    pub fn id_set(&self, alloc: Global) -> Result<BTreeSet<&str>, NoMemory>
         ensures ids { IfOk result (λ s. (id : List ℕ)
             → spec.has_id s id ≡ list_any (bytes_eq id) self.now.ids) }
     {

@@ -266,7 +266,8 @@ impl Metadata {
     }
 }
 
-/// Reads the file of that name, as far as the workflow looks at it, into no more room than it needs.
+/// Reads the file of that name, as far as the workflow looks at it, into no more room than it
+/// needs.
 #[tactic(auto, using(folder::proofs::Sameness::sameness))]
 fn read_start<F: Folder>(alloc: Global, folder: &mut F, name: &str) -> Result<Vec<u8>, LoadFault>
     ensures given { IfOk result (λ bytes. IsStartOf

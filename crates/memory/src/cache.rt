@@ -203,7 +203,8 @@ impl Cache {
         Ok(())
     }
 
-    /// Drops the files that were used least recently, until there is room for one more of this size.
+    /// Drops the files that were used least recently, until there is room for one more of this
+    /// size.
     fn make_room(&mut self, size: usize) {
         for _ in 0..self.files.len() {
             if size <= self.left && self.files.len() < self.files.cap().get() {

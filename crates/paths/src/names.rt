@@ -39,7 +39,7 @@ fn each_path(alloc: Global, names: &[String], consistent: bool) -> Result<Vec<St
 }
 
 /// Returns the same paths, each once, in byte order.
-fn once_in_order(mut paths: Vec<String>) -> Vec<String>
+pub fn once_in_order(mut paths: Vec<String>) -> Vec<String>
     ensures { AreOnceInOrder (map string_bytes paths.items) (map string_bytes result.items) }
 {
     paths.sort_unstable();

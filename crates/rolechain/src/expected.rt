@@ -11,7 +11,7 @@ use meta::{Listing, Root, Snapshot};
 use std::alloc::{AllocError, Global};
 
 /// Returns what is expected of the root that follows (TUF 1.0 section 5.3).
-pub(crate) fn due_root<'a>(root: &'a Root, name: &'a str) -> Expectation<'a>
+pub fn due_root<'a>(root: &'a Root, name: &'a str) -> Expectation<'a>
     requires { name.now ≡ root_name (root.now.header.version + 1) }
     ensures { expectation result ≡ spec.due_root root.now }
 {
@@ -24,7 +24,7 @@ pub(crate) fn due_root<'a>(root: &'a Root, name: &'a str) -> Expectation<'a>
 }
 
 /// Returns what is expected of the timestamp (TUF 1.0 section 5.4).
-pub(crate) fn due_timestamp(root: &Root) -> Expectation<'_>
+pub fn due_timestamp(root: &Root) -> Expectation<'_>
     ensures { expectation result ≡ spec.due_timestamp root.now }
 {
     Expectation {
@@ -36,7 +36,7 @@ pub(crate) fn due_timestamp(root: &Root) -> Expectation<'_>
 }
 
 /// Returns what is expected of the snapshot with this listing (TUF 1.0 section 5.5).
-pub(crate) fn due_snapshot<'a>(root: &'a Root, listing: &Listing, name: &'a str) -> Expectation<'a>
+pub fn due_snapshot<'a>(root: &'a Root, listing: &Listing, name: &'a str) -> Expectation<'a>
     requires { name.now
         ≡ due_name root.now.consistent listing.now.version (codes "snapshot.json") }
     ensures { expectation result ≡ spec.due_snapshot root.now listing.now }

@@ -14,7 +14,7 @@ mod text;
 mod workflow;
 
 pub use end::{End, Step};
-pub use expected::place_of;
+pub use expected::{due_root, due_snapshot, due_timestamp, place_of};
 pub use fault::StateFault;
 pub use role::{Role, examine_role};
 pub use roots::{LAST_VERSION, MOST_ROOTS};

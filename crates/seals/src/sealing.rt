@@ -106,16 +106,18 @@ fn entry(alloc: Global, signer: &mut Signer, text: &[u8]) -> Result<Value, MakeF
     Ok(entry_of(alloc, signer.id.as_str(), sig)?)
 }
 
-fn entry_of(alloc: Global, id: &str, sig: String) -> Result<Value, AllocError>
-    ensures { IfOk result
+/// Returns the entry of `signatures` for a signature in hexadecimal (TUF 1.0 section 4.2). Fails
+/// only if out of memory.
+pub fn entry_of(alloc: Global, id: &str, sig: String) -> Result<Value, AllocError>
+    ensures entry { IfOk result
         (λ v. view v ≡ entry_object (record { keyid = id.now; sig = string_bytes sig })) }
 {
     json!(in alloc; { "keyid": id, "sig": sig })
 }
 
-/// Returns the tree of a file with these entries.
-fn file_of(alloc: Global, value: &Value, entries: Vec<Value>) -> Result<Value, AllocError>
-    ensures { IfOk result (λ v. (es : List Entry) → items_view entries.items ≡ entry_objects es
+/// Returns the tree of a file with these entries (TUF 1.0 section 4.2). Fails only if out of memory.
+pub fn file_of(alloc: Global, value: &Value, entries: Vec<Value>) -> Result<Value, AllocError>
+    ensures file { IfOk result (λ v. (es : List Entry) → items_view entries.items ≡ entry_objects es
         → view v ≡ sealed (view value.now) es) }
 {
     json!(in alloc; { "signatures": entries, "signed": value })
