@@ -1,7 +1,7 @@
 //! Secret keys whose leaves' values were stored when they were made.
 
-ghost use Rattle.std.specs.Prelude.{◌≡◌, ◌↔◌, ◌⊎◌, ◌+◌, ◌*◌, ◌^◌, ◌<◌, ◌≤◌, Some};
-ghost use Rattle.std.specs.Prelude.{IsTrue, IfOk, IfSome, OnOk, OnErr, length, take};
+ghost use Rattle.std.specs.Prelude.{◌≡◌, ◌≢◌, ◌↔◌, ◌⊎◌, ◌+◌, ◌*◌, ◌^◌, ◌<◌, ◌≤◌, Err};
+ghost use Rattle.std.specs.Prelude.{IsTrue, IfOk, IfErr, OnOk, OnErr, length, take};
 ghost use Rattle.lms.specs.Lms.{is_valid, levels, u32str};
 ghost use Rattle.lms.specs.Stored.{StoredKey};
 
@@ -29,6 +29,11 @@ pub enum StoredFault {
 }
 
 impl From<AllocError> for StoredFault {
+    ghost use Rattle.std.specs.Prelude.{◌≡◌};
+    ghost use Rattle.lms.specs.declared.stored.StoredFault.TheVariants as StoredFault;
+
+    ghost from_gives = { λ _ f. f ≡ StoredFault.NoMemory };
+
     fn from(_: AllocError) -> StoredFault {
         StoredFault::NoMemory
     }
@@ -101,6 +106,8 @@ impl StoredSecret {
         leaves: &[Node],
     ) -> Result<StoredSecret, StoredFault>
         ensures key { IfOk result (λ k. (k.public ≡ public.now) × (k.used ≡ 0)) }
+        ensures leaves { IfOk result (λ k. k.leaves ≡ length leaves.now) }
+        ensures unused { result ≢ Err StoredFault.Used }
     {
         let bytes = public.bytes();
         let Some(kind) = public_kind(bytes) else {
@@ -147,6 +154,9 @@ impl StoredSecret {
     /// if it is gone already, or past the last of the tree by more than one. No leaf comes back.
     pub fn skip_to(&mut self, leaf: u32) -> Result<(), StoredFault>
         ensures skipped { OnOk result (self.new ≡ record self.old { used = leaf }) }
+        ensures forward { OnOk result ((self.old.used ≤ leaf) × (leaf ≤ self.old.leaves)) }
+        ensures used { IfErr result (λ e. (e ≡ StoredFault.Used)
+            × ((leaf < self.old.used) ⊎ (self.old.leaves < leaf))) }
         ensures err { OnErr result (self.new ≡ self.old) }
     {
         if leaf < self.used || leaf > self.kind.height.leaf_count() {
@@ -185,6 +195,10 @@ impl StoredSecret {
         ensures next { OnOk result (self.new ≡ record self.old { used = self.old.used + 1 }) }
         ensures within { OnOk result ((self.old.used < self.old.leaves)
             × (self.old.used < 2 ^ 32)) }
+        ensures used { (result ≡ Err StoredFault.Used) ↔ (self.old.used ≡ self.old.leaves) }
+        ensures spent { result ≢ Err StoredFault.Used
+            → self.new ≡ record self.old { used = self.old.used + 1 } }
+        ensures kept { result ≡ Err StoredFault.Used → self.new ≡ self.old }
         ensures public { self.new.public ≡ self.old.public }
     {
         let q = self.used;
