@@ -10,7 +10,7 @@
 #
 # For both: the help, the run without arguments, a repository that is made and verified, the man pages, the links of the other
 # pages, the completions of each shell that is here, the libraries, the SPDX file, and with strace every file that the program
-# opens. For the package also the operator's scripts, page and unit, and the source package (dist/source.sh). Then the release
+# opens. For the package also the operator's scripts, pages and unit, and the source package (dist/source.sh). Then the release
 # is published in a repository of trial keys (dist/repository.py) and fetched from it, and its sums are signed (dist/sign.sh),
 # both in temporary folders. Then the program runs in a root folder that has nothing but it and its libraries (for the
 # superuser, or where user namespaces are allowed), and the release is packaged again from the unpacked program, which must
@@ -237,17 +237,19 @@ paged() {
     done
 }
 
-# operated USR: the operator's scripts, page and unit of the Debian package
+# operated USR: the operator's scripts, pages and unit of the Debian package
 operated() {
-    local script
+    local script page
     for script in run setup; do
         env -i "$1/sbin/tufcheck-$script" --help > "$work/seen" 2>&1 && grep -q "^usage: tufcheck-$script" "$work/seen"
         report $? "package: \`tufcheck-$script --help\` has status 0"
     done
-    if has man "package: the page of tufcheck-run"; then
-        MANPAGER=cat MANWIDTH=80 man --warnings -M "$1/share/man" tufcheck-setup > "$work/page" 2> "$work/seen"
-        [ ! -s "$work/seen" ] && grep -q CONFIGURATION "$work/page"
-        report $? "package: \`man tufcheck-setup\` renders the page, with no warning"
+    if has man "package: the operator's pages"; then
+        for page in tufcheck-run tufcheck-setup tufcheck.conf; do
+            MANPAGER=cat MANWIDTH=80 man --warnings -M "$1/share/man" $page > "$work/page" 2> "$work/seen"
+            [ ! -s "$work/seen" ] && grep -q EXAMPLES "$work/page" && grep -q "metadata DIR, targets DIR" "$work/page"
+            report $? "package: \`man $page\` renders the page, with no warning"
+        done
     fi
     if has systemd-analyze "package: the unit"; then
         SYSTEMD_UNIT_PATH="$1/lib/systemd/system:" systemd-analyze security --offline=true --threshold=15 tufcheck@it.service > "$work/seen" 2>&1

@@ -4,7 +4,7 @@
 #
 #   dist/package.sh [PROGRAM [FOLDER]]      what dist/build.sh built and dist/out unless given
 #
-# Both have the program, its man page and that of each subcommand (dist/pages.py), completions for bash, zsh and fish, the
+# Both have the program, its man page and that of each subcommand (by dist/pages.py), completions for bash, zsh and fish, the
 # user's page with the pages and the examples that it leads to, and the licenses (dist/notices). The built program is packaged
 # unchanged; only one of 3,000,000 bytes or more is stripped, which is printed. The package depends on what the program links,
 # by the packages of this machine that own it. It also has the scripts and units of dist/operator in their places, and depends
@@ -70,7 +70,7 @@ laid() {
         sed -i -E 's,\[([A-Za-z]+)\]\((\.\./)?(ATTACKS|DECISIONS|EMBEDDING|PROOFS|SECURITY)\.md(#[a-z-]+)?\),\1,g' "$doc"/{BENCHMARKS,FORMATS,SIGNING}.md &&
         install -m 644 "$top/dist/notices" "$doc/copyright" &&
         mkdir -p "$1/share/man/man1" || return 1
-    for page in "$work"/pages/*; do
+    for page in "$work"/pages/*.1; do
         cp "$page" "$1/share/man/man1" && gzip -9nf "$1/share/man/man1/${page##*/}" || return 1
     done
 }
@@ -90,9 +90,10 @@ operated() {
         install -D -m 644 "$from/sysusers.conf" "$1/lib/sysusers.d/tufcheck.conf" &&
         install -D -m 644 "$from/tmpfiles.conf" "$1/lib/tmpfiles.d/tufcheck.conf" &&
         install -m 644 -t "$doc" "$from"/{NAME.conf,tufcheck-alerts.yml} &&
-        mkdir -p "$1/sbin" "$1/share/man/man8" &&
-        gzip -9n < "$top/docs/tufcheck-run.8" > "$1/share/man/man8/tufcheck-run.8.gz" &&
-        ln -s tufcheck-run.8.gz "$1/share/man/man8/tufcheck-setup.8.gz" || return 1
+        mkdir -p "$1/sbin" "$1/share/man/man5" "$1/share/man/man8" || return 1
+    for name in tufcheck.conf.5 tufcheck-run.8 tufcheck-setup.8; do
+        gzip -9n < "$work/pages/$name" > "$1/share/man/man${name##*.}/$name.gz" || return 1
+    done
     for name in run setup; do
         ln -s "../share/tufcheck/tufcheck-$name" "$1/sbin/tufcheck-$name" || return 1
     done
@@ -109,11 +110,11 @@ unpacked() {
     install -m 644 -t "$doc" "$top/LICENSE" &&
         install -D -m 644 -t "$doc/operator" "$top"/dist/operator/{settings.py,tufcheck@.*,*.conf,*.yml} &&
         install -m 755 -t "$doc/operator" "$top"/dist/operator/tufcheck-{run,setup} &&
-        gzip -9n < "$top/docs/tufcheck-run.8" > "$doc/operator/tufcheck-run.8.gz"
+        install -m 644 -t "$doc/operator" "$work"/pages/*.[58] && gzip -9n "$doc"/operator/*.[58]
 }
 
-"$top/dist/pages.py" "$work/pages" || refused "the man pages of the subcommands can't be made"
-cp "$top/docs/tufcheck.1" "$work/pages" || exit 1
+"$top/dist/pages.py" "$work/pages" || refused "the man pages can't be made"
+cp "$top"/docs/tufcheck{.1,-run.8} "$work/pages" || exit 1
 "$top/dist/changelog.py" tufcheck $version "$when" > "$work/changelog" || refused "the changelog can't be made"
 { laid "$work/$name" site-functions && unpacked "$work/$name"; } || refused "a file of the release is missing"
 dated "$work/$name"

@@ -1,11 +1,14 @@
 #!/usr/bin/env python3
-"""Cuts a man page for each subcommand out of docs/tufcheck.1, which alone has their texts.
+"""Cuts a man page for each subcommand out of docs/tufcheck.1, and for the operator's other names out of docs/tufcheck-run.8:
+these two alone have the texts.
 
     dist/pages.py FOLDER
 
 Writes FOLDER/tufcheck-NAME.1 for each subcommand NAME that has a line in SYNOPSIS and a part of DESCRIPTION. Each page has
 that line, that part, the options that the line names, its own statuses and examples, and of the other sections what
 LACKS doesn't take away; so a new subcommand has all of them. Its name's few words are those of completions/tufcheck.fish.
+FOLDER/tufcheck-setup.8 has that program's parts of the other source, and FOLDER/tufcheck.conf.5 the configuration, with the
+file dist/operator/NAME.conf as its example.
 The status is 0, or 1 if the source isn't as the script expects it, which is printed: also if LACKS names what isn't there.
 """
 import pathlib
@@ -14,6 +17,8 @@ import sys
 
 TOP = pathlib.Path(__file__).resolve().parents[1]
 SOURCE = TOP / "docs/tufcheck.1"
+OPERATOR = TOP / "docs/tufcheck-run.8"
+EXAMPLE = TOP / "dist/operator/NAME.conf"
 # Sections, and items and paragraphs by their first words, with the subcommands whose pages lack them
 LACKS = {
     ("NAMES", ""): "init show make key text attach signers",
@@ -78,6 +83,35 @@ def statuses(chunk_list, name):
             numbers = [int(it) for it in re.findall(r"[0-9]+", subject[2])]
             return set(range(numbers[0], numbers[1] + 1)) if " to " in subject[2] else set(numbers)
     refused(f"EXIT STATUS doesn't say which statuses {name} has")
+
+
+def paged(name, section, words, content):
+    """A page of the operator's, of the name, section and words for NAME, and pairs of sections and their lines."""
+    title = f'.TH {name.upper()} {section} "" "tufcheck"'.replace("-", "\\-")
+    lines = [title, ".SH NAME", f"{name} \\- {words}".replace("tufcheck-", "tufcheck\\-")]
+    for heading, texts in content:
+        if not texts:
+            refused(f"{name} has nothing for {heading}")
+        lines += [f".SH {heading}", *texts]
+    return "\n".join(lines) + "\n"
+
+
+def operator_pages():
+    """The pages of tufcheck-setup and of its configuration, by the names of their files."""
+    sections = {part[0][4:]: part[1:] for part in parts(OPERATOR.read_text().splitlines(), ".SH")[1:]}
+    told = parts(sections["DESCRIPTION"], ".SS")
+    setup = next(part[1:] for part in told if part[0] == ".SS tufcheck\\-setup")
+    own = [line for line in sections["SYNOPSIS"] if "\\-setup" in line]
+    status = [line for line in sections["EXIT STATUS"] if line.startswith("\\fBtufcheck\\-setup\\fR has")]
+    elsewhere = [f"\\fBtufcheck\\-run\\fR(8), {sections['SEE ALSO'][0]}"]
+    example = [line.replace("\\", "\\e").replace("-", "\\-") for line in EXAMPLE.read_text().splitlines()]
+    return {
+        "tufcheck-setup.8": paged("tufcheck-setup", 8, "set up a repository for tufcheck-run and its timer", [
+            ("SYNOPSIS", "\n.br\n".join(own).splitlines()), ("DESCRIPTION", [*told[0], ".PP", "\\fBtufcheck\\-setup\\fR", *setup]),
+            ("CONFIGURATION", sections["CONFIGURATION"]), ("EXIT STATUS", status), ("EXAMPLES", sections["EXAMPLES"]),
+            ("FILES", sections["FILES"]), ("SEE ALSO", elsewhere)]),
+        "tufcheck.conf.5": paged("tufcheck.conf", 5, "the configuration of a repository for tufcheck-run", [
+            ("DESCRIPTION", sections["CONFIGURATION"]), ("EXAMPLES", [".nf", *example, ".fi"]), ("SEE ALSO", elsewhere)])}
 
 
 class Source:
@@ -173,8 +207,8 @@ def main():
     if source.met != set(LACKS):
         refused(f"the source lacks {set(LACKS) - source.met}")
     folder.mkdir(parents=True, exist_ok=True)
-    for name, page in pages.items():
-        (folder / f"tufcheck-{name}.1").write_text(page)
+    for name, page in [*((f"tufcheck-{name}.1", page) for name, page in pages.items()), *operator_pages().items()]:
+        (folder / name).write_text(page)
 
 
 main()

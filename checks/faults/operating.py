@@ -212,6 +212,28 @@ def refused_root(room):
     need(not room.folder.exists() and not room.left() and not room.at("etc/tufcheck/it.conf").exists(), "something is left")
 
 
+@case("setups at once, and killed ones")
+def setups(room):
+    words = ["it", room.mirror / "metadata/1.root.json", "--metadata", room.mirror / "metadata", "--targets",
+             room.mirror / "targets", "--want", "every", "--into", room.into]
+    begun = [room.begin("tufcheck-setup", *words) for _ in range(6)]
+    ran = [room.end(one) for one in begun]
+    need(sorted(one.status for one in ran) == [0, 73, 73, 73, 73, 73], [str(one) for one in ran])
+    need(not room.left() and room.run().status == 0, room.left())
+    for number in range(20):
+        shutil.rmtree(room.folder)
+        room.at("etc/tufcheck/it.conf").unlink()
+        first = room.begin("tufcheck-setup", *words, start_new_session=True)
+        time.sleep(0.05 + number * 0.02)
+        os.killpg(first[0].pid, signal.SIGKILL)
+        room.end(first)
+        if not room.folder.exists():
+            there = room.at("etc/tufcheck/it.conf").exists()
+            ran = room.setup(*(words[:2] if there else words))
+            need(ran.status == 0, ran)
+        need(not room.left() and room.run().status == 0, room.left())
+
+
 @case("wrong arguments")
 def arguments(room):
     for name in ("../it", "a/b", "", "it it", "-it", "a" * 65, "it\n", "it.x", "%i"):
@@ -283,14 +305,30 @@ def configuration(room):
     need(all(words[0] != "verify" for words in room.calls()), "the program was run")
 
 
+@case("configuration that others may write")
+def writable(room):
+    room.set_up()
+    conf = room.at("etc/tufcheck/it.conf")
+    for mode_of in (0o664, 0o646):
+        conf.chmod(mode_of)
+        ran = room.run()
+        need(ran.status == 78 == room.metrics()["status"] and "somebody else may write it" in ran.error, ran)
+        need(room.setup("--units", "it").status == 78, "the unit follows it")
+    conf.chmod(0o644)
+    need(room.run().status == 0, "another status")
+
+
 @case("no shell")
 def no_shell(room):
     room.set_up()
     odd = room.at("$(touch x) `touch x` ; 'a' & |")
     shutil.copytree(room.mirror, odd)
-    room.conf(f"  metadata   {odd}/metadata  \ntargets {odd}/targets\n# one\n\nwant every\nworkers 0\n")
+    (odd / "hook ; exit 1").write_text(f'#!/bin/sh\nprintf "%s\\n" "$@" > {room.at("given")}\n')
+    (odd / "hook ; exit 1").chmod(0o755)
+    room.conf(f"  metadata   {odd}/metadata  \ntargets {odd}/targets\n# one\n\nwant every\nworkers 0\nfetch {odd}/hook ; exit 1\n")
     need(room.run(cwd=room.path).status == 0 and not room.at("x").exists(), "another status")
     need(room.calls()[-2][4:7:2] == [f"{odd}/metadata", f"{odd}/targets"], room.calls()[-2])
+    need(room.at("given").read_text().split("\n")[1:] == [f"{odd}/metadata", f"{odd}/targets", ""], "the hook's arguments")
 
 
 @case("paths of a file")
@@ -393,6 +431,30 @@ def wait_for(path):
         time.sleep(0.01)
 
 
+@case("soon expired")
+def soon(room):
+    room.set_up("--soon", "2")
+    day = lambda days: time.strftime("%Y-%m-%dT%H:%M:%SZ", time.gmtime(time.time() + days * 86_400))
+    room.answer(lines=READY, shown=f"root 3 {day(2.1)}\ntimestamp 7 {day(1.9)}\n")
+    ran = room.run()
+    need(ran.status == 0 and ran.lines[-1] == "<4>soon: the trusted timestamp expires within 2 days", ran)
+    need(sum("soon" in line for line in ran.lines) == 1, ran)
+
+
+@case("more lines than are kept")
+def many(room):
+    room.set_up()
+    name = "a" * 100_000
+    for status, kept in ((0, "lines"), (1, "lines.failed")):
+        room.answer(lines=f'ok "{name}" 1 "targets"\n', times=1100, verify=status)
+        ran, values = room.run(), room.metrics()
+        need(ran.status == status and values["targets accepted"] == 1100, ran)
+        with open(room.folder / kept, "rb") as file:
+            need(file.seek(0, 2) < 100_000_100 and file.seek(-60, 2), f"{file.tell()} bytes")
+            end = file.read().decode()
+        need(re.search(f'"targets"\nand 10[0-9] more lines\n{"status 1" if status else ""}', end), end)
+
+
 @case("hostile lines")
 def lines(room):
     room.set_up()
@@ -440,13 +502,34 @@ def room_for(room):
         (targets / f"{version * 64}.long").write_bytes(b"0" * 60_000)
     comes_to(0, "two versions of one path")
     (targets / "other").write_bytes(b"0" * 60_000)
+    comes_to(0, "two paths, of which no role lists one")
+    need([words[-1] for words in room.calls()[-3:]][:2] == ["/dev/null", str(room.folder / "state")], room.calls()[-3:])
+    need("--into" not in room.calls()[-3] and "--into" in room.calls()[-2], room.calls()[-3:])
+    room.answer(lines='end ready\nok "long" 60000 "targets"\nok "other" 60000 "targets"\n')
     comes_to(73, "two paths")
     (targets / "other").unlink()
     room.into.joinpath(".tufcheck.1.new").mkdir()
     room.into.joinpath(".tufcheck.1.new/1").write_bytes(b"0" * 80_000)
     comes_to(0, "what a killed run left, which tufcheck removes")
     room.into.joinpath(".tufcheck.1.new/1").rename(room.into / "mine")
+    room.into.joinpath(".tufcheck.2.new").symlink_to(room.mirror)
     comes_to(73, "a file that stays")
+
+
+@case("folders without an end")
+def deep(room):
+    room.set_up()
+    before = os.open(".", os.O_RDONLY)
+    os.chdir(room.mirror / "targets")
+    for _ in range(1500):
+        os.mkdir("d")
+        os.chdir("d")
+    pathlib.Path("f").write_bytes(b"0")
+    os.chdir(before)
+    need(room.run().status == 0, "another status")
+    (room.mirror / "targets/loop").symlink_to("..")
+    need(room.run().status == 0, "with a link")
+    subprocess.run(["rm", "-rf", room.mirror], check=True)
 
 
 @case("full disk of the state")
@@ -455,7 +538,8 @@ def full(room):
     need(room.run().status == 0, "no good run")
     room.answer(lines=READY, times=10_000)
     ran = room.run(before=mounted(room.folder, 64)("full"))
-    need(ran.status == 4 and "tufcheck: output" in ran.error, ran)
+    need(ran.status == 71 == room.metrics()["status"] and "the lines can't be kept whole" in ran.error, ran)
+    need(room.metrics()["targets accepted"] == 10_000, room.metrics())
     after = room.path / "var/lib/tufcheck/it.is"
     need((after / "state").read_text() == "state" and (after / "lines").read_text() == READY, "state or lines")
     need(not (after / "record.new").exists() and (after / "record").read_bytes(), "record")

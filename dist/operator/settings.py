@@ -73,7 +73,7 @@ def whole(least, most):
 
 # What reads the value of each key.
 KEYS = {"metadata": path, "targets": path, "want": wanted, "into": path, "fetch": path, "limit": whole(1, 256),
-        "workers": whole(0, 64)}
+        "workers": whole(0, 64), "soon": whole(1, 3650)}
 NEEDED = ("metadata", "targets", "want")
 
 
@@ -99,9 +99,13 @@ def parse(text, name):
 
 
 def read(place):
-    """Returns the values of the configuration. Fails if it can't be read, or has a line that is wrong."""
+    """Returns the values of the configuration. Fails if it can't be read, if others than its reader and the superuser may
+    write it, or if a line is wrong."""
     try:
         with open(place.conf, "rb") as file:
+            found = os.fstat(file.fileno())
+            if found.st_uid not in (0, os.geteuid()) or found.st_mode & 0o022:
+                raise Failure(CONFIGURATION, f"{place.conf}: somebody else may write it")
             text = file.read(LONGEST + 1)
         if len(text) > LONGEST:
             raise Failure(CONFIGURATION, f"{place.conf}: more than {LONGEST} bytes")
