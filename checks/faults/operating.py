@@ -527,8 +527,12 @@ def deep(room):
     pathlib.Path("f").write_bytes(b"0")
     os.chdir(before)
     need(room.run().status == 0, "another status")
-    (room.mirror / "targets/loop").symlink_to("..")
-    need(room.run().status == 0, "with a link")
+    room.at("outside").mkdir()
+    with open(room.at("outside/file"), "wb") as file:
+        file.truncate(1 << 40)
+    for name, to in (("loop", ".."), ("link", room.at("outside")), ("file", room.at("outside/file"))):
+        (room.mirror / "targets" / name).symlink_to(to)
+    need(room.run().status == 0 and not any("/dev/null" in words for words in room.calls()), "a link was followed")
     subprocess.run(["rm", "-rf", room.mirror], check=True)
 
 
