@@ -4,12 +4,15 @@
 #
 #   dist/check-service.sh [FOLDER [BASE]]      the folder of the release, dist/out unless given
 #
-# BASE is a folder with a Debian; if it isn't there, debootstrap makes it, by the network. The script uses a copy in a
-# temporary folder. Its processes, mounts, control groups and network are in namespaces of their own, which end with it. Needs
-# the superuser, debootstrap and a mounted cgroup2. A line for each thing says `ok`, or `failed` with what was seen, and the
+# BASE is a folder with a Debian; if it isn't there, debootstrap makes it, by the network. What is changed is in a temporary
+# folder over it (overlay). Processes, mounts, control groups and network are in namespaces of their own, which end with the
+# script. Needs the superuser, debootstrap and a mounted cgroup2. A line for each thing says `ok`, or `failed` with what was seen, and the
 # status is 1 where something failed, or 2 if nothing could be tried. It takes a minute and a half; debootstrap took two more.
 set -u
 export LC_ALL=C
+if [ -z "${TUFCHECK_APART:-}" ] && [ "$(id -u)" = 0 ]; then
+    TUFCHECK_APART=yes exec unshare -m -- "$0" "$@"
+fi
 top=$(cd "$(dirname "$0")/.." && pwd) || exit 1
 from=$(realpath -m "${1:-$top/dist/out}") base=${2:+$(realpath -m "$2")}
 version=$(sed -n 's/^version=//p' "$top/dist/package.sh")
@@ -30,6 +33,7 @@ ended() {
         [ -d "$group" ] || break
         find "$group" -depth -type d -exec rmdir {} + 2> "$work/found" || sleep 0.1
     done
+    umount -l "$root" 2> "$work/found"
     rm -rf --one-file-system "$work"
 }
 trap ended EXIT
@@ -141,7 +145,9 @@ if [ ! -e "$base" ]; then
     debootstrap --variant=minbase --include=systemd-sysv,dbus,man-db,python3 stable "$base" > "$work/console" 2>&1 ||
         untried "debootstrap: $(tail -3 "$work/console")"
 fi
-cp -a "$base" "$root" && cp "$from/$deb" "$root/root" || exit 2
+mkdir "$root" "$work/changed" "$work/turned" &&
+    mount -t overlay -o "lowerdir=$base,upperdir=$work/changed,workdir=$work/turned" overlay "$root" &&
+    cp "$from/$deb" "$root/root" || untried "nothing can be laid over $base"
 booted
 
 inside apt-get install -y "/root/$deb" > "$work/seen" 2>&1 && inside id tufcheck > "$work/found" 2>> "$work/seen"
