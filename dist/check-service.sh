@@ -6,8 +6,9 @@
 #
 # BASE is a folder with a Debian; if it isn't there, debootstrap makes it, by the network. What is changed is in a temporary
 # folder over it (overlay). Processes, mounts, control groups and network are in namespaces of their own, which end with the
-# script. Needs the superuser, debootstrap and a mounted cgroup2. A line for each thing says `ok`, or `failed` with what was seen, and the
-# status is 1 where something failed, or 2 if nothing could be tried. It takes a minute and a half; debootstrap took two more.
+# script. Needs the superuser, debootstrap and a mounted cgroup2. A line for each thing says `ok`, or `failed` with what was
+# seen, and the status is 1 where something failed, or 2 if nothing could be tried. It took five minutes beside much other
+# work, and debootstrap seven.
 set -u
 export LC_ALL=C
 if [ -z "${TUFCHECK_APART:-}" ] && [ "$(id -u)" = 0 ]; then

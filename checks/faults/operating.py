@@ -8,7 +8,7 @@ systemd. Cases in which nothing is verified have a stub of this script in place 
 `FAILS CASE: what was seen`, or `not tried CASE: why`, and the status is 1 if one fails. A small file system, for a full
 disk, needs `unshare` with mounts; the units need `systemd-analyze`, the rules and metrics `promtool`, the calls `strace`
 and the pages `man`. The repositories are those of `examples`, which expire in 2030, verified by the clock. It takes
-two minutes. `rt run` in crates/tufcheck proves and builds the program.
+three minutes. `rt run` in crates/tufcheck proves and builds the program.
 """
 import json
 import os
