@@ -115,7 +115,8 @@ pub fn entry_of(alloc: Global, id: &str, sig: String) -> Result<Value, AllocErro
     json!(in alloc; { "keyid": id, "sig": sig })
 }
 
-/// Returns the tree of a file with these entries (TUF 1.0 section 4.2). Fails only if out of memory.
+/// Returns the tree of a file with these entries (TUF 1.0 section 4.2). Fails only if out of
+/// memory.
 pub fn file_of(alloc: Global, value: &Value, entries: Vec<Value>) -> Result<Value, AllocError>
     ensures file { IfOk result (λ v. (es : List Entry) → items_view entries.items ≡ entry_objects es
         → view v ≡ sealed (view value.now) es) }
