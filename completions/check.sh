@@ -58,7 +58,7 @@ for command in $commands; do
     diff "$work/$command.help" <(grep -v -x -e -- "$work/$command.page") > "$work/differs" ||
         wrong "tufcheck-$command(1) hasn't the options of its help: $(grep '^[<>]' "$work/differs" | tr '\n' ' ')"
 done
-for page in "$work"/pages/* ../docs/tufcheck.1; do
+for page in "$work"/pages/*.1 ../docs/tufcheck.1; do
     command=$(basename "$page" .1)
     command=${command#tufcheck-}
     [ "$command" = tufcheck ] || grep -q -x "$command" <<<"$commands" || wrong "$(basename "$page") is of no subcommand"
