@@ -12,30 +12,11 @@
 # the man pages, and that the loader takes the build for this processor. For the packages also their sums and what they
 # depend on, the symbols file, and with lintian that it finds nothing. Then the release is packaged again from FOLDER/build,
 # if that is there, which must make the same bytes. Needs tar, sha256sum and python3.
-set -u
-export LC_ALL=C PYTHONDONTWRITEBYTECODE=1
-top=$(cd "$(dirname "$0")/.." && pwd) || exit 1
+. "$(dirname "$0")/tried.sh" || exit 1
+export PYTHONDONTWRITEBYTECODE=1
 from=$(realpath -m "${1:-$top/dist/out}")
 version=$(sed -n 's/^version=//p' "$top/dist/package-dev.sh")
 name=libtufcheck-$version-x86_64-linux
-work=$(mktemp -d) || exit 1
-trap 'rm -rf "$work"' EXIT
-failed=0
-
-# report STATUS THING: `ok` or `failed` of a thing, by the status of what tried it and what it wrote to the file `seen`
-report() {
-    if [ "$1" = 0 ]; then
-        echo "ok $2"
-    else
-        echo "failed $2: $(head -c 400 "$work/seen" | tr '\n' ' ')"
-        failed=1
-    fi
-}
-
-# has TOOL THING: whether a tool is here; if not, its thing isn't tried
-has() {
-    command -v "$1" > "$work/found" || { echo "not tried $2: $1 is missing"; return 1; }
-}
 
 # updates WORD..: whether an updater installs the target, and then refuses a damaged one and leaves the first
 updates() {

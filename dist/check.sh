@@ -16,33 +16,13 @@
 # superuser, or where user namespaces are allowed), and the release is packaged again from the unpacked program, which must
 # make the same bytes. dist/halves.sh compares the two builds. Last, dist/check-dev.sh tries the library's release, if it is in
 # the folder.
-set -u
-export LC_ALL=C
-top=$(cd "$(dirname "$0")/.." && pwd) || exit 1
+. "$(dirname "$0")/tried.sh" || exit 1
 from=$(realpath -m "${1:-$top/dist/out}")
 version=$(sed -n 's/^version=//p' "$top/dist/package.sh")
 name=tufcheck-$version-x86_64-linux deb=tufcheck_${version}_amd64.deb
-work=$(mktemp -d) || exit 1
-trap 'rm -rf "$work"' EXIT
 mkdir "$work/home" "$work/deb" "$work/tar" || exit 1
-failed=0
 printf 'root 1\nend ready\nok "abc.txt" 3 "targets"\n' > "$work/three"
 (echo "root 1" && cat "$work/three") > "$work/four"
-
-# report STATUS THING: `ok` or `failed` of a thing, by the status of what tried it and what it wrote to the file `seen`
-report() {
-    if [ "$1" = 0 ]; then
-        echo "ok $2"
-    else
-        echo "failed $2: $(head -c 400 "$work/seen" | tr '\n' ' ')"
-        failed=1
-    fi
-}
-
-# has TOOL THING: whether a tool is here; if not, its thing isn't tried
-has() {
-    command -v "$1" > "$work/found" || { echo "not tried $2: $1 is missing"; return 1; }
-}
 
 # clean TOOL..: runs a tool that is found by its path, with nothing in the environment
 clean() {

@@ -12,28 +12,15 @@
 # the tools do as this script takes them to do, and that sums which were changed afterwards are refused. A line for each
 # signature says `ok`, `failed` with what the tool said, or in a trial `not tried` where the tool is missing. The status is 0,
 # or 1 if something failed, and 2 for other arguments.
-set -u
-export LC_ALL=C
+. "$(dirname "$0")/tried.sh" || exit 1
 umask 022
-top=$(cd "$(dirname "$0")/.." && pwd) || exit 1
-secret='' public='' key='' trial='' failed=0
-work=$(mktemp -d) || exit 1
+secret='' public='' key='' trial=''
 trap '[ ! -d "$work/gpg" ] || gpgconf --homedir "$work/gpg" --kill all; rm -rf "$work"' EXIT
 
 # usage: the end for other arguments
 usage() {
     sed -n '4,5p' "$0" >&2
     exit 2
-}
-
-# report STATUS THING: `ok` or `failed` of a thing, by its status and what is in the file `seen`
-report() {
-    if [ "$1" = 0 ]; then
-        echo "ok $2"
-    else
-        echo "failed $2: $(head -c 400 "$work/seen" | tr '\n' ' ')"
-        failed=1
-    fi
 }
 
 # kept STATUS SIGNATURE THING: reports a thing, and removes the signature that can't be verified
