@@ -5,6 +5,8 @@
 //! 256 KB.
 #![no_std]
 
+use core::ffi::c_char;
+
 /// Bytes of the caller.
 #[repr(C)]
 #[derive(Clone, Copy, Debug)]
@@ -163,6 +165,7 @@ pub struct Needs {
 
 extern "C" {
     pub fn tufcheck_version() -> u32;
+    pub fn tufcheck_text(number: i32) -> *const c_char;
     pub fn tufcheck_first(
         root: *const u8,
         root_len: usize,

@@ -16,7 +16,7 @@ use std::io::{self, ErrorKind, Read, Write};
 use std::path::{Path, PathBuf};
 use std::time::{SystemTime, UNIX_EPOCH};
 use std::{env, process};
-use tufcheck::{Job, Kind, Need, Place, Source, Verdict};
+use tufcheck::{fetch_all, Found, Job, Kind, Need, Place, Source, Verdict};
 
 type Failure = Box<dyn std::error::Error>;
 
@@ -50,7 +50,7 @@ fn replace(new: &str, place: &Path, bytes: &[u8]) -> io::Result<()> {
 }
 
 /// Fetches a file of the repository. Returns None if there is none, or if it can't be read.
-fn fetch(repository: &str, need: &Need) -> Option<Vec<u8>> {
+fn fetch(repository: &str, need: &Need) -> Option<Found> {
     let folder = match need.place {
         Place::Metadata => "metadata",
         Place::Targets => "targets",
@@ -66,7 +66,7 @@ fn fetch(repository: &str, need: &Need) -> Option<Vec<u8>> {
     match read {
         Ok(_) => {
             println!("fetched {:?}", need.name);
-            return Some(bytes);
+            return Some(Found::Bytes(bytes));
         }
         Err(error) if error.kind() == ErrorKind::NotFound => {}
         Err(error) => eprintln!("updater: {:?}: {error}", need.name),
@@ -74,74 +74,34 @@ fn fetch(repository: &str, need: &Need) -> Option<Vec<u8>> {
     None
 }
 
-/// The files that were fetched so far.
-#[derive(Default)]
-struct Fetched {
-    metadata: Vec<(String, Vec<u8>)>,
-    targets: Vec<(String, Vec<u8>)>,
-}
-
-impl Fetched {
-    /// Adds the files that are there. Returns whether any was.
-    fn add(&mut self, repository: &str, needs: Vec<Need>) -> bool {
-        let before = self.metadata.len() + self.targets.len();
-        for need in needs {
-            if let Some(bytes) = fetch(repository, &need) {
-                let files = match need.place {
-                    Place::Metadata => &mut self.metadata,
-                    _ => &mut self.targets,
-                };
-                files.push((need.name, bytes));
-            }
-        }
-        self.metadata.len() + self.targets.len() > before
-    }
-}
-
-fn lent(files: &[(String, Vec<u8>)]) -> Vec<(&str, &[u8])> {
-    files.iter().map(|(name, bytes)| (name.as_str(), bytes.as_slice())).collect()
-}
-
-/// Fetches until nothing that is needed is found. With an optional file, others may no longer be
-/// needed.
-fn fetch_all(repository: &str, job: Job) -> Result<Fetched, Failure> {
-    let mut fetched = Fetched::default();
-    loop {
-        let (metadata, targets) = (lent(&fetched.metadata), lent(&fetched.targets));
-        let needs = Job { metadata: &metadata, targets: &targets, ..job }.next()?;
-        let (optional, others) = needs.files.into_iter().partition(|need| need.optional);
-        if !fetched.add(repository, optional) && !fetched.add(repository, others) {
-            return Ok(fetched);
-        }
-    }
-}
-
 /// Installs the file that was verified for an accepted path. This updater has no digests, so it is
 /// one of the targets.
-fn install(job: Job, verdict: &Verdict, new: &str, place: PathBuf) -> Result<(), Failure> {
+fn install(job: &Job, verdict: &Verdict, new: &str, place: PathBuf) -> Result<(), Failure> {
     let Some(Source::Targets(at)) = verdict.file else { return Err("no verified file".into()) };
     fs::create_dir_all(place.parent().ok_or("no folder")?)?;
     Ok(replace(new, &place, job.targets[at].1)?)
 }
 
-fn update(words: &[&str], moment: u64) -> Result<i32, Failure> {
-    let [root, place, repository, _, out, wanted @ ..] = words else { return Ok(3) };
-    let (state, new) = (state_of(root, place)?, format!("{place}.new"));
-    let empty =
-        Job { state: &state, metadata: &[], targets: &[], digests: &[], wanted, moment, limit: 32 };
-    let fetched = fetch_all(repository, empty)?;
-    let (metadata, targets) = (lent(&fetched.metadata), lent(&fetched.targets));
-    let job = Job { metadata: &metadata, targets: &targets, ..empty };
-    let outcome = job.verify()?;
+/// Verifies the job, keeps its state and installs what is accepted. Returns the status.
+fn verify(job: &Job, place: &str, out: &str) -> Result<i32, Failure> {
+    let (outcome, new) = (job.verify()?, format!("{place}.new"));
     replace(&new, Path::new(place), &outcome.state)?;
     println!("root {} {:?} {:?}", outcome.root_version, outcome.end, outcome.fault);
-    for (path, verdict) in wanted.iter().zip(&outcome.verdicts) {
+    for (path, verdict) in job.wanted.iter().zip(&outcome.verdicts) {
         println!("{path:?}: {verdict:?}");
         if verdict.kind == Kind::Accepted {
             install(job, verdict, &new, Path::new(out).join(path))?;
         }
     }
     Ok(outcome.status as i32)
+}
+
+fn update(words: &[&str], moment: u64) -> Result<i32, Failure> {
+    let [root, place, repository, _, out, wanted @ ..] = words else { return Ok(3) };
+    let state = state_of(root, place)?;
+    let job = Job::new(&state, wanted, moment);
+    let fetched = fetch_all(&job, |need| Ok::<_, Failure>(fetch(repository, need)))?;
+    fetched.with(&job, |job| verify(job, place, out))
 }
 
 fn main() {

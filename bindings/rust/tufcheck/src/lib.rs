@@ -1,16 +1,24 @@
 //! Verifies a repository of The Update Framework, by the C library libtufcheck.
 //!
 //! An updater keeps a trusted state, which begins with [`first`]. For each update it makes a
-//! [`Job`], adds the files that [`Job::next`] names until it finds no more of them, and calls
-//! [`Job::verify`]. A call needs a stack of 256 KB.
+//! [`Job`], fetches what the job needs by [`fetch_all`], and calls [`Job::verify`]. What the caller
+//! owes, and what is proved of the library's calls, is in its page EMBEDDING. A call needs a stack
+//! of 256 KB.
+//!
+//! The library is linked as `tufcheck-sys` says, by the feature `static` into the program.
 //!
 //! A library of the same first version number may have numbers that this crate doesn't know. They
 //! are `Unknown`, and none of them means that a target is accepted.
 
 use std::error;
+use std::ffi::CStr;
 use std::fmt;
 use std::mem::size_of;
 use tufcheck_sys as c;
+
+mod fetch;
+
+pub use fetch::{fetch_all, Fetched, Found, Measured};
 
 /// Why a call failed.
 #[derive(Clone, Copy, Debug, PartialEq, Eq)]
@@ -57,68 +65,92 @@ pub enum Status {
     Stopped,
 }
 
-/// How a cycle ends: ready, or the step at which it stopped.
-#[derive(Clone, Copy, Debug, PartialEq, Eq)]
-#[non_exhaustive]
-pub enum End {
-    Ready,
-    Root,
-    Timestamp,
-    Snapshot,
-    Targets,
-    /// A number that this crate doesn't know.
-    Unknown(u32),
+/// Declares a family of numbers of the library, both ways, with the library's text of each.
+macro_rules! numbers {
+    ($(#[$about:meta])* $name:ident: $($(#[$what:meta])* $number:literal $variant:ident,)*) => {
+        $(#[$about])*
+        #[derive(Clone, Copy, Debug, PartialEq, Eq, Hash)]
+        #[non_exhaustive]
+        pub enum $name {
+            $($(#[$what])* $variant,)*
+            /// A number that this crate doesn't know.
+            Unknown(u32),
+        }
+
+        impl $name {
+            fn of(number: u32) -> $name {
+                match number {
+                    $($number => $name::$variant,)*
+                    _ => $name::Unknown(number),
+                }
+            }
+
+            fn number(self) -> u32 {
+                match self {
+                    $($name::$variant => $number,)*
+                    $name::Unknown(number) => number,
+                }
+            }
+        }
+
+        impl fmt::Display for $name {
+            fn fmt(&self, f: &mut fmt::Formatter<'_>) -> fmt::Result {
+                write_text(self.number(), f)
+            }
+        }
+    };
 }
 
-/// Why a file is refused: the first check that it fails.
-#[derive(Clone, Copy, Debug, PartialEq, Eq)]
-#[non_exhaustive]
-pub enum Fault {
-    NotListed,
-    Missing,
-    TooLong,
-    LengthWrong,
-    HashWrong,
-    NoKnownHash,
-    Malformed,
-    Unsigned,
-    VersionWrong,
-    Rollback,
-    Expired,
-    /// A number that this crate doesn't know.
-    Unknown(u32),
+numbers! {
+    /// How a cycle ends: ready, or the step at which it stopped.
+    End:
+    33 Ready,
+    34 Root,
+    35 Timestamp,
+    36 Snapshot,
+    37 Targets,
 }
 
-/// The kind of a verdict, or of a row of a listing.
-#[derive(Clone, Copy, Debug, PartialEq, Eq)]
-#[non_exhaustive]
-pub enum Kind {
+numbers! {
+    /// Why a file is refused: the first check that it fails.
+    Fault:
+    65 NotListed,
+    66 Missing,
+    67 TooLong,
+    68 LengthWrong,
+    69 HashWrong,
+    70 NoKnownHash,
+    71 Malformed,
+    72 Unsigned,
+    73 VersionWrong,
+    74 Rollback,
+    75 Expired,
+}
+
+numbers! {
+    /// The kind of a verdict, or of a row of a listing.
+    Kind:
     /// The file has the length and the digests that a role lists.
-    Accepted,
+    17 Accepted,
     /// No role lists the path.
-    NotFound,
+    18 NotFound,
     /// The search would visit more roles than the limit.
-    LimitReached,
+    19 LimitReached,
     /// The search came to a role whose own file is refused.
-    RoleRefused,
+    20 RoleRefused,
     /// A role lists the path, but its file is refused.
-    FileRefused,
+    21 FileRefused,
     /// The cycle stopped before any search.
-    NotSearched,
+    22 NotSearched,
     /// In a listing: a role lists the path.
-    Listed,
-    /// A number that this crate doesn't know.
-    Unknown(u32),
+    23 Listed,
 }
 
-/// Where a file belongs that is to be fetched.
-#[derive(Clone, Copy, Debug, PartialEq, Eq)]
-#[non_exhaustive]
-pub enum Place {
-    Metadata,
-    Targets,
-    /// A number that this crate doesn't know.
-    Unknown(u32),
+numbers! {
+    /// Where a file belongs that is to be fetched.
+    Place:
+    49 Metadata,
+    50 Targets,
 }
 
 /// A target file by its length in bytes and the digests of its bytes. Those that are listed are
@@ -287,7 +319,12 @@ pub fn lms_verify(key: &[u8], message: &[u8], signature: &[u8]) -> Result<bool, 
     Ok(result == 1)
 }
 
-impl Job<'_> {
+impl<'a> Job<'a> {
+    /// Returns a job with no file, and a limit of 32.
+    pub fn new(state: &'a [u8], wanted: &'a [&'a str], moment: u64) -> Job<'a> {
+        Job { state, metadata: &[], targets: &[], digests: &[], wanted, moment, limit: 32 }
+    }
+
     /// Runs one cycle of the client workflow. Fails with the first fault of the job, or `Memory`,
     /// or `Version`.
     pub fn verify(&self) -> Result<Outcome, Error> {
@@ -317,14 +354,14 @@ impl Job<'_> {
             state.truncate(rooms.state_len);
             return Ok(Outcome {
                 status,
-                end: end_of(rooms.end),
+                end: End::of(rooms.end),
                 fault: fault_of(rooms.fault),
                 root_version: rooms.root_version,
                 state,
                 verdicts: verdicts[..rooms.verdict_count]
                     .iter()
                     .map(|row| Verdict {
-                        kind: kind_of(row.kind),
+                        kind: Kind::of(row.kind),
                         fault: fault_of(row.fault),
                         length: row.length,
                         role: cut(&names, row.role_at, row.role_len),
@@ -378,14 +415,14 @@ impl Job<'_> {
             state.truncate(rooms.state_len);
             return Ok(Listing {
                 status,
-                end: end_of(rooms.end),
+                end: End::of(rooms.end),
                 fault: fault_of(rooms.fault),
                 root_version: rooms.root_version,
                 state,
                 listed: rows[..rooms.verdict_count]
                     .iter()
                     .map(|row| Listed {
-                        kind: kind_of(row.kind),
+                        kind: Kind::of(row.kind),
                         fault: fault_of(row.fault),
                         length: row.length,
                         role: cut(&names, row.role_at, row.role_len),
@@ -419,13 +456,13 @@ impl Job<'_> {
             };
             return Ok(Needs {
                 status,
-                end: end_of(rooms.end),
+                end: End::of(rooms.end),
                 fault: fault_of(rooms.fault),
                 root_version: rooms.root_version,
                 files: rows[..rooms.verdict_count]
                     .iter()
                     .map(|row| Need {
-                        place: place_of(row.place),
+                        place: Place::of(row.place),
                         name: cut(&names, row.name_at, row.name_len),
                         most: row.most,
                         optional: row.optional == 1,
@@ -521,36 +558,16 @@ fn status_of(result: i32) -> Result<Option<Status>, Error> {
     }
 }
 
-fn end_of(number: u32) -> End {
-    match number {
-        33 => End::Ready,
-        34 => End::Root,
-        35 => End::Timestamp,
-        36 => End::Snapshot,
-        37 => End::Targets,
-        _ => End::Unknown(number),
-    }
+/// Writes the library's text of a number, with the number if it has none.
+fn write_text(number: u32, f: &mut fmt::Formatter<'_>) -> fmt::Result {
+    // The library's numbers are of C's int32_t, and the texts stay as long as it is loaded.
+    let text = unsafe { CStr::from_ptr(c::tufcheck_text(number as i32)) }.to_string_lossy();
+    f.write_str(&text)?;
+    if text == "unknown number" { write!(f, " {number}") } else { Ok(()) }
 }
 
-fn kind_of(number: u32) -> Kind {
-    match number {
-        17 => Kind::Accepted,
-        18 => Kind::NotFound,
-        19 => Kind::LimitReached,
-        20 => Kind::RoleRefused,
-        21 => Kind::FileRefused,
-        22 => Kind::NotSearched,
-        23 => Kind::Listed,
-        _ => Kind::Unknown(number),
-    }
-}
-
-fn place_of(number: u32) -> Place {
-    match number {
-        49 => Place::Metadata,
-        50 => Place::Targets,
-        _ => Place::Unknown(number),
-    }
+fn fault_of(number: u32) -> Option<Fault> {
+    (number != 0).then(|| Fault::of(number))
 }
 
 fn source_of(number: u32, at: usize) -> Option<Source> {
@@ -562,33 +579,15 @@ fn source_of(number: u32, at: usize) -> Option<Source> {
     })
 }
 
-fn fault_of(number: u32) -> Option<Fault> {
-    Some(match number {
-        0 => return None,
-        65 => Fault::NotListed,
-        66 => Fault::Missing,
-        67 => Fault::TooLong,
-        68 => Fault::LengthWrong,
-        69 => Fault::HashWrong,
-        70 => Fault::NoKnownHash,
-        71 => Fault::Malformed,
-        72 => Fault::Unsigned,
-        73 => Fault::VersionWrong,
-        74 => Fault::Rollback,
-        75 => Fault::Expired,
-        _ => Fault::Unknown(number),
-    })
-}
-
 #[cfg(test)]
 mod tests {
     use super::*;
 
     #[test]
     fn numbers_are_those_of_the_header() {
-        assert_eq!([33, 34, 37].map(end_of), [End::Ready, End::Root, End::Targets]);
-        assert_eq!([17, 22, 23].map(kind_of), [Kind::Accepted, Kind::NotSearched, Kind::Listed]);
-        assert_eq!([49, 50].map(place_of), [Place::Metadata, Place::Targets]);
+        assert_eq!([33, 34, 37].map(End::of), [End::Ready, End::Root, End::Targets]);
+        assert_eq!([17, 22, 23].map(Kind::of), [Kind::Accepted, Kind::NotSearched, Kind::Listed]);
+        assert_eq!([49, 50].map(Place::of), [Place::Metadata, Place::Targets]);
         assert_eq!([65, 75].map(fault_of), [Some(Fault::NotListed), Some(Fault::Expired)]);
         assert_eq!(fault_of(0), None);
         assert_eq!(source_of(81, 2), Some(Source::Targets(2)));
@@ -601,9 +600,15 @@ mod tests {
     #[test]
     fn unknown_numbers_are_unknown() {
         for number in [0, 1, 2, 76, u32::MAX] {
-            assert_eq!(end_of(number), End::Unknown(number));
-            assert_eq!(kind_of(number), Kind::Unknown(number));
-            assert_eq!(place_of(number), Place::Unknown(number));
+            assert_eq!(End::of(number), End::Unknown(number));
+            assert_eq!(Kind::of(number), Kind::Unknown(number));
+            assert_eq!(Place::of(number), Place::Unknown(number));
+        }
+        for number in 0..=99 {
+            assert_eq!(End::of(number).number(), number);
+            assert_eq!(Kind::of(number).number(), number);
+            assert_eq!(Place::of(number).number(), number);
+            assert_eq!(Fault::of(number).number(), number);
         }
         assert_eq!(fault_of(76), Some(Fault::Unknown(76)));
         assert_eq!(source_of(83, 1), Some(Source::Unknown(83)));
