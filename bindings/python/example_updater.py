@@ -24,7 +24,7 @@ import shutil
 import sys
 import tempfile
 import time
-from typing import Dict, List, Union
+from typing import BinaryIO, Dict, List, Optional, Union
 
 import tufcheck
 
@@ -43,7 +43,7 @@ class Fetcher:
     def __init__(self, repository: pathlib.Path, downloads: pathlib.Path) -> None:
         self.repository = repository
         self.downloads = downloads
-        self.places: Dict[str, pathlib.Path] = {}
+        self.places: Dict[Optional[str], pathlib.Path] = {}
 
     def __call__(self, need: tufcheck.Need) -> Union[bytes, tufcheck.Digests, None]:
         folder = "metadata" if need.place is tufcheck.Place.METADATA else "targets"
@@ -62,7 +62,7 @@ class Fetcher:
                 return file.read(need.most + 1)
             return self.download(file, need)
 
-    def download(self, file, need: tufcheck.Need) -> tufcheck.Digests:
+    def download(self, file: BinaryIO, need: tufcheck.Need) -> tufcheck.Digests:
         sha256, sha512, length = hashlib.sha256(), hashlib.sha512(), 0
         place = self.downloads / str(len(self.places))
         with place.open("wb") as out:

@@ -36,7 +36,16 @@ __all__ = [
 ]
 
 
-class _Number(enum.IntEnum):
+class _Worded(enum.IntEnum):
+    """A number that the library has a text of."""
+
+    @property
+    def text(self) -> str:
+        """The library's text, in English. Raises `LibraryError`."""
+        return str(_library().tufcheck_text(self), "ascii")
+
+
+class _Number(_Worded):
     """A number of the library. One that this module doesn't know, as a library of a later version
     may have, is a value ``UNKNOWN_99``; none means that a target is accepted."""
 
@@ -49,7 +58,7 @@ class _Number(enum.IntEnum):
         return unknown
 
 
-class Status(enum.IntEnum):
+class Status(_Worded):
     """The result of a call."""
 
     GOOD = 0
@@ -254,7 +263,8 @@ class Job:
 
     def verify(self) -> Outcome:
         """Runs one cycle of the client workflow. Raises `StateError`, `TextError`, `MomentError`,
-        `LimitError`, `LibraryError` or `MemoryError`."""
+        `LimitError`, `LibraryError` or `MemoryError`, and `ValueError` for a digest of another length
+        than its own."""
         rooms = _Rooms(self._state_room(), len(self.wanted), 64, 4096)
         while True:
             state, names = _buffer(rooms.state), _buffer(rooms.names)
@@ -266,11 +276,13 @@ class Job:
                 break
             rooms = _Rooms.of(answer.summary)
         found, text = answer.summary, names.raw
+        files = {_IN_TARGETS: list(self.targets), _IN_DIGESTS: list(self.digests)}
         return Outcome(
             status, End(found.end), _fault(found.fault), found.root_version,
             state.raw[: found.state_len],
             {path: Verdict(Kind(row.kind), _fault(row.fault), row.length,
-                           _cut(text, row.role_at, row.role_len), self._file(row))
+                           _cut(text, row.role_at, row.role_len),
+                           files[row.source][row.file_at] if row.source in files else None)
              for path, row in zip(self.wanted, verdicts)},
             {_cut(text, row.name_at, row.name_len): row.version
              for row in roles[: found.role_count]})
@@ -316,10 +328,6 @@ class Job:
                   bool(row.optional))
              for row in rows[: found.verdict_count]])
 
-    def _file(self, row: _Verdict) -> Optional[str]:
-        files = {_IN_TARGETS: self.targets, _IN_DIGESTS: self.digests}.get(row.source)
-        return None if files is None else list(files)[row.file_at]
-
     def _state_room(self) -> int:
         # A guess: a state has files of the job in hexadecimal, or those of the state before.
         return len(self.state) + 2 * sum(map(len, self.metadata.values())) + 64
@@ -360,8 +368,9 @@ def first(root: bytes) -> bytes:
 def lms_verify(key: bytes, message: bytes, signature: bytes) -> bool:
     """Whether an LMS signature of a message is valid for a public key of 56 bytes (RFC 8554). Raises
     `LibraryError`."""
-    return _library().tufcheck_lms_verify(key, len(key), message, len(message), signature,
-                                          len(signature)) == 1
+    result = _library().tufcheck_lms_verify(key, len(key), message, len(message), signature,
+                                            len(signature))
+    return bool(result == 1)
 
 
 def fetch_all(job: Job, fetch: Callable[[Need], Union[bytes, Digests, None]]) -> List[Need]:
@@ -484,7 +493,7 @@ class _Rooms:
         return _Rooms(needed.state_len, needed.verdict_count, needed.role_count, needed.name_len)
 
 
-def _buffer(size: int) -> _c.Array:
+def _buffer(size: int) -> _c.Array[_c.c_char]:
     return _c.create_string_buffer(size + 1)
 
 
@@ -499,12 +508,14 @@ def _text(name: str) -> _Bytes:
         raise TextError(_FAULTS[-3][1]) from None
 
 
-def _files(files: Mapping[str, bytes]) -> _c.Array:
+def _files(files: Mapping[str, bytes]) -> _c.Array[_File]:
     return (_File * len(files))(*(_File(_text(name), _bytes(data))
                                   for name, data in files.items()))
 
 
-def _digest(digest: Optional[bytes], size: int) -> _c.Array:
+def _digest(digest: Optional[bytes], size: int) -> _c.Array[_c.c_uint8]:
+    if digest is not None and len(digest) != size:
+        raise ValueError(f"a digest of {len(digest)} bytes, not {size}")
     return (_c.c_uint8 * size).from_buffer_copy(bytes(size) if digest is None else digest)
 
 
@@ -549,6 +560,7 @@ def _declare(library: _c.CDLL) -> None:
     library.tufcheck_list.argtypes = [_c.POINTER(_Job), _c.POINTER(_Listing)]
     library.tufcheck_verify.argtypes = [_c.POINTER(_Job), _c.POINTER(_Answer)]
     library.tufcheck_lms_verify.argtypes = [_c.c_char_p, size] * 3
+    library.tufcheck_text.argtypes, library.tufcheck_text.restype = [_c.c_int32], _c.c_char_p
     for call in (library.tufcheck_first, library.tufcheck_next, library.tufcheck_list,
                  library.tufcheck_verify, library.tufcheck_lms_verify):
         call.restype = _c.c_int32
