@@ -1,16 +1,17 @@
 #!/usr/bin/env python3
-"""Verifies drawn repositories by the program, by the library from Python and by the library from C, and compares them.
+"""Verifies drawn repositories by the program and by the library from Python and other languages, and compares them.
 
-  compare.py PROGRAM LINES COUNT [SEED]
+  compare.py PROGRAM COUNT SEED LANGUAGE=LINES..
 
 The histories are those of second.py: three states each, most of them damaged. Often the paths that are accepted are the
 wanted ones, so that some repositories are good. TUFCHECK_LIBRARY names the library, and
-PYTHONPATH has its module and second.py; LINES is the program that library.sh compiles of lines.c. The lines, the status
-and the new state must be the same, and so must be
+PYTHONPATH has its module and second.py; each LINES is a program that library.sh compiles of lines.c, lines.rs or lines.go.
+The lines, the status and the new state must be the same, and so must be
 
   - the outcome with target files given by length and digests, all or some;
   - the outcome after `fetch_all` into an empty job, which asks for no file twice;
-  - the listing's state and end, and what it lists beside the verdicts.
+  - the listing's state and end, and what it lists beside the verdicts;
+  - what each language writes of the listing, and of the files that are needed with these target files and without any.
 
 The last lines count the statuses and the ends. A history that differs is printed, and the status is then 1.
 """
@@ -29,7 +30,8 @@ import tufcheck
 from tufcheck import Digests, Fault, Kind, Place, Status
 
 SECONDS = 1_767_225_600
-PROGRAM, LINES = (os.path.abspath(word) for word in sys.argv[1:3])
+PROGRAM = os.path.abspath(sys.argv[1])
+LINES = {name: os.path.abspath(lines) for name, lines in (word.split("=", 1) for word in sys.argv[4:])}
 WORDS = {fault: "".join(part.title() for part in fault.name.split("_")) for fault in Fault}
 KINDS = {Kind.NOT_FOUND: "NotFound", Kind.LIMIT_REACHED: "LimitReached", Kind.NOT_SEARCHED: "NotSearched"}
 
@@ -46,6 +48,24 @@ def lines(outcome):
             yield f"no {quoted(path)} {WORDS[row.fault]} {quoted(row.role)}"
         else:
             yield f"no {quoted(path)} {WORDS[row.fault] if row.fault else KINDS[row.kind]}"
+
+
+def cycle(call, it):
+    return f"{call}: {int(it.status)}, {it.end.text}, {it.fault.text if it.fault else 'no fault'}, {it.root_version}"
+
+
+def more(job):
+    """The lines of a listing, and of what is needed with the job's target files and without any."""
+    listing = job.list()
+    yield cycle("list", listing)
+    for path, row in listing.listed.items():
+        fault = row.fault.text if row.fault else "no fault"
+        hashes = " ".join(it.hex() if it else "-" for it in (row.sha256, row.sha512))
+        yield f"{quoted(path)} {row.kind.text}, {fault}, {row.length} {quoted(row.role)}{quoted(row.name)} {hashes}"
+    for needs in (job.next(), dataclasses.replace(job, targets={}).next()):
+        yield cycle("next", needs)
+        for row in needs.files:
+            yield f"{row.place.text} {quoted(row.name)} {row.most} {int(row.optional)}"
 
 
 def digests(data):
@@ -92,10 +112,16 @@ def compared(case):
     outcome = job.verify()
     if said != (list(lines(outcome)), outcome.status, outcome.state):
         return f"program {said[:2]}\nPython {brief(outcome)}", outcome
-    ran = subprocess.run([LINES, "state", "metadata", "targets", str(SECONDS), str(limit), "in_c", *wanted], cwd=folder,
-                         capture_output=True, check=False)
-    if said != (ran.stdout.decode().splitlines(), ran.returncode, common.read(f"{folder}/in_c")):
-        return f"program {said[:2]}\nC {ran.stdout.decode().splitlines()} {ran.returncode}", outcome
+    beside = list(more(job))
+    for name, program in LINES.items():
+        ran = subprocess.run([program, "state", "metadata", "targets", str(SECONDS), str(limit), "own", *wanted], cwd=folder,
+                             capture_output=True, check=False)
+        if said != (ran.stdout.decode().splitlines(), ran.returncode, common.read(f"{folder}/own")):
+            return f"program {said[:2]}\n{name} {ran.stdout.decode().splitlines()} {ran.returncode} {ran.stderr}", outcome
+        others = common.read(f"{folder}/own.more").decode().splitlines()
+        if others != beside:
+            return f"Python {beside}\n{name} {others}", outcome
+        os.remove(f"{folder}/own")
     measured = {name: digests(data) for name, data in targets.items() if draw.random() < 0.8}
     others = {name: b"other" if name in measured else data for name, data in targets.items()}
     by_digests = tufcheck.Job(state, wanted, SECONDS, metadata, others, measured, limit).verify()
@@ -157,11 +183,12 @@ def lived(seed):
 
 
 def main():
-    count, seed = int(sys.argv[3]), int((sys.argv + ["1"] * 5)[4] if len(sys.argv) > 4 else "1")
+    count, seed = int(sys.argv[2]), int(sys.argv[3])
     total, status = second.all_lived(lived, count, seed)
     runs = sum(times for words, times in total.items() if words.startswith("status"))
     good = total[f"status {int(Status.GOOD)}"]
-    print(f"{count} histories, {runs} repositories, {good} of them good: {'some differ' if status else 'none differs'}")
+    languages = ", ".join(["Python", *LINES])
+    print(f"{count} histories, {runs} repositories, {good} of them good, by {languages}: {'some differ' if status else 'none differs'}")
     return status or good == 0
 
 

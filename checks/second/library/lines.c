@@ -1,5 +1,6 @@
 /* Prints the lines of `tufcheck verify` by the library: lines STATE METADATA TARGETS SECONDS LIMIT OUT PATH..
- * The new state goes to the file OUT. The status is the program's. */
+ * The new state goes to the file OUT, and to OUT.more what is listed, and what is needed with these target files and without
+ * any. The status is the program's. */
 #include "files.h"
 
 #include <inttypes.h>
@@ -33,15 +34,20 @@ static void forget(tufcheck_answer *answer)
     free(answer->names);
 }
 
-static void quoted(const uint8_t *name, size_t len)
+static void put_quoted(FILE *out, const uint8_t *name, size_t len)
 {
-    putchar('"');
+    fputc('"', out);
     for (size_t i = 0; i < len; i++)
         if (name[i] >= 0x20 && name[i] <= 0x7e && name[i] != '"' && name[i] != '\\')
-            putchar(name[i]);
+            fputc(name[i], out);
         else
-            printf("\\x%02x", name[i]);
-    putchar('"');
+            fprintf(out, "\\x%02x", name[i]);
+    fputc('"', out);
+}
+
+static void quoted(const uint8_t *name, size_t len)
+{
+    put_quoted(stdout, name, len);
 }
 
 /* Whether the verdict names a file of the job, whose length is that of an accepted target. */
@@ -86,6 +92,83 @@ static void print_all(const tufcheck_job *job, const tufcheck_answer *answer)
         print_verdict(job, job->wanted[i], &answer->verdicts[i], answer->names);
 }
 
+/* The texts of a cycle, whose numbers are those of the call's family. */
+static void print_cycle(FILE *out, const char *call, int32_t result, const tufcheck_summary *summary)
+{
+    fprintf(out, "%s: %" PRId32 ", %s, %s, %" PRIu64 "\n", call, result, tufcheck_text((int32_t)summary->end),
+            tufcheck_text((int32_t)summary->fault), summary->root_version);
+}
+
+static void print_digest(FILE *out, int is_listed, const uint8_t *digest, size_t len)
+{
+    fputc(' ', out);
+    if (!is_listed)
+        fputc('-', out);
+    for (size_t i = 0; is_listed && i < len; i++)
+        fprintf(out, "%02x", digest[i]);
+}
+
+static int print_listing(FILE *out, const tufcheck_job *job)
+{
+    tufcheck_listing listing = {.size = sizeof listing};
+    int32_t result = tufcheck_list(job, &listing);
+    if (result != TUFCHECK_NO_ROOM)
+        return 0;
+    listing.state = room(listing.state_room = listing.summary.state_len);
+    listing.rows = room((listing.row_room = listing.summary.verdict_count) * sizeof *listing.rows);
+    listing.names = room(listing.name_room = listing.summary.name_len);
+    result = tufcheck_list(job, &listing);
+    print_cycle(out, "list", result, &listing.summary);
+    for (size_t i = 0; i < listing.summary.verdict_count; i++) {
+        const tufcheck_listed *row = &listing.rows[i];
+        put_quoted(out, job->wanted[i].data, job->wanted[i].len);
+        fprintf(out, " %s, %s, %" PRIu64 " ", tufcheck_text((int32_t)row->kind), tufcheck_text((int32_t)row->fault), row->length);
+        put_quoted(out, listing.names + row->role_at, row->role_len);
+        put_quoted(out, listing.names + row->name_at, row->name_len);
+        print_digest(out, row->has_sha256, row->sha256, sizeof row->sha256);
+        print_digest(out, row->has_sha512, row->sha512, sizeof row->sha512);
+        fputc('\n', out);
+    }
+    free(listing.state);
+    free(listing.rows);
+    free(listing.names);
+    return 1;
+}
+
+static int print_needs(FILE *out, const tufcheck_job *job)
+{
+    tufcheck_needs needs = {.size = sizeof needs};
+    int32_t result = tufcheck_next(job, &needs);
+    if (result < 0 && result != TUFCHECK_NO_ROOM)
+        return 0;
+    needs.rows = room((needs.row_room = needs.summary.verdict_count) * sizeof *needs.rows);
+    needs.names = room(needs.name_room = needs.summary.name_len);
+    result = tufcheck_next(job, &needs);
+    print_cycle(out, "next", result, &needs.summary);
+    for (size_t i = 0; i < needs.summary.verdict_count; i++) {
+        const tufcheck_need *row = &needs.rows[i];
+        fprintf(out, "%s ", tufcheck_text((int32_t)row->place));
+        put_quoted(out, needs.names + row->name_at, row->name_len);
+        fprintf(out, " %" PRIu64 " %d\n", row->most, row->optional);
+    }
+    free(needs.rows);
+    free(needs.names);
+    return 1;
+}
+
+/* Writes what is listed, and what is needed with the job's target files and without any. */
+static int write_more(const char *name, const tufcheck_job *job)
+{
+    char *path = room(strlen(name) + strlen(".more"));
+    FILE *out = fopen(strcat(strcpy(path, name), ".more"), "wb");
+    tufcheck_job bare = *job;
+    bare.targets = NULL;
+    bare.target_count = 0;
+    int holds = out != NULL && print_listing(out, job) && print_needs(out, job) && print_needs(out, &bare);
+    free(path);
+    return holds && fclose(out) == 0;
+}
+
 int main(int argc, char **argv)
 {
     char *words[256];
@@ -110,5 +193,7 @@ int main(int argc, char **argv)
     FILE *out = fopen(argv[6], "wb");
     if (out == NULL || fwrite(answer.state, 1, answer.summary.state_len, out) != answer.summary.state_len || fclose(out))
         return 4;
+    if (!write_more(argv[6], &job))
+        return 5;
     return result;
 }
