@@ -10,7 +10,7 @@
 # target of a repository that checks/tuf.py signs, and refuses a damaged one. Last, the packages are removed again.
 #
 # Needs debootstrap, python3, the superuser and a mirror. The status is 1 where something failed, and 2 if there is no such
-# Debian. On a busy machine debootstrap takes eleven minutes, and the rest nine.
+# Debian. On a busy machine debootstrap takes eleven minutes, and the rest eight.
 . "$(dirname "$0")/tried.sh" || exit 1
 suite=${1:-bookworm} from=$(realpath -m "${2:-$top/dist/out}")
 version=$(sed -n 's/^version=//p' "$top/dist/package-dev.sh")
