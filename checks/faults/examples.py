@@ -137,8 +137,8 @@ def updaters(library, work):
              crates / "tufcheck/examples/updater.rs"])):
         found["Rust"] = [rust]
     flags = {"CGO_CFLAGS": f"-I{TOP}/bindings/c", "CGO_LDFLAGS": f"-L{library} -Wl,-rpath,{library}", "GOPROXY": "off"}
-    if built(["go", "build", "-o", f"{work}/updater_go", "./updater"], "Go", cwd=TOP / "bindings/go/tufcheck",
-             env={**os.environ, **flags}):
+    if built(["go", "build", "-buildvcs=false", "-o", f"{work}/updater_go", "./updater"], "Go",
+             cwd=TOP / "bindings/go/tufcheck", env={**os.environ, **flags}):
         found["Go"] = [f"{work}/updater_go"]
     found["Python"] = [sys.executable, str(TOP / "bindings/python/example_updater.py")]
     os.environ.update(TUFCHECK_LIBRARY=str((library / "libtufcheck.so.1").resolve()), PYTHONDONTWRITEBYTECODE="1",
