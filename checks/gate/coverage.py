@@ -8,7 +8,8 @@ through others. Functions are told apart by file and line: a call is taken to be
 has itself, or that alone has the name, and else of none. Functions that only borrow, wrap or copy a value, in one
 expression of at most five lines and with no call of another function of the crate, are left out. Beside each function
 it names an edit of `checks/bodies` that is in it, if there is one. With `--all` it prints the functions that have an
-edit too, each with the first one. It takes a second, and exits with status 1 if TESTS doesn't name one without an edit.
+edit too, each with the first one. It takes a second, and exits with status 1 if TESTS doesn't name one that no edit of
+either is in.
 """
 import re
 import sys
@@ -135,7 +136,7 @@ def main():
     every, missing, page = "--all" in sys.argv[1:], [], PAGE.read_text()
     for line in (TOP / "crates.txt").read_text().split("\n"):
         name = re.match(r"\w*", line)[0]
-        if not name or not (TOP / "crates" / name / "must-fail").is_dir():
+        if not name or not (TOP / "checks" / "bodies" / name).is_dir():
             continue
         crate = Crate(TOP / "crates" / name)
         gate = list(crate.edits(crate.folder / "must-fail"))
@@ -149,7 +150,7 @@ def main():
                     print(f"{name}::{function.title()}: {edit}")
                 continue
             body = first_in(bodies, reached)
-            told = re.search(rf"`(?:\w+::)?{re.escape(function.title())}`|`{function.name}`", page)
+            told = body or re.search(rf"`(?:\w+::)?{re.escape(function.title())}`|`{function.name}`", page)
             print(f"{name}::{function.title()}: {body or 'none'}{'' if told else ', not in TESTS'}")
             if not told:
                 missing.append(function)
