@@ -41,6 +41,8 @@ holds bindings/rust/tufcheck/Cargo.toml "tufcheck-sys = { path = \"../tufcheck-s
 names bindings/python/pyproject.toml "version = \"$version\""
 holds crates/tufcheck_c/src/version.rt "/// The version $version."
 names docs/tufcheck.1 ".TH TUFCHECK 1 \"\" \"tufcheck $version\""
+names docs/lmskey.1 ".TH LMSKEY 1 \"\" \"lmskey $version\""
+holds crates/lmskey/src/words.rt ".version(\"$version\")"
 names docs/FORMATS.md "- Implementation Version: $version"
 holds docs/USERS.md "tufcheck_${version}_amd64.deb"
 holds docs/USERS.md "tufcheck-$version-x86_64-linux.tar.gz"
