@@ -3,7 +3,7 @@
 
   checks/faults/lmskey.py [KILLS [HISTORIES]]      1,000 and 200 unless given
 
-In turn: what is printed and stored, and each refusal; each file call of `new`, `sign` and `restore` failing, and the process
+In turn: what is printed and stored, and each refusal; each file call of `new` and `sign` failing, and the process
 ended before and after each of them; runs that are killed KILLS times at a random moment; runs beside one another; and
 HISTORIES drawn histories, each of a key of its own: signing, ends at drawn calls, lost leaves files that are restored from
 the log. After each, all signatures that are there are by different leaves, each leaf is below the number in the leaves file,
