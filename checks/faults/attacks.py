@@ -384,6 +384,80 @@ def link_to_the_state_made_meanwhile(room):
     over_the_state(room, ["rename:s"])
 
 
+def swapped(room, path):
+    """The copies of two targets have each the other's bytes."""
+    room.at("out/a").write_bytes(b"bcd")
+    path.write_bytes(b"abd")
+
+
+# What is done to a copy between two runs over an unchanged mirror, after which it has to be written anew.
+CHANGES = {
+    "shorter": lambda room, path: path.write_bytes(b"ab"),
+    "longer": lambda room, path: path.write_bytes(b"abcd"),
+    "empty": lambda room, path: path.write_bytes(b""),
+    "another-first-byte": lambda room, path: path.write_bytes(b"bbc"),
+    "another-last-byte": lambda room, path: path.write_bytes(b"abd"),
+    "bytes-of-another-target": swapped,
+    "gone": lambda room, path: path.unlink(),
+    "a-link-to-the-same-bytes": lambda room, path: path.rename(room.at("there")) and path.symlink_to(room.at("there")),
+    "with-another-name": lambda room, path: room.at("there").hardlink_to(path),
+    "a-pipe": lambda room, path: path.unlink() or os.mkfifo(path),
+}
+
+
+def copy_that_changed(change):
+    def act(room):
+        targets = {"abc.txt": b"abc", "a": b"abd"}
+        room.make("repo", targets)
+        for number in range(2):
+            ran = room.verify("repo", *targets, into="out")
+            need(ran.status == 0, ran)
+            if number == 0:
+                change(room, room.at("out/abc.txt"))
+        for path, content in targets.items():
+            found = os.lstat(room.at("out", path))
+            need(stat.S_ISREG(found.st_mode) and found.st_nlink == 1, f"{path} is a link, or no plain file: {ran}")
+            need(room.read(f"out/{path}") == content, f"{path} has {room.read(f'out/{path}')}: {ran}")
+        need(not left(room), left(room))
+    return act
+
+
+for name, change in CHANGES.items():
+    attack(f"folder/copy-that-is-{name}")(copy_that_changed(change))
+
+
+def copies_left_alone(room):
+    """A second run over an unchanged mirror writes, flushes and renames no copy, and keeps its mode. What a killed run left
+    is removed."""
+    if not shutil.which("strace"):
+        raise NotTried("strace is missing")
+    room.make("repo", PIECES)
+    need(room.verify("repo", *PIECES, into="out").status == 0, "the repository isn't accepted")
+    room.at("out/abc.txt").chmod(0o640)
+    room.at("out/.tufcheck.1.new").mkdir(0o700)
+    room.at("out/.tufcheck.1.new/1").write_bytes(b"ab")
+    before = {path: os.lstat(room.at("out", path)) for path in PIECES}
+    calls = "trace=fsync,fdatasync,syncfs,rename,renameat,renameat2,write,open,openat,creat"
+    traced = ["strace", "-f", "-y", "-e", calls, "-o", "trace", *room.words("repo", *PIECES, into="out")]
+    ran = Ran(traced, room.path, ASAN_OPTIONS="detect_leaks=0")
+    if ran.status != 0 and "ptrace" in ran.error:
+        raise NotTried(ran.error.strip())
+    need(ran.status == 0 and ran.lines.count("ok ") == len(PIECES), ran)
+    out = re.escape(os.path.realpath(room.at("out")))
+    files = "|".join(map(re.escape, PIECES))
+    touched = re.compile(rf"(?:write|f\w*sync)\(\d+<{out}/(?:{files})>|rename.*\bout/|O_(?:WRONLY|RDWR|CREAT|TRUNC).*\bout/(?:{files})")
+    made = [line for line in room.read("trace").decode().splitlines() if touched.search(line)]
+    need(not made, f"a copy was written: {made[:3]}")
+    for path, was in before.items():
+        now = os.lstat(room.at("out", path))
+        need((now.st_ino, now.st_mtime_ns, now.st_mode) == (was.st_ino, was.st_mtime_ns, was.st_mode), f"{path} was written")
+        need(room.read(f"out/{path}") == PIECES[path], f"{path} has other bytes")
+    need(not left(room), f"{left(room)} is left")
+
+
+attack("folder/unchanged-copies-written")(copies_left_alone)
+
+
 # Another user, who may read and write what everybody may.
 
 

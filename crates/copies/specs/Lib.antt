@@ -1,1 +1,2 @@
+pub mod Open
 pub mod Paths

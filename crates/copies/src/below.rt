@@ -2,9 +2,11 @@
 
 ghost use Rattle.std.specs.Prelude.{◌≡◌, false, is_none, is_some, string_bytes, true};
 ghost use Rattle.std.specs.Option.{option_map_or};
+ghost use Rattle.copies.specs.Open as spec;
 
 use crate::destination::Destination;
-use crate::temporary::{Own, own_folder};
+use crate::standing::{Compared, open_plain};
+use crate::temporary::{Own, own_folder, remove_leftovers};
 use folder::{Sink, path_below};
 use std::alloc::{AllocError, Global};
 use std::collections::BTreeSet;
@@ -28,34 +30,51 @@ pub struct Below<'a, R: Files> {
     count: u64,
     /// Whether the folders of the copies are flushed.
     is_flushed: bool,
+    /// Whether the folders that ended runs have left were removed.
+    is_cleared: bool,
 }
 
-/// A temporary file of the file system.
+/// An open file: one that is written, or one that is there and is compared.
 #[derive(Drop)]
-pub struct NewFile<F: OwnFile> {
+enum Open<F> {
+    Written(F),
+    Compared(F),
+}
+
+/// A temporary file of the file system, or a copy that is there already.
+#[derive(Drop)]
+pub struct NewFile<F: OwnFile + Compared> {
+    alloc: Global,
     path: String,
-    /// The open file, until it was written or a piece of it couldn't be.
-    file: Option<F>,
+    /// The open file, until it was closed, a piece of it couldn't be written, or it was seen to
+    /// have other bytes.
+    file: Option<Open<F>>,
     /// What is left of it once it was written.
     closed: Option<F::Closed>,
+    /// What is left of it once it was seen to have the same bytes.
+    whole: Option<F::Whole>,
 }
 
-impl<F: OwnFile + Drop> Sink for NewFile<F> {
-    ghost took = { λ f bytes. option_map_or (λ w. F.has w bytes) f.file true };
+impl<F: OwnFile + Compared + Drop> Sink for NewFile<F> {
+    ghost took = { λ f bytes. option_map_or (λ o. spec.took F.has F.began o bytes) f.file true };
 
     fn take(&mut self, piece: &[u8]) {
-        if let Some(file) = &mut self.file {
-            if file.add(piece).is_err() {
-                self.file = None;
-            }
+        let goes_on = match &mut self.file {
+            None => true,
+            Some(Open::Written(file)) => file.add(piece).is_ok(),
+            Some(Open::Compared(file)) => matches!(file.goes_on(self.alloc, piece), Ok(true)),
+        };
+        if !goes_on {
+            self.file = None;
         }
     }
 }
 
-impl<F: OwnFile + Drop> Temporary for NewFile<F> {
+impl<F: OwnFile + Compared + Drop> Temporary for NewFile<F> {
     ghost is_lost = { λ f. is_none f.file };
 
-    ghost wrote = { λ f bytes. option_map_or (λ c. F.Closed.has c bytes) f.closed false };
+    ghost wrote = { λ f bytes. option_map_or (λ c. F.Closed.has c bytes) f.closed
+        (option_map_or (λ w. F.Whole.has w bytes) f.whole false) };
 
     fn path(&self) -> &str {
         self.path.as_str()
@@ -74,6 +93,7 @@ impl<'a, R: Files> Below<'a, R> {
             own: None,
             count: 0,
             is_flushed: false,
+            is_cleared: false,
         }
     }
 }
@@ -131,7 +151,7 @@ fn lowest_there<R: Files>(rt: &R, alloc: Global, path: &str) -> Result<String, A
 
 impl<'a, R: Files> Destination for Below<'a, R>
 where
-    R::File: OwnFile,
+    R::File: OwnFile + Compared,
 {
     type Temporary = NewFile<R::File>;
 
@@ -162,18 +182,58 @@ where
         let mut file = options.open(self.rt, path.as_str())?;
         file.begin()?;
         Ok(NewFile {
+            alloc,
             path,
-            file: Some(file),
+            file: Some(Open::Written(file)),
             closed: None,
+            whole: None,
         })
     }
 
+    fn standing(
+        &mut self,
+        alloc: Global,
+        path: &str,
+        length: u64,
+    ) -> io::Result<Option<NewFile<R::File>>> {
+        if !self.is_cleared {
+            remove_leftovers(self.rt, alloc, self.folder.as_str())?;
+            self.is_cleared = true;
+        }
+        let path = path_below(alloc, self.folder.as_str(), path)?;
+        let Ok(mut file) = open_plain(self.rt, path.as_str()) else {
+            return Ok(None);
+        };
+        if !matches!(file.may_be(length), Ok(true)) {
+            return Ok(None);
+        }
+        Ok(Some(NewFile {
+            alloc,
+            path,
+            file: Some(Open::Compared(file)),
+            closed: None,
+            whole: None,
+        }))
+    }
+
     fn finish(&mut self, file: &mut NewFile<R::File>) -> io::Result<()> {
-        let Some(open) = file.file.take() else {
+        let Some(Open::Written(written)) = file.file.take() else {
             return Err(io::Error::from(ErrorKind::Other));
         };
-        file.closed = Some(open.close()?);
+        file.closed = Some(written.close()?);
         Ok(())
+    }
+
+    fn is_same(&mut self, file: &mut NewFile<R::File>) -> bool {
+        let Some(Open::Compared(there)) = file.file.take() else {
+            return false;
+        };
+        let Ok(Some(whole)) = there.whole() else {
+            return false;
+        };
+        file.closed = None;
+        file.whole = Some(whole);
+        true
     }
 
     fn place_for(&self, alloc: Global, path: &str) -> io::Result<String> {

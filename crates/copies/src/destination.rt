@@ -1,7 +1,7 @@
 //! The interface of a folder for copies.
 
-ghost use Rattle.std.specs.Prelude.{◌≡◌, ◌≢◌, List, [], ℕ, Bool, true, false, IfErr, IfOk, OnOk};
-ghost use Rattle.std.specs.Prelude.{string_bytes};
+ghost use Rattle.std.specs.Prelude.{◌≡◌, ◌≢◌, List, [], ℕ, Bool, true, false, IfErr, IfOk};
+ghost use Rattle.std.specs.Prelude.{IfSome, OnOk, string_bytes};
 ghost use Rattle.std.specs.IoError.{error_kind};
 ghost use Rattle.copies.specs.Paths.{Site, is_below};
 ghost use Rattle.folder.specs.Folders.{path_below};
@@ -13,7 +13,8 @@ use system::Temporary;
 
 /// A folder for copies of files. Each copy is written to a temporary file, a piece at a time, and
 /// has no path until it is complete. Then it is a [`System`](system::System) that moves it to its
-/// place, which is the one that stores files.
+/// place, which is the one that stores files. A copy that is there already and has the same bytes
+/// stays in its place instead.
 pub trait Destination {
     /// A temporary file.
     type Temporary: Temporary + Drop;
@@ -33,6 +34,28 @@ pub trait Destination {
         ensures empty { IfOk result (λ file. Self.Temporary.took file [] ≡ true) }
         ensures failed { IfErr result (λ e. error_kind e ≢ ErrorKind.OutOfMemory
             → (site self.old).fails ≡ true) }
+        ensures same_site { site self.new ≡ site self.old };
+
+    /// Opens the copy that is there for a path, to be compared with what it takes: it is left as it
+    /// is. Returns None if there is no plain file of that length with this name alone.
+    fn standing(
+        &mut self,
+        alloc: Global,
+        path: &str,
+        length: u64,
+    ) -> io::Result<Option<Self::Temporary>>
+        requires below { is_below path.now ≡ true }
+        ensures empty { IfOk result
+            (λ o. IfSome o (λ file. Self.Temporary.took file [] ≡ true)) }
+        ensures failed { IfErr result (λ e. error_kind e ≢ ErrorKind.OutOfMemory
+            → (site self.old).fails ≡ true) }
+        ensures same_site { site self.new ≡ site self.old };
+
+    /// Ends the comparison of a copy that is there. Returns whether it has the bytes that it was
+    /// compared with, and no more.
+    fn is_same(&mut self, file: &mut Self::Temporary) -> bool
+        ensures whole { result ≡ true → (bytes : List ℕ) → Self.Temporary.took file.old bytes ≡ true
+            → Self.Temporary.wrote file.new bytes ≡ true }
         ensures same_site { site self.new ≡ site self.old };
 
     /// Ends the writing of a temporary file: flushes it to the device. Fails also if a piece

@@ -103,7 +103,7 @@ where
 }
 
 /// Removes the folders of runs that have ended.
-fn remove_leftovers<R: Files>(rt: &R, alloc: Global, folder: &str) -> io::Result<()>
+pub(crate) fn remove_leftovers<R: Files>(rt: &R, alloc: Global, folder: &str) -> io::Result<()>
 where
     R::File: OwnFile,
 {

@@ -67,3 +67,30 @@ fn a_copy_that_cant_be_written_is_an_output_error(rt: HostRuntime) {
         assert!(rt; matches!(copied(&rt, "bb", &mut to), Err(CopyFault::Output)));
     }
 }
+
+#[test]
+fn a_copy_that_is_there_stays_if_it_has_the_same_bytes(rt: HostRuntime) {
+    let mut to = Kept::holding("bb");
+    let copied = copied(&rt, "bb", &mut to).expect(&rt, "copies");
+    assert!(rt; copy_at(&copied, 0) == Some(b"a".as_slice()));
+    assert!(rt; copy_at(&copied, 1) == Some(b"bb".as_slice()));
+    assert!(rt; to.made() == 1 && to.left() == 1);
+}
+
+#[test]
+fn a_copy_that_is_there_is_replaced_if_it_has_other_bytes(rt: HostRuntime) {
+    for there in ["cb", "bc", "b", "bbb", ""] {
+        let mut to = Kept::holding(there);
+        let copied = copied(&rt, "bb", &mut to).expect(&rt, "copies");
+        assert!(rt; copy_at(&copied, 1) == Some(b"bb".as_slice()));
+        assert!(rt; to.made() == 2 && to.left() == 2);
+    }
+}
+
+#[test]
+fn a_copy_that_is_there_is_none_of_a_file_that_is_refused(rt: HostRuntime) {
+    let mut to = Kept::holding("bc");
+    let copied = copied(&rt, "bc", &mut to).expect(&rt, "copies");
+    assert!(rt; copy_at(&copied, 1).is_none());
+    assert!(rt; to.made() == 1 && to.left() == 1);
+}

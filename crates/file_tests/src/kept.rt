@@ -1,6 +1,7 @@
 //! A destination of copies in memory.
 
-ghost use Rattle.std.specs.Prelude.{◌≡◌, ◌&&◌, ◌||◌, bytes_eq, codes, false, nat_lt, not, true};
+ghost use Rattle.std.specs.Prelude.{◌≡◌, ◌&&◌, ◌||◌, [], bytes_eq, codes, false, nat_lt, not};
+ghost use Rattle.std.specs.Prelude.{true};
 
 use copies::Destination;
 use folder::{Sink, path_below};
@@ -8,7 +9,8 @@ use std::alloc::Global;
 use std::io::{self, ErrorKind};
 use system::Temporary;
 
-/// A temporary file in memory. What it was given is known, unless a piece of it was lost.
+/// A temporary file in memory, or a copy that is there. What it was given is known, unless a piece
+/// of it was lost.
 #[derive(Drop)]
 pub struct Piece {
     bytes: Vec<u8>,
@@ -17,6 +19,17 @@ pub struct Piece {
 }
 
 impl Piece {
+    /// Returns a file that was given nothing yet.
+    fn new(alloc: Global) -> Piece
+        ensures empty { result.bytes.items ≡ [] }
+    {
+        Piece {
+            bytes: Vec::new(alloc),
+            is_lost: false,
+            is_ended: false,
+        }
+    }
+
     /// Returns the bytes that it was given.
     pub fn bytes(&self) -> &[u8] {
         self.bytes.as_slice()
@@ -52,6 +65,8 @@ pub struct Kept {
     made: u64,
     left: u64,
     is_flushed: bool,
+    /// The bytes of the copy that is there for each path, if there is one.
+    there: Option<&'static str>,
 }
 
 impl Kept {
@@ -68,7 +83,15 @@ impl Kept {
             made: 0,
             left: 0,
             is_flushed: false,
+            there: None,
         }
+    }
+
+    /// Returns a destination of which no call fails, where each path has a copy of these bytes.
+    pub fn holding(bytes: &'static str) -> Kept {
+        let mut kept = Kept::working();
+        kept.there = Some(bytes);
+        kept
     }
 
     /// Returns how many temporary files were made.
@@ -101,11 +124,27 @@ impl Destination for Kept {
         }
         self.made = self.made.saturating_add(1);
         self.left = self.left.saturating_add(1);
-        Ok(Piece {
-            bytes: Vec::new(alloc),
-            is_lost: false,
-            is_ended: false,
-        })
+        Ok(Piece::new(alloc))
+    }
+
+    fn standing(
+        &mut self,
+        alloc: Global,
+        _path: &str,
+        length: u64,
+    ) -> io::Result<Option<Piece>> {
+        match self.there {
+            Some(bytes) if bytes.len() as u64 == length => Ok(Some(Piece::new(alloc))),
+            _ => Ok(None),
+        }
+    }
+
+    fn is_same(&mut self, file: &mut Piece) -> bool {
+        file.is_ended = match self.there {
+            Some(bytes) => !file.is_lost && file.bytes.as_slice() == bytes.as_bytes(),
+            None => false,
+        };
+        file.is_ended
     }
 
     fn finish(&mut self, file: &mut Piece) -> io::Result<()> {

@@ -4,9 +4,10 @@ use Rattle.std.specs.List.{AllZip}
 use Rattle.deleg.specs.declared.accepted.Search.{Search}
 use Rattle.meta.specs.Content.{content}
 use Rattle.cycle.specs.Workflow.{Target, target_of}
-use Rattle.folder.specs.Measures.{measure_of}
+use Rattle.folder.specs.Measures.{IsMeasureOf, measure_of}
 use Rattle.folder.specs.declared.measure.Measure.{Measure}
 use Rattle.folder.specs.declared.measure.Need.{Need}
+use Rattle.measured.specs.declared.copying.Made.{Made}
 
 -- the bytes have the length and the digests of the target (TUF 1.0 section 5.7)
 abbrev pub IsContentOf : Target → List ℕ → Type 0
@@ -36,3 +37,9 @@ pub record IsMeasuredInto (need : Need) (test : List ℕ → Bool) (took : List 
   pub held : test bytes ≡ true
   pub measure : m ≡ measure_of need bytes
   pub taken : took (take need.up_to bytes) ≡ true
+
+-- A file was measured, of bytes that pass the test. If there is a copy, it has bytes of the target.
+pub record IsMade {K : Type 0} (wrote : K → List ℕ → Bool) (test : List ℕ → Bool) (need : Need)
+    (t : Target) (m : Made K) : Type 0 where
+  pub measured : IsMeasureOf need test m.measure
+  pub copy : IfSome m.copy (λ file. HasContentOf (wrote file) t)

@@ -1,12 +1,13 @@
 //! The end of a course, with copies of the files that its searches found.
 
-ghost use Rattle.std.specs.Prelude.{◌≡◌, ◌≢◌, ◌≤◌, true, List, ℕ, Bool, All, Err, IfErr, IfOk};
-ghost use Rattle.std.specs.Prelude.{IfSome, OnOk, is_some, map, string_bytes};
+ghost use Rattle.std.specs.Prelude.{◌≡◌, ◌≢◌, ◌≤◌, true, List, [], ℕ, Bool, All, Err, IfErr};
+ghost use Rattle.std.specs.Prelude.{IfOk, IfSome, OnOk, is_some, map, string_bytes};
 ghost use Rattle.std.specs.BTreeMap.{get_by_text};
 ghost use Rattle.folder.specs.Folders.{HasFailed, IsSameFolder};
 ghost use Rattle.copies.specs.declared.fault.CopyFault.TheVariants as fault;
 ghost use Rattle.measured.specs.Closed.{HasNamesOf, IsClosed, is_found};
-ghost use Rattle.measured.specs.Copied.{AreCopiesFor, HasContentOf, IsCopyFor, IsMeasuredInto};
+ghost use Rattle.measured.specs.Copied.{AreCopiesFor, HasContentOf, IsCopyFor, IsMade};
+ghost use Rattle.measured.specs.Copied.{IsMeasuredInto};
 ghost use Rattle.measured.specs.Known.{IsCovered, IsKnown, StaysKnown};
 
 use crate::fitting::fits;
@@ -15,13 +16,14 @@ use crate::need::widened;
 use crate::reading::{is_measured, need_of, note_all, read_all, target_of};
 use crate::store::Measured;
 use cjson::NoMemory;
-use copies::{CopyFault, Destination, copy_fault};
+use copies::{CopyFault, Destination, copy_fault, is_below};
 use cycle::{Course, Outcome, Search, Target};
-use folder::{Folder, Measure, Need};
+use folder::{Folder, Measure, Need, Sink};
 use std::alloc::Global;
 
 /// An outcome, and for each wanted path, by position, a temporary file with the bytes of its
-/// target. There is none if the target isn't good, or if an earlier path has it.
+/// target, or the copy that is there and has them. There is none if the target isn't good, or if an
+/// earlier path has it.
 #[derive(Drop)]
 pub struct Copied<K> {
     pub outcome: Outcome,
@@ -30,7 +32,9 @@ pub struct Copied<K> {
 
 /// Ends a course as [`close`](crate::close) does, on one thread, and copies each file that a search
 /// found to a temporary file of `to` while it is read. A copy is left only if it has the length and
-/// the digests of the target that the search found.
+/// the digests of the target that the search found. If the copy that is there has the same bytes,
+/// nothing is written: a file is read a second time only if its copy has the same length and other
+/// bytes.
 ///
 /// Fails with `Folder` if a call of the folder failed, with `Output` if a copy can't be written, or
 /// with `NoMemory`.
@@ -197,26 +201,128 @@ fn copy_file<F: Folder, D: Destination>(
         return Ok(None);
     }
     let need = widened(need_of(entry), target);
-    let (measure, file) = measure_file(alloc, folder, name.as_str(), need, to)?;
+    let reading = Reading {
+        name: name.as_str(),
+        need,
+        target,
+    };
+    let made = make_copy(alloc, folder, &reading, to)?;
+    let Made { measure, copy } = made;
     let wanted = Wanted {
         need,
         measure: Some(measure),
     };
     put(known, name, Some(wanted))?;
-    kept_if(fits(target, need, &measure), to, file)
+    Ok(copy)
 }
 
-/// Measures the file of that name, and copies the bytes that are measured to a temporary file.
+/// A file to be read, what is needed of it, and the target that it should be.
+#[derive(Clone, Copy)]
+struct Reading<'a> {
+    name: &'a str,
+    need: Need,
+    target: &'a Target,
+}
+
+/// The measure of a file, and a copy if the file is the target.
+#[derive(Drop)]
+struct Made<K> {
+    measure: Measure,
+    copy: Option<K>,
+}
+
+/// Reads the file, and returns a copy if it is the target: the one that is there, if it has the
+/// same bytes, or else a temporary file. For that the file is read again: what was there may change
+/// before it is read a second time.
 #[tactic(auto, using(folder::proofs::Sameness::sameness))]
-fn measure_file<F: Folder, D: Destination>(
+fn make_copy<F: Folder, D: Destination>(
     alloc: Global,
     folder: &mut F,
-    name: &str,
-    need: Need,
+    reading: &Reading<'_>,
     to: &mut D,
-) -> Result<(Measure, D::Temporary), CopyFault>
-    ensures given { IfOk result (λ x.
-        IsMeasuredInto need ((F.gives folder.old).holds name.now) (D.Temporary.took x.1) x.0) }
+) -> Result<Made<D::Temporary>, CopyFault>
+    ensures made { IfOk result (IsMade D.Temporary.wrote
+        ((F.gives folder.old).holds reading.now.name.now) reading.now.need
+        reading.now.target.now) }
+    ensures failed { IfErr result (λ e. e ≡ fault.Folder
+        → HasFailed (F.gives folder.old) (F.gives folder.new)) }
+    ensures output { IfErr result (λ e. e ≡ fault.Output → (D.site to.old).fails ≡ true) }
+    ensures same { IsSameFolder (F.gives folder.old) (F.gives folder.new) }
+    ensures same_site { D.site to.new ≡ D.site to.old }
+{
+    if let Some(file) = standing(alloc, reading.target, to)? {
+        if let Some(made) = compared(alloc, folder, reading, to, file)? {
+            return Ok(made);
+        }
+    }
+    written(alloc, folder, reading, to)
+}
+
+/// Opens the copy of the target that is there, if it may be the target by its length.
+fn standing<D: Destination>(
+    alloc: Global,
+    target: &Target,
+    to: &mut D,
+) -> Result<Option<D::Temporary>, CopyFault>
+    ensures empty { IfOk result (λ o. IfSome o (λ file. D.Temporary.took file [] ≡ true)) }
+    ensures output { IfErr result (λ e. e ≡ fault.Output → (D.site to.old).fails ≡ true) }
+    ensures read { result ≢ Err fault.Folder }
+    ensures same_site { D.site to.new ≡ D.site to.old }
+{
+    let path = target.path.as_str();
+    if !is_below(path) {
+        return Ok(None);
+    }
+    match to.standing(alloc, path, target.length.get()) {
+        Ok(file) => Ok(file),
+        Err(error) => Err(copy_fault(&error)),
+    }
+}
+
+/// Reads the file and compares it with the copy that is there. Returns None if the file is the
+/// target and the copy has other bytes.
+#[tactic(auto, using(folder::proofs::Sameness::sameness))]
+fn compared<F: Folder, D: Destination>(
+    alloc: Global,
+    folder: &mut F,
+    reading: &Reading<'_>,
+    to: &mut D,
+    file: D::Temporary,
+) -> Result<Option<Made<D::Temporary>>, CopyFault>
+    requires empty { D.Temporary.took file [] ≡ true }
+    ensures made { IfOk result (λ o. IfSome o (IsMade D.Temporary.wrote
+        ((F.gives folder.old).holds reading.now.name.now) reading.now.need
+        reading.now.target.now)) }
+    ensures failed { IfErr result (λ e. e ≡ fault.Folder
+        → HasFailed (F.gives folder.old) (F.gives folder.new)) }
+    ensures read { result ≢ Err fault.Output }
+    ensures same { IsSameFolder (F.gives folder.old) (F.gives folder.new) }
+    ensures same_site { D.site to.new ≡ D.site to.old }
+{
+    let mut file = file;
+    let measure = measure_file(alloc, folder, reading, &mut file)?;
+    if !fits(reading.target, reading.need, &measure) {
+        let copy = None;
+        return Ok(Some(Made { measure, copy }));
+    }
+    if !to.is_same(&mut file) {
+        return Ok(None);
+    }
+    let copy = Some(file);
+    Ok(Some(Made { measure, copy }))
+}
+
+/// Reads the file and copies it to a temporary one.
+#[tactic(auto, using(folder::proofs::Sameness::sameness))]
+fn written<F: Folder, D: Destination>(
+    alloc: Global,
+    folder: &mut F,
+    reading: &Reading<'_>,
+    to: &mut D,
+) -> Result<Made<D::Temporary>, CopyFault>
+    ensures made { IfOk result (IsMade D.Temporary.wrote
+        ((F.gives folder.old).holds reading.now.name.now) reading.now.need
+        reading.now.target.now) }
     ensures failed { IfErr result (λ e. e ≡ fault.Folder
         → HasFailed (F.gives folder.old) (F.gives folder.new)) }
     ensures output { IfErr result (λ e. e ≡ fault.Output → (D.site to.old).fails ≡ true) }
@@ -227,8 +333,27 @@ fn measure_file<F: Folder, D: Destination>(
         Ok(file) => file,
         Err(error) => return Err(copy_fault(&error)),
     };
-    let measure = folder.measure_into(alloc, name, need, &mut file)?;
-    Ok((measure, file))
+    let measure = measure_file(alloc, folder, reading, &mut file)?;
+    let copy = kept_if(fits(reading.target, reading.need, &measure), to, file)?;
+    Ok(Made { measure, copy })
+}
+
+/// Measures the file, and passes the bytes that are measured on.
+fn measure_file<F: Folder, K: Sink>(
+    alloc: Global,
+    folder: &mut F,
+    reading: &Reading<'_>,
+    sink: &mut K,
+) -> Result<Measure, CopyFault>
+    requires empty { K.took sink.old [] ≡ true }
+    ensures given { IfOk result (IsMeasuredInto reading.now.need
+        ((F.gives folder.old).holds reading.now.name.now) (K.took sink.new)) }
+    ensures failed { IfErr result (λ e. e ≡ fault.Folder
+        → HasFailed (F.gives folder.old) (F.gives folder.new)) }
+    ensures read { result ≢ Err fault.Output }
+    ensures same { IsSameFolder (F.gives folder.old) (F.gives folder.new) }
+{
+    Ok(folder.measure_into(alloc, reading.name, reading.need, sink)?)
 }
 
 /// Ends the writing of the temporary file and returns it, or removes it if it isn't to be kept.

@@ -15,10 +15,11 @@ pub trait Temporary: Sink {
     /// Whether a piece of it couldn't be written.
     ghost is_lost: { Self → Bool };
 
-    /// Whether the bytes are all that it was given, and each of them is on the device.
+    /// Whether the bytes are all that it was given, and each of them is on the device, or was there
+    /// before.
     ghost wrote: { Self → List ℕ → Bool };
 
-    /// Returns the path of the file.
+    /// Returns the path of the file, which may be the one that it is to have.
     fn path(&self) -> &str;
 }
 
@@ -80,9 +81,10 @@ pub trait System {
         ensures same_obstacles { obstacles self.new ≡ obstacles self.old }
         ensures locked { StaysLocked (locks self.old) (locks self.new) };
 
-    /// Moves a temporary file to `path`, in one step, in place of what the path had. On error
-    /// nothing that was stored changes, and nothing at other paths ever does. So it fails if what
-    /// is at `path` is the file that is locked, or the one that was stored by `store`.
+    /// Moves a temporary file to `path`, in one step, in place of what the path had, or leaves it
+    /// there if that is its path. On error nothing that was stored changes, and nothing at other
+    /// paths ever does. So it fails if what is at `path` is the file that is locked, or the one
+    /// that was stored by `store`.
     fn install<K: Temporary>(&mut self, file: &K, path: &str) -> io::Result<()>
         ensures kept { OnOk result ((bytes : List ℕ)
             → K.wrote file.now bytes ≡ true → keeps self.new path.now bytes ≡ true) }

@@ -111,6 +111,9 @@ where
         if is_at_path(&self.stored, path) || self.has_at(path)? {
             return Err(io::Error::from(ErrorKind::AlreadyExists));
         }
+        if file.path() == path {
+            return Ok(());
+        }
         fs::rename(self.rt, file.path(), path)
     }
 

@@ -86,7 +86,22 @@ An old file is replaced, and with it a link, but not the file to which it leads.
   $ has twice/.tufcheck.1.new
   [1]
 
+A copy that is there stays if it has its target's bytes, and no others.
+  $ verify one two --into twice abc.txt
+  root 1
+  end ready
+  ok "abc.txt" 3 "targets"
+  $ same targets/abc.txt twice/abc.txt
+  $ put twice/abc.txt
+  > abd
+  $ verify one two --into twice abc.txt
+  root 1
+  end ready
+  ok "abc.txt" 3 "targets"
+  $ same targets/abc.txt twice/abc.txt
+
 A folder of that name that others may use is no run's: it is not used, and stays.
+  $ remove twice/b
   $ folder twice/.tufcheck.1.new
   $ put twice/.tufcheck.1.new/1
   > left

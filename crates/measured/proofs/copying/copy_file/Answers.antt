@@ -5,10 +5,9 @@ use Rattle.measured.proofs.copying.copy_file.Goals as goal
 
 pub returns-clause-known : goal.returns-clause-known
 returns-clause-known g c = λ names found is known.
-    let given = c.in_ok-measure.ensures.given in
     wanted_more names (g.F.Folder.gives c.args.folder.now).holds found (string_bytes c.args.placed.name) _ c.args.known.now c.put.new.known known c.in_ok-put.ensures.put c.requires.there
     (record {
       is_found = is;
-      measure = subst (λ n. IsMeasureOf c.widened-need.result ((g.F.Folder.gives c.args.folder.now).holds n) c.in_ok-measure.measure) c.as_str-2.ensures.value
-          (given.bytes, given.held, given.measure);
+      measure = subst (λ n. IsMeasureOf c.widened-need.result ((g.F.Folder.gives c.args.folder.now).holds n) c.in_ok-made.made.measure) c.as_str-2.ensures.value
+          c.in_ok-made.ensures.made.measured;
     })
