@@ -122,6 +122,17 @@ def signers(keys):
     check("signers of another role", ("\n".join(lines) + "\n", 1), (ran.stdout, ran.returncode))
 
 
+def many_ids():
+    """Checks that of 66 listed ids 64 have a line, and that an id which is listed twice counts once."""
+    ids = [f"{number:02x}" for number in range(66)]
+    root = tuf.part("root", consistent_snapshot=False, keys={},
+                    roles={role: {"keyids": ids + ids, "threshold": 1} for role in ROLES})
+    write("many.json", json.dumps({"signatures": [], "signed": root}).encode())
+    lines = ['why keys "many.json" threshold 1 signed 0', *(f'why key "{name}" absent' for name in ids[:64]), "why more 2"]
+    ran = run("signers", "metadata/timestamp.json", "--root", "many.json", "--role", "timestamp", text=True)
+    check("signers of 66 ids", ("\n".join(lines) + "\n", 1), (ran.stdout, ran.returncode))
+
+
 def verified():
     ran = run("init", "metadata/1.root.json", "--out", "state", text=True)
     check("init", ("root 1\n", 0), (ran.stdout, ran.returncode))
@@ -177,6 +188,7 @@ def tried(module, kind):
             key.make()
         repository(keys)
         signers(keys)
+        many_ids()
         verified()
         attach_mistakes(keys)
         key_mistakes(module)

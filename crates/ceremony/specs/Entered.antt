@@ -1,6 +1,8 @@
 -- The metadata file to which a ceremony attaches a signature.
-use Rattle.std.specs.Prelude.{◌≡◌, ℕ, List, Bool, true, Option, Some, None, Result, Ok, Err}
+use Rattle.std.specs.Prelude.{◌≡◌, ◌⊎◌, ⊤, ℕ, List, Bool, true, Option, Some, None, Result, Ok, Err}
 use Rattle.keys.specs.declared.key.Key.{Key}
+use Rattle.failure.specs.declared.failure.Failure.{Failure}
+use Rattle.failure.specs.declared.failure.Failure.TheVariants.{Input, Output, Memory}
 use Rattle.signing.specs.Attached.{IsAttached, IsInvalid, signature_in}
 use Rattle.signing.specs.Drafts.{draft}
 use Rattle.signing.specs.NewKeys.{key_in}
@@ -58,3 +60,18 @@ pub record IsRefused (gives : List ℕ → List ℕ → Bool) (paths : AttachPat
   pub read_sig : gives paths.sig.now sig ≡ true
   pub refused : IsNotEntered file key_file sig refusal
   pub more : follows refusal
+
+-- one of the three files can't be read
+abbrev pub SomeRefused : (List ℕ → Bool) → AttachPaths → Type 0
+SomeRefused refuses paths = (refuses paths.file.now ≡ true)
+    ⊎ ((refuses paths.key.now ≡ true) ⊎ (refuses paths.sig.now ≡ true))
+
+-- Why the step fails: one of the files can't be read; or the new one can't be stored, or the line of
+-- the stored one or of the refusal can't be written.
+abbrev pub IsCause : (gives : List ℕ → List ℕ → Bool) (refuses fails : List ℕ → Bool) → AttachPaths
+    → (List ℕ → Bool) → Failure → Type 0
+IsCause gives refuses fails paths keeps Input = SomeRefused refuses paths
+IsCause gives refuses fails paths keeps Output = (fails paths.to.now ≡ true)
+    ⊎ (IsStored gives paths keeps (λ _ _. ⊤) ⊎ IsRefused gives paths (λ _. ⊤))
+IsCause gives refuses fails paths keeps Memory = ⊤
+IsCause gives refuses fails paths keeps _ = ⊥

@@ -1,5 +1,5 @@
 -- The lines that a ceremony prints.
-use Rattle.std.specs.Prelude.{ℕ, ◌^◌, List, [], ◌∷◌, ◌++◌, Bool, if◌then◌else◌, codes, decimal, flat_map}
+use Rattle.std.specs.Prelude.{ℕ, ◌^◌, ◌-◌, ◌==◌, List, [], ◌∷◌, ◌++◌, if◌then◌else◌, codes, decimal, flat_map, length}
 use Rattle.std.specs.Option.{option_map_or}
 use Rattle.cjson.specs.declared.fault.DocFault.{DocFault}
 use Rattle.cjson.specs.declared.fault.DocFault.TheVariants.{NotJson, NotObject, Float, BadSignatures}
@@ -19,7 +19,9 @@ use Rattle.signing.specs.declared.fault.Invalid.{Invalid}
 use Rattle.signing.specs.declared.fault.Invalid.TheVariants as invalid
 use Rattle.signing.specs.declared.signing.KeyFinding.{KeyFinding}
 use Rattle.signing.specs.declared.signing.KeyFinding.TheVariants as finding
+use Rattle.signing.specs.declared.attaching.Attached.{Attached}
 use Rattle.signing.specs.declared.signing.ListedKey.{ListedKey}
+use Rattle.signing.specs.declared.signing.Signing.{Signing}
 use Rattle.signing.specs.declared.unusable.Unusable.{Unusable}
 use Rattle.signing.specs.declared.unusable.Unusable.TheVariants as unusable
 use Rattle.ceremony.specs.declared.lines.Refusal.{Refusal}
@@ -83,10 +85,10 @@ key_text key = option_map_or (kind_text key.id) (public_kind key.public) []
 
 -- # A signature that was attached: `entry ID LEAF`, or `again ID LEAF`.
 
-abbrev pub entry_text : Key → Bool → ℕ → List ℕ
-entry_text key is_new leaf =
-    line ((if is_new then codes "entry" else codes "again") ∷ quoted_text key.id ∷ decimal leaf
-    ∷ [])
+abbrev pub entry_text : Key → Attached → List ℕ
+entry_text key a =
+    line ((if a.is_new then codes "entry" else codes "again") ∷ quoted_text key.id
+    ∷ decimal a.leaf ∷ [])
 
 -- # Who signed.
 
@@ -142,7 +144,13 @@ finding_of_text id (finding.Invalid n why) = invalid_text id n why
 abbrev pub finding_text : ListedKey → List ℕ
 finding_text k = finding_of_text (quoted_text k.id) k.finding
 
+-- `why more N`, if more ids are listed than have a line
+abbrev pub more_text : ℕ → List ℕ
+more_text n =
+    if n == 0 then [] else line (codes "why" ∷ codes "more" ∷ decimal n ∷ [])
+
 -- all lines
-abbrev pub signing_text : List ℕ → ℕ → ℕ → List ListedKey → List ℕ
-signing_text path threshold signed keys =
-    keys_text path threshold signed ++ flat_map finding_text keys
+abbrev pub signing_text : List ℕ → Signing → List ℕ
+signing_text path s =
+    keys_text path s.threshold s.signed ++ flat_map finding_text s.keys
+    ++ more_text (s.listed - length s.keys)

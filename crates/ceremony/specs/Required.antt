@@ -1,10 +1,11 @@
 -- The keys that must sign a file, from the file that lists them, and who of them signed.
 use Rattle.std.specs.Prelude.{◌≡◌, ℕ, List, Option, Some, None, if◌then◌else◌, bytes_eq, codes, find, option_map}
+use Rattle.std.specs.FinSet as set
 use Rattle.serde_json.specs.Find.{get}
 use Rattle.cjson.specs.Document.{Document}
 use Rattle.cjson.specs.Tree.{view}
 use Rattle.cjson.specs.Form.{◌>>=◌, Data, needed}
-use Rattle.keys.specs.Keys.{is_met}
+use Rattle.keys.specs.Keys.{is_met, signers}
 use Rattle.keys.specs.declared.key.Key.{Key}
 use Rattle.keys.specs.declared.role_keys.RoleKeys.{RoleKeys}
 use Rattle.meta.specs.Metadata as form
@@ -14,7 +15,7 @@ use Rattle.meta.specs.declared.delegations.Roles.{Roles}
 use Rattle.meta.specs.declared.delegations.Roles.TheVariants.{Listed, Binned}
 use Rattle.rolechain.specs.declared.end.Step.{Step}
 use Rattle.rolechain.specs.declared.end.Step.TheVariants as step
-use Rattle.signing.specs.Signers.{findings, signed_count}
+use Rattle.signing.specs.Signers.{findings, id_count}
 use Rattle.signing.specs.declared.signing.Required as keys
 use Rattle.signing.specs.declared.signing.Signing.{Signing}
 use Rattle.ceremony.specs.declared.required.Role.{Role}
@@ -84,7 +85,8 @@ required (Delegated name) signed = by_targets name.now signed
 pub record IsSigning (d : Document) (r : Required) (s : Signing) : Type 0 where
   pub met : s.is_met ≡ is_met d.text d.entries r.ring r.role
   pub threshold : s.threshold ≡ r.role.threshold
-  pub signed : s.signed ≡ signed_count s.keys
+  pub signed : s.signed ≡ set.len (signers d.text d.entries r.ring r.role)
+  pub listed : s.listed ≡ id_count r.role
   pub keys : s.keys ≡ findings d.text d.entries r.keys r.ring r.role
 
 -- these are the keys, and it is said who of them signed

@@ -64,7 +64,7 @@ pub fn attach_file<S: System, W: Write>(
     ensures attached { IfOk result (λ status. status ≡ 0 → spec.IsStored (S.gives system.old)
         paths.now (S.keeps system.new paths.now.to.now)
         (λ key a. Appends (W.contents out.old) (W.contents out.new)
-        (entry_text key a.is_new a.leaf))) }
+        (entry_text key a))) }
     ensures refused { IfOk result (λ status. status ≢ 0 → spec.IsRefused (S.gives system.old)
         paths.now (λ r. (status ≡ refusal_status r)
         × Appends (W.contents out.old) (W.contents out.new) (refusal_text r))) }
@@ -77,6 +77,8 @@ pub fn attach_file<S: System, W: Write>(
     ensures quiet { IfErr result (λ f. f ≢ Failure.Memory → f ≢ Failure.Output
         → (S.keeps system.new ≡ S.keeps system.old)
         × (W.contents out.new ≡ W.contents out.old)) }
+    ensures cause { IfErr result (spec.IsCause (S.gives system.old) (S.refuses system.old)
+        (S.obstacles system.old).fails paths.now (S.keeps system.new paths.now.to.now)) }
 {
     let read = read_all(system, paths)?;
     match enter(alloc, &read)? {
@@ -98,6 +100,8 @@ fn read_all<S: System>(system: &S, paths: &AttachPaths<'_>) -> Result<Contents, 
     ensures key { IfOk result (λ r. S.gives system.now paths.now.key.now r.key.items ≡ true) }
     ensures sig { IfOk result (λ r. S.gives system.now paths.now.sig.now r.sig.items ≡ true) }
     ensures refused { IfErr result (λ f. (f ≡ Failure.Memory) ⊎ (f ≡ Failure.Input)) }
+    ensures cause { IfErr result
+        (λ f. f ≢ Failure.Memory → spec.SomeRefused (S.refuses system.now) paths.now) }
 {
     let file = read_file(system, paths.file, FILE_MOST, Failure::Input)?;
     let key = read_file(system, paths.key, SMALL_MOST, Failure::Input)?;
@@ -135,11 +139,14 @@ fn keep_entry<S: System, W: Write>(
     ensures kept { OnOk result
         (S.keeps system.new path.now entered.now.attached.file.items ≡ true) }
     ensures line { OnOk result (Appends (W.contents out.old) (W.contents out.new)
-        (entry_text entered.now.key entered.now.attached.is_new entered.now.attached.leaf)) }
+        (entry_text entered.now.key entered.now.attached)) }
     ensures order { OnErr result ((S.keeps system.new ≡ S.keeps system.old)
         ⊎ (S.keeps system.new path.now entered.now.attached.file.items ≡ true)) }
     ensures others { OthersKept path.now (S.keeps system.old) (S.keeps system.new) }
     ensures refused { IfErr result IsLate }
+    ensures cause { IfErr result (λ f. f ≢ Failure.Memory
+        → ((S.obstacles system.old).fails path.now ≡ true)
+        ⊎ (S.keeps system.new path.now entered.now.attached.file.items ≡ true)) }
 {
     keep_file(system, path, &entered.attached.file)?;
     let line = entry_line(alloc, &entered.key, &entered.attached)?;

@@ -47,6 +47,9 @@ pub fn make_key_file<S: System, W: Write>(
     ensures quiet { IfErr result (λ f. f ≢ Failure.Memory → f ≢ Failure.Output
         → (S.keeps system.new ≡ S.keeps system.old)
         × (W.contents out.new ≡ W.contents out.old)) }
+    ensures cause { IfErr result (spec.IsCause (S.gives system.old from.now)
+        (S.refuses system.old from.now) ((S.obstacles system.old).fails to.now)
+        (S.keeps system.new to.now)) }
 {
     let file = read_file(system, from, SMALL_MOST, Failure::Input)?;
     match make_key(alloc, &file) {
@@ -77,6 +80,9 @@ fn keep_key<S: System, W: Write>(
         ⊎ (S.keeps system.new path.now new.now.text.items ≡ true)) }
     ensures others { OthersKept path.now (S.keeps system.old) (S.keeps system.new) }
     ensures refused { IfErr result IsLate }
+    ensures cause { IfErr result (λ f. f ≢ Failure.Memory
+        → ((S.obstacles system.old).fails path.now ≡ true)
+        ⊎ (S.keeps system.new path.now new.now.text.items ≡ true)) }
 {
     keep_file(system, path, &new.text)?;
     let line = key_line(alloc, &new.key)?;

@@ -149,7 +149,7 @@ pub(crate) fn entry_line(
     attached: &Attached,
 ) -> Result<String, AllocError>
     ensures line { IfOk result (λ text. string_bytes text
-        ≡ spec.entry_text key.now attached.now.is_new attached.now.leaf) }
+        ≡ spec.entry_text key.now attached.now) }
 {
     let id = quote_name(alloc, key.id.as_str())?;
     let word = if attached.is_new { "entry" } else { "again" };
@@ -157,18 +157,20 @@ pub(crate) fn entry_line(
     format!(in alloc; "{word} {id} {leaf}\n")
 }
 
-/// Returns the lines of who signed, of the keys that the file at the path lists.
+/// Returns the lines of who signed, of the keys that the file at the path lists: one of the
+/// threshold, one for each id that has a finding, and one of how many ids are left.
 pub(crate) fn signing_lines(
     alloc: Global,
     path: &str,
     signing: &Signing,
 ) -> Result<String, AllocError>
-    ensures lines { IfOk result (λ text. string_bytes text
-        ≡ spec.signing_text path.now signing.now.threshold signing.now.signed
-        signing.now.keys) }
+    ensures lines { IfOk result
+        (λ text. string_bytes text ≡ spec.signing_text path.now signing.now) }
 {
     let mut text = keys_line(alloc, path, signing.threshold, signing.signed)?;
-    push_findings(alloc, &mut text, signing.keys.as_slice())?;
+    let keys = signing.keys.as_slice();
+    push_findings(alloc, &mut text, keys)?;
+    push_more(&mut text, signing.listed.saturating_sub(keys.len()))?;
     Ok(text)
 }
 
@@ -188,6 +190,17 @@ fn push_findings(alloc: Global, text: &mut String, keys: &[ListedKey]) -> Result
         push_finding(alloc, text, listed)?;
     }
     Ok(())
+}
+
+/// Adds how many more ids are listed, if there are any.
+fn push_more(text: &mut String, more: usize) -> Result<(), AllocError>
+    ensures { OnOk result (string_bytes text.new
+        ≡ string_bytes text.old ++ spec.more_text more) }
+{
+    if more == 0 {
+        return Ok(());
+    }
+    writeln!(text, "why more {more}")
 }
 
 fn push_finding(alloc: Global, text: &mut String, listed: &ListedKey) -> Result<(), AllocError>

@@ -1,9 +1,11 @@
 //! Who signed a metadata file.
 
-ghost use Rattle.std.specs.Prelude.{◌≡◌, ◌≢◌, ◌≤◌, ◌⊎◌, IfErr, IfOk};
+ghost use Rattle.std.specs.Prelude.{◌≡◌, ◌≢◌, ◌≤◌, ◌⊎◌, ℕ, List, Some, IfErr, IfOk};
 ghost use Rattle.std.specs.Io.KnownBytes.{Appends};
-ghost use Rattle.ceremony.specs.Printed.{refusal_text, signing_text};
+ghost use Rattle.ceremony.specs.Printed.{refusal_text};
+ghost use Rattle.ceremony.specs.Required.{Required};
 ghost use Rattle.ceremony.specs.SignedBy as spec;
+ghost use Rattle.signing.specs.Signers.{IsReasoned};
 
 use crate::lines::{Refusal, put_refusal, signing_lines};
 use crate::required::{Role, signing_by};
@@ -26,8 +28,11 @@ pub struct By<'a> {
 }
 
 /// Prints who signed a metadata file, and returns 0 if they are enough for the role and 1 if not.
-/// If one of the two files is malformed, or the second has no such role, prints why and returns 2.
+/// At most 64 lines are of keys; one more says how many ids are left. If one of the two files is
+/// malformed, or the second has no such role, prints why and returns 2.
+///
 /// Fails with `Input` if a file can't be read, or with `Memory` or `Output`.
+#[tactic(auto, using(crate::proofs::Usable::reasoned_in))]
 pub fn print_signers<S: System, W: Write>(
     alloc: Global,
     system: &S,
@@ -38,14 +43,20 @@ pub fn print_signers<S: System, W: Write>(
     ensures known { IfOk result (λ status. status ≤ 2) }
     ensures signers { IfOk result (λ status. status ≢ 2 → spec.IsTold
         (S.gives system.now path.now) (S.gives system.now by.now.path.now) by.now.role
-        (λ s. (status ≡ spec.met_status s.is_met)
-        × Appends (W.contents out.old) (W.contents out.new)
-        (signing_text by.now.path.now s.threshold s.signed s.keys))) }
+        (spec.AreTold by.now status (W.contents out.old) (W.contents out.new))) }
     ensures refused { IfOk result (λ status. status ≡ 2 → spec.IsUntold
         (S.gives system.now path.now) (S.gives system.now by.now.path.now) by.now.role
         (λ r. Appends (W.contents out.old) (W.contents out.new) (refusal_text r))) }
     ensures quiet { IfErr result (λ f. f ≢ Failure.Memory → f ≢ Failure.Output
         → W.contents out.new ≡ W.contents out.old) }
+    ensures cause { IfErr result (spec.IsCause
+        (S.gives system.now path.now) (S.gives system.now by.now.path.now)
+        (S.refuses system.now path.now) (S.refuses system.now by.now.path.now) by.now.role) }
+
+    // Why an id has no usable key.
+    ensures unusable { (listing : List ℕ) (r : Required)
+        → spec.required_in by.now.role listing ≡ Some r
+        → (id : List ℕ) → IsReasoned r.keys r.ring id }
 {
     let file = read_file(system, path, FILE_MOST, Failure::Input)?;
     let listing = read_file(system, by.path, FILE_MOST, Failure::Input)?;

@@ -39,6 +39,8 @@ pub fn print_text<S: System, W: Write, E: Write>(
     ensures quiet { IfOk result (λ status. status ≡ 2 → W.contents out.new ≡ W.contents out.old) }
     ensures input { IfErr result (λ f. f ≢ Failure.Memory → f ≢ Failure.Output
         → W.contents out.new ≡ W.contents out.old) }
+    ensures cause { IfErr result
+        (spec.IsCause (S.gives system.now path.now) (S.refuses system.now path.now)) }
 {
     let file = read_file(system, path, FILE_MOST, Failure::Input)?;
     match signed_text(alloc, &file) {

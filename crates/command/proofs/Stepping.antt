@@ -4,8 +4,8 @@ use Rattle.std.specs.Io.KnownBytes.{Appends}
 use Rattle.failure.specs.declared.failure.Failure.{Failure}
 use Rattle.ceremony.specs.Entered.{IsRefused, IsStored}
 use Rattle.ceremony.specs.KeyFiles.{IsMade, IsNoKey}
-use Rattle.ceremony.specs.Printed.{entry_text, key_text, refusal_status, refusal_text, signing_text}
-use Rattle.ceremony.specs.SignedBy.{IsTold, IsUntold, met_status}
+use Rattle.ceremony.specs.Printed.{entry_text, key_text, refusal_status, refusal_text}
+use Rattle.ceremony.specs.SignedBy.{AreTold, IsTold, IsUntold}
 use Rattle.ceremony.specs.Texts.{IsText}
 use Rattle.ceremony.specs.declared.files.AttachPaths.{AttachPaths}
 use Rattle.ceremony.specs.declared.lines.Refusal.TheVariants as refusal
@@ -28,15 +28,14 @@ printing (Ok s) old new printed quiet = (printed, quiet)
 printing (Err f) old new printed quiet = tt
 
 pub attaching : (r : Result ℕ Failure) (paths : AttachPaths) (k l : Stores) (old new : Option (List ℕ))
-    → IfOk r (λ s. s ≡ 0 → IsStored (λ _ _. true) paths (l paths.to.now) (λ key a. Appends old new (entry_text key a.is_new a.leaf)))
+    → IfOk r (λ s. s ≡ 0 → IsStored (λ _ _. true) paths (l paths.to.now) (λ key a. Appends old new (entry_text key a)))
     → IfOk r (λ s. s ≢ 0 → IsRefused (λ _ _. true) paths (λ f. (s ≡ refusal_status f) × Appends old new (refusal_text f)))
     → IfOk r (λ s. s ≢ 0 → l ≡ k) → IfOk r (IsAttaching paths old new)
 attaching (Ok s) paths k l old new stored refused kept = record { before = k; afterwards = l; then = (stored, refused, kept) }
 attaching (Err f) paths k l old new stored refused kept = tt
 
 pub naming : (r : Result ℕ Failure) (by : By) (old new : Option (List ℕ))
-    → IfOk r (λ s. s ≢ 2 → IsTold (λ _. true) (λ _. true) by.role
-    (λ t. (s ≡ met_status t.is_met) × Appends old new (signing_text by.path.now t.threshold t.signed t.keys)))
+    → IfOk r (λ s. s ≢ 2 → IsTold (λ _. true) (λ _. true) by.role (AreTold by s old new))
     → IfOk r (λ s. s ≡ 2 → IsUntold (λ _. true) (λ _. true) by.role (λ f. Appends old new (refusal_text f))) → IfOk r (IsNaming by old new)
 naming (Ok s) by old new told refused = (told, refused)
 naming (Err f) by old new told refused = tt

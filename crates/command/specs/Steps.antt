@@ -3,8 +3,8 @@ use Rattle.std.specs.Prelude.{◌≡◌, ◌≢◌, ℕ, List, Bool, true, Optio
 use Rattle.std.specs.Io.KnownBytes.{Appends}
 use Rattle.ceremony.specs.Entered.{IsRefused, IsStored}
 use Rattle.ceremony.specs.KeyFiles.{IsMade, IsNoKey}
-use Rattle.ceremony.specs.Printed.{entry_text, key_text, refusal_status, refusal_text, signing_text}
-use Rattle.ceremony.specs.SignedBy.{IsTold, IsUntold, met_status}
+use Rattle.ceremony.specs.Printed.{entry_text, key_text, refusal_status, refusal_text}
+use Rattle.ceremony.specs.SignedBy.{AreTold, IsTold, IsUntold}
 use Rattle.ceremony.specs.Texts.{IsText}
 use Rattle.ceremony.specs.declared.files.AttachPaths.{AttachPaths}
 use Rattle.ceremony.specs.declared.lines.Refusal.TheVariants as refusal
@@ -32,7 +32,7 @@ IsPrinting old new status =
 abbrev pub IsAttaching : AttachPaths → Option (List ℕ) → Option (List ℕ) → ℕ → Type 0
 IsAttaching paths old new status = OfStores (λ k l.
     (status ≡ 0 → IsStored (λ _ _. true) paths (l paths.to.now)
-    (λ key a. Appends old new (entry_text key a.is_new a.leaf)))
+    (λ key a. Appends old new (entry_text key a)))
     × (status ≢ 0 → IsRefused (λ _ _. true) paths
     (λ r. (status ≡ refusal_status r) × Appends old new (refusal_text r)))
     × (status ≢ 0 → l ≡ k))
@@ -40,8 +40,6 @@ IsAttaching paths old new status = OfStores (λ k l.
 -- it is printed who signed, with status 0 if they are enough and 1 if not; or why it can't be said
 abbrev pub IsNaming : By → Option (List ℕ) → Option (List ℕ) → ℕ → Type 0
 IsNaming by old new status =
-    (status ≢ 2 → IsTold (λ _. true) (λ _. true) by.role
-    (λ s. (status ≡ met_status s.is_met)
-    × Appends old new (signing_text by.path.now s.threshold s.signed s.keys)))
+    (status ≢ 2 → IsTold (λ _. true) (λ _. true) by.role (AreTold by status old new))
     × (status ≡ 2 → IsUntold (λ _. true) (λ _. true) by.role
     (λ r. Appends old new (refusal_text r)))

@@ -19,7 +19,6 @@ use Rattle.cjson.specs.declared.doc.Entry.{Entry}
 use Rattle.cjson.proofs.OnLiterals.{cjson_on_literals}
 use Rattle.cjson.proofs.Trees.{tree_of-read}
 use Rattle.seals.specs.Sealed.{entry_object, entry_objects, sealed}
-use Rattle.signing.specs.Attached.{sealed_items}
 
 -- ---- a member is less deep than its object
 
@@ -80,10 +79,10 @@ pub document-sealed : (file text : List ℕ) (d : Data) (es : List Entry) → Is
 document-sealed file text d es utf8 is r c = of-object file text d es is (tree_of-read file (sealed d es) utf8 r) c
 
 -- the same of what a writer returns
-pub written : (r : Result (Vec ℕ Global) AllocError) (v d : Data) (vs : List Value) → v ≡ sealed_items d (items_view vs) → IsSome (as_object d) → depth d < max_depth
+pub written : (r : Result (Vec ℕ Global) AllocError) (v d : Data) (vs : List Value) → ((es : List Entry) → items_view vs ≡ entry_objects es → v ≡ sealed d es) → IsSome (as_object d) → depth d < max_depth
     → IfOk r (λ b. IsUtf8 b.items) → IfOk r (λ b. depth v ≤ max_depth → read b.items ≡ Some v)
     → IfOk r (λ file. (es : List Entry) (text : List ℕ) → map view vs ≡ map entry_object es → canon d ≡ Some text → document file.items ≡ Ok (record { signed = d; text = text; entries = es }))
 written (Err e) v d vs is has below utf8 back = tt
 written (Ok b) v d vs is has below utf8 back = λ es text same c.
-    let whole : v ≡ sealed d es = is ∙ ap (sealed_items d) (view-entries vs es same) in
+    let whole : v ≡ sealed d es = is es (view-entries vs es same) in
     document-sealed b.items text d es utf8 has (back (rw whole (depth-sealed d es below)) ∙ ap Some whole) c

@@ -1,4 +1,6 @@
+pub mod Counts
 pub mod Files
 pub mod Joined
 pub mod Lengths
 pub mod OwnKeys
+pub mod Reasons

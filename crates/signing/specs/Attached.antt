@@ -1,7 +1,7 @@
 -- The file to which a signature is attached.
-use Rattle.std.specs.Prelude.{◌≡◌, ℕ, ◌==◌, ◌&&◌, List, [], ◌∷◌, ◌++◌, Bool, true, false, Option, Some, None, if◌then◌else◌, nat_le, not, filter, length, take, drop, bytes_eq, codes, Ok, Err, ⊤}
+use Rattle.std.specs.Prelude.{◌≡◌, ℕ, ◌==◌, ◌&&◌, List, [], ◌∷◌, ◌++◌, Bool, true, false, Option, Some, None, if◌then◌else◌, nat_le, not, filter, length, take, drop, bytes_eq, Ok, Err, ⊤}
 use Rattle.std.specs.List.{list_any}
-use Rattle.serde_json.specs.Data.{Data, array, object, Items, no_members, member}
+use Rattle.serde_json.specs.Data.{Data}
 use Rattle.hex.specs.Hex.{encode_lower}
 use Rattle.cjson.specs.Document.{Document, document as document_of_file}
 use Rattle.cjson.specs.declared.doc.Entry.{Entry}
@@ -59,11 +59,9 @@ entries_after key sig message entries = staying key message entries
 abbrev pub after : Key → List ℕ → Document → Document
 after key sig d = record d { entries = entries_after key sig d.text d.entries }
 
--- the file of a value and these entries
-abbrev pub sealed_items : Data → Items → Data
-sealed_items value items =
-    object (member (codes "signatures") (array items)
-    (member (codes "signed") value no_members))
+-- the document of these parts
+abbrev pub drafted : Data → List ℕ → List Entry → Document
+drafted signed text es = record { signed = signed; text = text; entries = es }
 
 -- # What a call returns that attaches the signature of a file.
 

@@ -1,11 +1,14 @@
 -- Who signed a document, and what each listed id came to.
-use Rattle.std.specs.Prelude.{ℕ, ◌&&◌, List, [], ◌∷◌, ◌++◌, Bool, true, false, Option, Some, None, if◌then◌else◌, not, is_some, unwrap_or, option_and_then, bytes_eq, codes, filter, find, fold, length}
+use Rattle.std.specs.Prelude.{◌≡◌, ℕ, ◌&&◌, List, [], ◌∷◌, ◌++◌, Bool, true, false, Option, Some, None, if◌then◌else◌, not, is_some, unwrap_or, option_and_then, bytes_eq, codes, filter, find, fold, length, nat_le, ◌||◌}
+use Rattle.std.specs.Cmp.Lexicographic.{slice_cmp}
+use Rattle.std.specs.FinSet as set
 use Rattle.std.specs.List.{list_any}
 use Rattle.std.specs.Option.{option_map_or}
+use Rattle.std.specs.Ordering.{nat_cmp}
 use Rattle.serde_json.specs.Find.{as_str, get}
 use Rattle.cjson.specs.Form.{Data}
 use Rattle.cjson.specs.declared.doc.Entry.{Entry}
-use Rattle.keys.specs.Keys.{is_lms, public_value}
+use Rattle.keys.specs.Keys.{is_lms, is_own_id, public_value}
 use Rattle.keys.specs.declared.key.Key.{Key}
 use Rattle.keys.specs.declared.role_keys.RoleKeys.{RoleKeys}
 use Rattle.signing.specs.Attached.{is_good}
@@ -33,10 +36,29 @@ unusable_key key =
 abbrev pub unusable : Data → List ℕ → Unusable
 unusable keys id = option_map_or unusable_key (get id keys) why.Absent
 
--- # What an id came to.
+-- ---- the law of the reason
+
+-- whether an id has none, by all checks of a usable key
+abbrev pub why_not_key : List ℕ → Data → Option Unusable
+why_not_key id key =
+    if not (is_lms key) then Some (why.Type (key_type key))
+    else if not (is_some (public_value key)) then Some why.Kind
+    else if not (is_own_id id key) then Some why.Id
+    else None
+
+-- of an object of keys
+abbrev pub why_not : Data → List ℕ → Option Unusable
+why_not keys id = option_map_or (why_not_key id) (get id keys) (Some why.Absent)
 
 abbrev pub key_of : List Key → List ℕ → Option Key
 key_of ring id = find (λ key. bytes_eq key.id id) ring
+
+-- There is a reason exactly if the ring has no key of the id, and it is the one that is told.
+abbrev pub IsReasoned : Data → List Key → List ℕ → Type 0
+IsReasoned keys ring id =
+    why_not keys id ≡ option_map_or (λ _. None) (key_of ring id) (Some (unusable keys id))
+
+-- # What an id came to.
 
 abbrev pub is_signed : ListedKey → Bool
 is_signed k = is_signed_finding k.finding
@@ -86,17 +108,21 @@ finding message entries keys ring all id =
 abbrev pub is_named : List ℕ → ListedKey → Bool
 is_named id k = bytes_eq k.id id
 
--- these and the id, unless it is among them
+-- the most ids of which it is said what they came to
+abbrev pub most_keys : ℕ
+most_keys = 64
+
+-- these and the id, unless it is among them or they are the most
 abbrev pub with_id : List ℕ → List Entry → Data → List Key → List ListedKey → List ℕ
     → List ListedKey
 with_id message entries keys ring all id =
-    if list_any (is_named id) all then all
+    if nat_le most_keys (length all) || list_any (is_named id) all then all
     else all ++ record { id = id; finding = finding message entries keys ring all id } ∷ []
 
--- each listed id once
+-- each listed id once, up to the most
 abbrev pub findings : List ℕ → List Entry → Data → List Key → RoleKeys → List ListedKey
 findings message entries keys ring role = fold (with_id message entries keys ring) [] role.ids
 
--- the number of those that signed, each public value once
-abbrev pub signed_count : List ListedKey → ℕ
-signed_count all = length (filter is_signed all)
+-- the number of listed ids, each counted once
+abbrev pub id_count : RoleKeys → ℕ
+id_count role = set.len (set.from_list {R = slice_cmp nat_cmp} role.ids)

@@ -1,28 +1,27 @@
 //! A signature that another program made, as an entry of a metadata file.
 
 ghost use Rattle.std.specs.Prelude.{◌≡◌, ◌<◌, ◌++◌, Some, None, Ok, IfOk, IfErr, IsSome, if◌then◌else◌, map};
-ghost use Rattle.std.specs.Prelude.{option_map};
+ghost use Rattle.std.specs.Prelude.{List, ℕ, option_map, string_bytes};
 ghost use Rattle.serde_json.specs.Data.{depth};
 ghost use Rattle.serde_json.specs.Find.{as_object};
 ghost use Rattle.serde_json.specs.Read.{max_depth};
-ghost use Rattle.serde_json.specs.View.{items_view, view};
+ghost use Rattle.serde_json.specs.View.{view};
 ghost use Rattle.cjson.specs.Canon.{canon};
 ghost use Rattle.cjson.specs.Document.{document};
 ghost use Rattle.cjson.specs.declared.doc.Entry.{Entry};
 ghost use Rattle.seals.specs.Sealed.{entry_object};
-ghost use Rattle.std.specs.Prelude.{List, ℕ};
 ghost use Rattle.signing.specs.Attached as spec;
 ghost use Rattle.signing.specs.Attached.{IsAttached, IsRefused, signature_in};
 
-use crate::entries::{entry_value, has_entry, staying_values, valid_digits};
+use crate::entries::{has_entry, staying_values, valid_digits};
 use crate::fault::AttachFault;
 use crate::invalid::leaf_in;
 use crate::metadata::{Draft, read_draft, read_metadata};
 use crate::octets::octets;
-use cjson::NoMemory;
 use keys::Key;
 use lms::Public;
-use serde_json::{Value, json};
+use seals::{entry_of, file_of};
+use serde_json::Value;
 use std::alloc::{AllocError, Global};
 
 /// A metadata file to which a signature was attached.
@@ -60,9 +59,9 @@ pub fn attach(alloc: Global, file: &[u8], key: &Key, sig: &[u8]) -> Result<Attac
         Err(fault) => return Err(fault),
     };
     let is_there = has_entry(key, &draft.text, draft.entries.as_slice());
-    let new = new_text(is_there, digits.as_str());
+    let new = new_text(is_there, digits);
     let entries = entries_after(alloc, key, &draft, new)?;
-    let file = file_of(alloc, draft.signed, entries)?;
+    let file = written(alloc, draft.signed, entries)?;
     Ok(Attached {
         file,
         leaf: leaf_in(&sig),
@@ -71,21 +70,22 @@ pub fn attach(alloc: Global, file: &[u8], key: &Key, sig: &[u8]) -> Result<Attac
 }
 
 /// Returns the text of the new entry, unless a valid one is there.
-fn new_text(is_there: bool, digits: &str) -> Option<&str>
-    ensures { option_map (λ s. s.now) result ≡ (if is_there then None else Some digits.now) }
+fn new_text(is_there: bool, digits: String) -> Option<String>
+    ensures { option_map string_bytes result
+        ≡ (if is_there then None else Some (string_bytes digits)) }
 {
     if is_there { None } else { Some(digits) }
 }
 
 /// Returns the signature in a file, for a public value.
-fn read_signature(alloc: Global, public: &Public, file: &[u8]) -> Result<Vec<u8>, NoMemory>
+fn read_signature(alloc: Global, public: &Public, file: &[u8]) -> Result<Vec<u8>, AllocError>
     ensures { IfOk result (λ sig. sig.items ≡ signature_in public.now file.now) }
 {
     let bytes = octets(alloc, file)?;
     if !is_one_level(public.signature_len(), &bytes) {
         return Ok(bytes);
     }
-    Ok(Vec::from_slice(alloc, &bytes[4..])?)
+    Vec::from_slice(alloc, &bytes[4..])
 }
 
 /// Returns whether the bytes are four zeros and then `due` further ones.
@@ -100,36 +100,27 @@ fn entries_after(
     alloc: Global,
     key: &Key,
     draft: &Draft<'_>,
-    new: Option<&str>,
+    new: Option<String>,
 ) -> Result<Vec<Value>, AllocError>
     ensures { IfOk result (λ v. map view v.items ≡ map entry_object
         (spec.staying key.now draft.now.text.items draft.now.entries
-        ++ spec.new_entry key.now (option_map (λ s. s.now) new.entry))) }
+        ++ spec.new_entry key.now (option_map string_bytes new))) }
 {
     let mut values = staying_values(alloc, key, &draft.text, draft.entries.as_slice())?;
     if let Some(sig) = new {
-        values.push(entry_value(alloc, key.id.as_str(), sig)?)?;
+        values.push(entry_of(alloc, key.id.as_str(), sig)?)?;
     }
     Ok(values)
 }
 
 /// Returns the metadata file that signs the value by the entries.
-fn file_of(alloc: Global, signed: &Value, entries: Vec<Value>) -> Result<Vec<u8>, AllocError>
+fn written(alloc: Global, signed: &Value, entries: Vec<Value>) -> Result<Vec<u8>, AllocError>
     requires object { IsSome (as_object (view signed.now)) }
     requires depth { depth (view signed.now) < max_depth }
     ensures file { IfOk result (λ file. (es : List Entry) (text : List ℕ)
         → map view entries.items ≡ map entry_object es → canon (view signed.now) ≡ Some text
-        → document file.items
-        ≡ Ok (record { signed = view signed.now; text = text; entries = es })) }
+        → document file.items ≡ Ok (spec.drafted (view signed.now) text es)) }
 {
-    let file = sealed_value(alloc, signed, entries)?;
+    let file = file_of(alloc, signed, entries)?;
     file.to_vec(alloc)
-}
-
-/// Returns the value of the metadata file.
-fn sealed_value(alloc: Global, signed: &Value, entries: Vec<Value>) -> Result<Value, AllocError>
-    ensures { IfOk result (λ v. view v
-        ≡ spec.sealed_items (view signed.now) (items_view entries.items)) }
-{
-    json!(in alloc; {"signatures": entries, "signed": signed})
 }

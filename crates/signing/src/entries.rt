@@ -1,6 +1,6 @@
 //! The entries of a file to which a signature is attached.
 
-ghost use Rattle.std.specs.Prelude.{◌≡◌, ◌≢◌, IfOk, IfErr, bytes_eq, false, map, string_bytes, true};
+ghost use Rattle.std.specs.Prelude.{◌≡◌, ◌≢◌, IfOk, IfErr, false, map, string_bytes, true};
 ghost use Rattle.hex.specs.Hex.{encode_lower};
 ghost use Rattle.serde_json.specs.View.{view};
 ghost use Rattle.keys.specs.Keys.{has_entry, is_signed_by};
@@ -11,28 +11,11 @@ ghost use Rattle.signing.specs.Invalids.{reason};
 use crate::fault::AttachFault;
 use crate::invalid::reason_of;
 use cjson::Entry;
-use keys::{Ask, Direct, Judge, Key, SignatureAsk};
+use keys::{Key, is_signed_by};
 use lms::Public;
-use serde_json::{Value, json};
+use seals::entry_of;
+use serde_json::Value;
 use std::alloc::{AllocError, Global};
-
-/// Returns whether the text is the hexadecimal of a valid signature.
-pub(crate) fn is_signed_by(public: &Public, message: &[u8], sig: &str) -> bool
-    ensures value { result ≡ is_signed_by public.now message.now sig.now }
-{
-    let ask = Ask::Signature(SignatureAsk {
-        file: "",
-        place: 0,
-        public,
-        message,
-        sig,
-    });
-    let mut judge = Direct;
-    match judge.valid(&ask) {
-        Ok(valid) => valid,
-        Err(_) => false,
-    }
-}
 
 /// Returns the hexadecimal digits of a signature that is valid, or why it isn't.
 pub(crate) fn valid_digits(
@@ -114,15 +97,8 @@ pub(crate) fn staying_values(
     let staying = staying(alloc, key, message, entries)?;
     let mut values = Vec::with_capacity(alloc, staying.len())?;
     for entry in &staying {
-        values.push(entry_value(alloc, entry.keyid.as_str(), entry.sig.as_str())?)?;
+        let sig = String::from_str(alloc, entry.sig.as_str())?;
+        values.push(entry_of(alloc, entry.keyid.as_str(), sig)?)?;
     }
     Ok(values)
-}
-
-/// Returns an entry of `signatures`.
-pub(crate) fn entry_value(alloc: Global, keyid: &str, sig: &str) -> Result<Value, AllocError>
-    ensures { IfOk result
-        (λ v. view v ≡ entry_object (record { keyid = keyid.now; sig = sig.now })) }
-{
-    json!(in alloc; {"keyid": keyid, "sig": sig})
 }

@@ -1,13 +1,12 @@
 //! Why no key is made, and why no signature is attached.
 
 ghost use Rattle.std.specs.Prelude.{◌≡◌, ◌≢◌};
-ghost use Rattle.cjson.specs.declared.fault.Canon.TheVariants as canon;
 ghost use Rattle.cjson.specs.declared.fault.DocFault.TheVariants as doc;
 ghost use Rattle.signing.specs.declared.fault.AttachFault.TheVariants as attach;
 ghost use Rattle.signing.specs.declared.fault.KeyFault.TheVariants as key;
 
-use cjson::{DocFault, NoMemory};
-use std::alloc::{AllocError, AllocFailed};
+use cjson::DocFault;
+use std::alloc::AllocError;
 use thiserror::Error;
 
 /// Why bytes are no public key that counts, in the order of the checks.
@@ -61,14 +60,6 @@ pub enum AttachFault {
     NoMemory,
 }
 
-impl From<NoMemory> for KeyFault {
-    ghost from_gives = { λ _ e. e ≡ key.NoMemory };
-
-    fn from(_refused: NoMemory) -> KeyFault {
-        KeyFault::NoMemory
-    }
-}
-
 impl From<AllocError> for KeyFault {
     ghost from_gives = { λ _ e. e ≡ key.NoMemory };
 
@@ -81,22 +72,6 @@ impl From<AllocError> for AttachFault {
     ghost from_gives = { λ _ e. e ≡ attach.NoMemory };
 
     fn from(_refused: AllocError) -> AttachFault {
-        AttachFault::NoMemory
-    }
-}
-
-impl<T: Drop> From<AllocFailed<T>> for AttachFault {
-    ghost from_gives = { λ _ e. e ≡ attach.NoMemory };
-
-    fn from(_refused: AllocFailed<T>) -> AttachFault {
-        AttachFault::NoMemory
-    }
-}
-
-impl From<NoMemory> for AttachFault {
-    ghost from_gives = { λ _ e. e ≡ attach.NoMemory };
-
-    fn from(_refused: NoMemory) -> AttachFault {
         AttachFault::NoMemory
     }
 }

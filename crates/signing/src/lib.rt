@@ -7,6 +7,7 @@
 #![tactic(auto)]
 
 mod attaching;
+mod counted;
 mod entries;
 mod fault;
 mod invalid;

@@ -4,21 +4,20 @@ ghost use Rattle.std.specs.Prelude.{◌≡◌, ◌≤◌, IfOk, length, take};
 ghost use Rattle.std.specs.Int.{w32, from_be_bytes};
 ghost use Rattle.signing.specs.Octets as spec;
 
-use cjson::NoMemory;
 use hex::FromHexError;
 use std::alloc::{AllocError, Global};
 
 /// Returns the bytes that the file writes as hexadecimal digits of either case, whatever blanks and
 /// line feeds are among them, or the file's own bytes if it has anything else. Fails only if out of
 /// memory.
-pub(crate) fn octets(alloc: Global, file: &[u8]) -> Result<Vec<u8>, NoMemory>
+pub(crate) fn octets(alloc: Global, file: &[u8]) -> Result<Vec<u8>, AllocError>
     ensures value { IfOk result (λ bytes. bytes.items ≡ spec.octets file.now) }
 {
     let digits = digits_in(alloc, file)?;
     match hex::decode(alloc, digits.as_slice()) {
         Ok(bytes) => Ok(bytes),
-        Err(FromHexError::OutOfMemory) => Err(NoMemory),
-        Err(_) => Ok(Vec::from_slice(alloc, file)?),
+        Err(FromHexError::OutOfMemory) => Err(AllocError),
+        Err(_) => Vec::from_slice(alloc, file),
     }
 }
 

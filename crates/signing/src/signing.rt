@@ -1,15 +1,18 @@
 //! Who signed a metadata file.
 
-ghost use Rattle.std.specs.Prelude.{◌≡◌, IfOk, OnOk, bytes_eq, filter, find, fold, length};
-ghost use Rattle.std.specs.Prelude.{option_map};
+ghost use Rattle.std.specs.Prelude.{◌≡◌, ℕ, List, Some, IfOk, OnOk, bytes_eq, filter, find, fold};
+ghost use Rattle.std.specs.Prelude.{length, option_map, true};
+ghost use Rattle.std.specs.FinSet as set;
 ghost use Rattle.std.specs.List.{list_any};
 ghost use Rattle.cjson.specs.Document.{doc_of};
 ghost use Rattle.cjson.specs.Tree.{view};
-ghost use Rattle.keys.specs.Keys.{is_met};
+ghost use Rattle.cjson.specs.Canon.{is_ordered};
+ghost use Rattle.keys.specs.Keys.{is_met, ring, signers};
 ghost use Rattle.signing.specs.Attached.{is_good};
 ghost use Rattle.signing.specs.Invalids as invalid;
 ghost use Rattle.signing.specs.Signers as spec;
 
+use crate::counted::{id_count, signers_of};
 use crate::entries::is_good;
 use crate::fault::Invalid;
 use crate::invalid::{decoded, leaf_in, reason_of};
@@ -17,9 +20,12 @@ use crate::unusable::{Unusable, why_unusable};
 use cjson::list::Items;
 use cjson::text::Text;
 use cjson::{Doc, Entry, NoMemory, Tree};
-use keys::{Direct, Key, KeyRing, RoleKeys, enough};
+use keys::{Key, KeyRing, RoleKeys};
 use lms::Public;
 use std::alloc::{AllocError, Global};
+
+/// Maximum number of listed ids of which it is said what they came to.
+const MOST_KEYS: usize = 64;
 
 /// The keys that must sign a metadata file.
 #[derive(Clone, Copy)]
@@ -77,9 +83,11 @@ pub struct Signing {
     pub is_met: bool,
     /// How many keys must sign.
     pub threshold: u64,
-    /// The number of keys that are `Signed`.
+    /// The number of public values that signed.
     pub signed: usize,
-    /// The listed ids, each once, in the order in which they are listed first.
+    /// How many ids are listed, each counted once.
+    pub listed: usize,
+    /// The listed ids, each once, in the order in which they are listed first, up to 64.
     pub keys: Items<ListedKey>,
 }
 
@@ -89,35 +97,44 @@ impl Drop for Signing {
             is_met,
             threshold,
             signed,
+            listed,
             keys,
         } = self;
     }
 }
 
-/// Returns whether enough of the keys signed the document (TUF 1.0 section 4.3), and what each
-/// listed id came to. Fails only if out of memory.
+/// Returns whether enough of the keys signed the document (TUF 1.0 section 4.3), how many did, how
+/// many ids are listed, and what each of the first 64 came to. Fails only if out of memory.
+///
+/// Looks up ids and entries by maps. Checks the entries of a key up to its first valid one, and
+/// those of the first 64 ids twice.
+#[tactic(auto, using(crate::proofs::Reasons::reasoned))]
 pub fn signing_of(alloc: Global, doc: &Doc, by: &Required<'_>) -> Result<Signing, NoMemory>
     ensures met { IfOk result (λ s. s.is_met
         ≡ is_met (doc_of doc.now).text (doc_of doc.now).entries by.now.ring.now by.now.role.now) }
     ensures threshold { IfOk result (λ s. s.threshold ≡ by.now.role.now.threshold) }
-    ensures signed { IfOk result (λ s. s.signed ≡ spec.signed_count s.keys) }
+    ensures signed { IfOk result (λ s. s.signed ≡ set.len (signers
+        (doc_of doc.now).text (doc_of doc.now).entries by.now.ring.now by.now.role.now)) }
+    ensures listed { IfOk result (λ s. s.listed ≡ spec.id_count by.now.role.now) }
     ensures keys { IfOk result (λ s. s.keys ≡ spec.findings (doc_of doc.now).text
         (doc_of doc.now).entries (view by.now.keys.now) by.now.ring.now by.now.role.now) }
-{
-    let is_met = enough(alloc, doc, "", by.ring, by.role, &mut Direct)?;
-    let keys = findings(alloc, doc, by)?;
-    Ok(Signing {
-        is_met,
-        threshold: by.role.threshold.get(),
-        signed: signed_count(&keys),
-        keys: Items::new(keys),
-    })
-}
 
-fn signed_count(keys: &[ListedKey]) -> usize
-    ensures { result ≡ spec.signed_count keys.now }
+    // The names of the object ascend, and the ring is its own.
+    ensures unusable { is_ordered (view by.now.keys.now) ≡ true
+        → ring (view by.now.keys.now) ≡ Some by.now.ring.now → (id : List ℕ)
+        → spec.IsReasoned (view by.now.keys.now) by.now.ring.now id }
 {
-    keys.iter().filter(|key| is_signed(key)).count()
+    let threshold = by.role.threshold.get();
+    let signed = signers_of(alloc, doc, by.ring, by.role)?.len();
+    let listed = id_count(alloc, by.role.ids.as_slice())?;
+    let keys = Items::new(findings(alloc, doc, by)?);
+    Ok(Signing {
+        is_met: signed as u64 >= threshold,
+        threshold,
+        signed,
+        listed,
+        keys,
+    })
 }
 
 fn is_signed(key: &ListedKey) -> bool
@@ -138,7 +155,7 @@ fn findings(alloc: Global, doc: &Doc, by: &Required<'_>) -> Result<Vec<ListedKey
     Ok(all)
 }
 
-/// Adds a listed id, unless it is there.
+/// Adds a listed id, unless it is there or 64 are.
 fn add_id(
     alloc: Global,
     all: &mut Vec<ListedKey>,
@@ -149,7 +166,7 @@ fn add_id(
     ensures { OnOk result (all.new.items ≡ spec.with_id (doc_of doc.now).text
         (doc_of doc.now).entries (view by.now.keys.now) by.now.ring.now all.old.items id.now) }
 {
-    if is_named(all.as_slice(), id) {
+    if all.len() >= MOST_KEYS || is_named(all.as_slice(), id) {
         return Ok(());
     }
     let finding = finding_of(alloc, all.as_slice(), doc, by, id)?;

@@ -1,14 +1,12 @@
 //! Why a key counts for no threshold.
 
-ghost use Rattle.std.specs.Prelude.{◌≡◌, IfOk, is_some};
+ghost use Rattle.std.specs.Prelude.{◌≡◌, IfOk};
 ghost use Rattle.cjson.specs.Tree.{view};
-ghost use Rattle.keys.specs.Keys.{is_lms, public_value};
 ghost use Rattle.signing.specs.Signers as spec;
 
-use cjson::text::{Text, is_text};
+use cjson::text::Text;
 use cjson::{NoMemory, Tree};
-use hex::FromHex;
-use lms::Public;
+use keys::{is_lms, public_value};
 use std::alloc::Global;
 
 /// Why a listed id has no usable key, in the order of the checks.
@@ -50,16 +48,10 @@ fn why_unusable_key(alloc: Global, key: &Tree) -> Result<Unusable, NoMemory>
     if !is_lms(key) {
         return Ok(Unusable::Type(key_type(alloc, key)?));
     }
-    if !has_public_value(key) {
+    if public_value(key).is_none() {
         return Ok(Unusable::Kind);
     }
     Ok(Unusable::Id)
-}
-
-fn is_lms(key: &Tree) -> bool
-    ensures { result ≡ is_lms (view key.now) }
-{
-    is_text(key, "keytype", "lms") && is_text(key, "scheme", "lms-sha256")
 }
 
 fn key_type(alloc: Global, key: &Tree) -> Result<Text, NoMemory>
@@ -67,20 +59,4 @@ fn key_type(alloc: Global, key: &Tree) -> Result<Text, NoMemory>
 {
     let text = key.get("keytype").and_then(Tree::as_str).unwrap_or("");
     Ok(Text::new(String::from_str(alloc, text)?))
-}
-
-fn has_public_value(key: &Tree) -> bool
-    ensures { result ≡ is_some (public_value (view key.now)) }
-{
-    public_value(key).is_some()
-}
-
-fn public_value(key: &Tree) -> Option<Public>
-    ensures { result ≡ public_value (view key.now) }
-{
-    let text = key.get("keyval")?.get("public")?.as_str()?;
-    match <[u8; 56] as FromHex>::from_hex(text) {
-        Ok(bytes) => Public::read(&bytes),
-        Err(_) => None,
-    }
 }

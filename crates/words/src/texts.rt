@@ -191,6 +191,8 @@ It prints
   why keys FILE threshold T signed N
 and for each listed id
   why key ID signed LEAF  or `again ID2`, `absent`, `unusable WHY`, `unsigned` or `invalid N WHY`
+up to 64, and then, if N more are listed,
+  why more N
 
 EXAMPLES:
   tufcheck signers draft/timestamp.json --root 3.root.json --role timestamp

@@ -16,7 +16,7 @@ returns-clause-attached c =
     let key = c.args.key.now in
     let signed = ap₂ (λ t s. is_signed_by key.public t (encode_lower s)) c.deref.ensures.value c.deref-2.ensures.value in
     let there = c.has_entry-is_there.ensures.value ∙ ap₂ (λ t es. has_entry t es key) c.deref-3.ensures.value c.as_slice.ensures.value in
-    let digits = c.as_str.ensures.value ∙ c.in-Ok.ensures.digits ∙ ap encode_lower c.deref-2.ensures.value in
+    let digits = c.in-Ok.ensures.digits ∙ ap encode_lower c.deref-2.ensures.value in
     let new = c.new_text-new.ensures ∙ ap₂ (λ b s. if b then None else Some s) there digits in
     let made : Attached = record { file = c.in_ok-file.file; leaf = c.leaf_in.result; is_new = not c.has_entry-is_there.result } in
     subst (λ s. IsAttached c.args.file.now key s made) c.in_ok-sig.ensures
