@@ -127,12 +127,7 @@ impl Destination for Kept {
         Ok(Piece::new(alloc))
     }
 
-    fn standing(
-        &mut self,
-        alloc: Global,
-        _path: &str,
-        length: u64,
-    ) -> io::Result<Option<Piece>> {
+    fn standing(&mut self, alloc: Global, _path: &str, length: u64) -> io::Result<Option<Piece>> {
         match self.there {
             Some(bytes) if bytes.len() as u64 == length => Ok(Some(Piece::new(alloc))),
             _ => Ok(None),

@@ -4,8 +4,8 @@
 //! - [`Disk`] is the locked file that has how many leaves of a key are reserved, and the writer to
 //!   which signatures are handed. Its meaning is what a crash at each moment leaves.
 //! - [`Logged`] is a disk over the single [`Calls`] of a system.
-//! - [`create`] stores that no leaf is reserved, if the file is missing; [`restore`] stores a number
-//!   that is known to be high enough.
+//! - [`create`] stores that no leaf is reserved, if the file is missing; [`restore`] stores a
+//!   number that is known to be high enough.
 //! - [`sign`] reserves leaves, and only then signs by them. A [`Key`] signs by one leaf after the
 //!   other.
 //! - [`reserved_of`] reads the text of a leaves file.

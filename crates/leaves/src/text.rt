@@ -16,8 +16,9 @@ pub(crate) fn text_of(alloc: Global, public: &Public, n: u32) -> Result<Vec<u8>,
     Ok(text)
 }
 
-/// Returns how many leaves of the key the text of a leaves file has reserved: 56 bytes of the public
-/// key (RFC 8554 section 5.3), and the number in four. Returns None if it isn't one of this key.
+/// Returns how many leaves of the key the text of a leaves file has reserved: 56 bytes of the
+/// public key (RFC 8554 section 5.3), and the number in four. Returns None if it isn't one of this
+/// key.
 #[tactic(auto, unfolding(crate::specs::Leaves::reserved_of))]
 pub fn reserved_of(text: &[u8], public: &Public) -> Option<u32>
     ensures reserved { result ≡ reserved_of public.now text.now }

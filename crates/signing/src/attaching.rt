@@ -1,7 +1,7 @@
 //! A signature that another program made, as an entry of a metadata file.
 
-ghost use Rattle.std.specs.Prelude.{◌≡◌, ◌<◌, ◌++◌, Some, None, Ok, IfOk, IfErr, IsSome, if◌then◌else◌, map};
-ghost use Rattle.std.specs.Prelude.{List, ℕ, option_map, string_bytes};
+ghost use Rattle.std.specs.Prelude.{◌≡◌, ◌<◌, ◌++◌, Some, None, Ok, IfOk, IfErr, IsSome, List, ℕ};
+ghost use Rattle.std.specs.Prelude.{if◌then◌else◌, map, option_map, string_bytes};
 ghost use Rattle.serde_json.specs.Data.{depth};
 ghost use Rattle.serde_json.specs.Find.{as_object};
 ghost use Rattle.serde_json.specs.Read.{max_depth};

@@ -1,6 +1,7 @@
 //! Why a signature isn't valid.
 
-ghost use Rattle.std.specs.Prelude.{◌≡◌, ◌&&◌, ◌+◌, ◌*◌, ◌≤◌, Some, IfOk, bytes_eq, length, option_map};
+ghost use Rattle.std.specs.Prelude.{◌≡◌, ◌&&◌, ◌+◌, ◌*◌, ◌≤◌, Some, IfOk, bytes_eq, length};
+ghost use Rattle.std.specs.Prelude.{option_map};
 ghost use Rattle.hex.specs.Hex.{decode_of};
 ghost use Rattle.cjson.specs.Form.{ok};
 ghost use Rattle.lms.specs.Lms.{chain_count, public_kind, signature_length};
