@@ -245,3 +245,7 @@ HasCause job fault.Limit = 1 ≤ job.limit → job.limit ≤ 256 → ⊥
 -- the same of a first root
 abbrev pub IsNoRoot : List ℕ → JobFault → Type 0
 IsNoRoot root f = (f ≡ fault.Memory) ⊎ ((f ≡ fault.State) × IsNoState (root_state root))
+
+-- and of the text of a state
+abbrev pub IsNoStateText : List ℕ → JobFault → Type 0
+IsNoStateText text f = (f ≡ fault.Memory) ⊎ ((f ≡ fault.State) × IsNoState (state_of text))

@@ -5,3 +5,4 @@ pub mod Jobs
 pub mod Inputs
 pub mod Rows
 pub mod Outcomes
+pub mod Trusted

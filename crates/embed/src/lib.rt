@@ -5,6 +5,7 @@
 //! - [`list`] returns what roles list of the wanted paths, for a caller that has no target files.
 //! - [`next`] returns the files that a caller has to fetch next.
 //! - [`first_state`] returns the state of a first root, which the caller trusts.
+//! - [`show`] returns what a state trusts, and until when.
 #![tactic(auto)]
 
 mod fault;
@@ -15,6 +16,7 @@ mod job;
 mod listing;
 mod rows;
 mod store;
+mod trusted;
 mod verifying;
 
 pub use fault::JobFault;
@@ -23,4 +25,5 @@ pub use input::first_state;
 pub use job::{Bytes, Digests, File, Job};
 pub use listing::{Listing, list};
 pub use rows::{ListedRow, NeedRow, RoleRow, Summary, VerdictRow};
+pub use trusted::{TrustedRow, show};
 pub use verifying::{Verification, verify};

@@ -1,12 +1,12 @@
 -- The lines that show a trusted state, and their exit status.
 use Rattle.std.specs.List.{flat_map, list_any}
-use Rattle.std.specs.Prelude.{ℕ, zero, suc, ◌/◌, ◌%◌, Bool, false, ◌&&◌, nat_lt, if◌then◌else◌, ℤ, pos, negsuc, ◌-ℤ◌, int_le, unsigned_abs, List, [], ◌∷◌, Option, Some, None, option_map, decimal}
+use Rattle.std.specs.Prelude.{ℕ, zero, suc, ◌/◌, ◌%◌, Bool, false, ◌&&◌, nat_lt, if◌then◌else◌, ℤ, pos, negsuc, ◌-ℤ◌, int_le, unsigned_abs, List, [], ◌∷◌, Option, Some, None, decimal}
 use Rattle.jiff_core.specs.Calendar.{days_from_civil}
 use Rattle.moment.specs.Moment.{Moment, is_before, stamp_text}
 use Rattle.meta.specs.declared.header.Header.{Header}
 use Rattle.rolechain.specs.Advance.{State}
 use Rattle.rolechain.specs.declared.end.Step.{Step}
-use Rattle.rolechain.specs.declared.end.Step.TheVariants.{Root, Timestamp, Snapshot, Targets}
+use Rattle.rolechain.specs.Headers.{headers}
 use Rattle.failure.specs.Failures.{line}
 use Rattle.report.specs.Lines.{step_word}
 
@@ -53,14 +53,6 @@ moment_text m =
     if has_text m then text_in (year_of m.day) (month_of (year_of m.day) m.day) m else []
 
 -- # The lines.
-
--- the header of each file, if the file is trusted
-abbrev pub headers : State → List (Step × Option Header)
-headers s =
-    (Root, Some s.root.reading.header)
-    ∷ (Timestamp, option_map (λ p. p.reading.header) s.timestamp)
-    ∷ (Snapshot, option_map (λ p. p.reading.header) s.snapshot)
-    ∷ (Targets, option_map (λ p. p.reading.header) s.targets) ∷ []
 
 -- `STEP VERSION EXPIRES` of a trusted file
 abbrev pub file_text : Step × Option Header → List ℕ

@@ -1,7 +1,7 @@
 //! The lines that show a trusted state.
 
 ghost use Rattle.std.specs.Prelude.{◌≡◌, ◌≤◌, ◌++◌, Option, IfErr, IfOk, OnOk};
-ghost use Rattle.std.specs.Prelude.{flat_map, option_map, string_bytes};
+ghost use Rattle.std.specs.Prelude.{flat_map, string_bytes};
 ghost use Rattle.std.specs.Io.KnownBytes.{Appends};
 ghost use Rattle.std.specs.List.{list_any};
 ghost use Rattle.failure.specs.Failures.{IsLate};
@@ -14,6 +14,7 @@ use failure::Failure;
 use inout::put;
 use meta::Header;
 use moment::Moment;
+use rolechain::headers;
 use std::alloc::{AllocError, Global};
 use std::io::Write;
 
@@ -38,45 +39,6 @@ pub fn show<W: Write>(
     let text = text_of(alloc, &files)?;
     put(out, text.as_str())?;
     Ok(status_of(&files, before))
-}
-
-/// Returns the step of each file, with its header if the file is trusted.
-fn headers(trusted: &Trusted) -> [(Step, Option<Header>); 4]
-    ensures files { result ≡ spec.headers trusted.now }
-{
-    [
-        (Step::Root, Some(*trusted.root().reading().header())),
-        (Step::Timestamp, timestamp_header(trusted)),
-        (Step::Snapshot, snapshot_header(trusted)),
-        (Step::Targets, targets_header(trusted)),
-    ]
-}
-
-fn timestamp_header(trusted: &Trusted) -> Option<Header>
-    ensures { result ≡ option_map (λ p. p.reading.header) trusted.now.timestamp }
-{
-    match trusted.timestamp() {
-        Some(part) => Some(*part.reading().header()),
-        None => None,
-    }
-}
-
-fn snapshot_header(trusted: &Trusted) -> Option<Header>
-    ensures { result ≡ option_map (λ p. p.reading.header) trusted.now.snapshot }
-{
-    match trusted.snapshot() {
-        Some(part) => Some(*part.reading().header()),
-        None => None,
-    }
-}
-
-fn targets_header(trusted: &Trusted) -> Option<Header>
-    ensures { result ≡ option_map (λ p. p.reading.header) trusted.now.targets }
-{
-    match trusted.targets() {
-        Some(part) => Some(*part.reading().header()),
-        None => None,
-    }
 }
 
 /// Returns the lines of the files that are trusted.

@@ -5,6 +5,7 @@
 mod end;
 mod expected;
 mod fault;
+mod header;
 mod role;
 mod roots;
 mod rotation;
@@ -16,6 +17,7 @@ mod workflow;
 pub use end::{End, Step};
 pub use expected::{due_root, due_snapshot, due_timestamp, place_of};
 pub use fault::StateFault;
+pub use header::headers;
 pub use role::{Role, examine_role};
 pub use roots::{LAST_VERSION, MOST_ROOTS};
 pub use state::Trusted;

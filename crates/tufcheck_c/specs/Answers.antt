@@ -1,8 +1,9 @@
 -- What is in the caller's memory after a call.
 use Rattle.std.specs.Prelude.{◌≡◌, ◌≤◌, ◌==◌, ℕ, ℤ, pos, negsuc, List, Bool, false, ◌&&◌, nat_le, take, length}
 use denote.Ref.{MutBor}
-pub use Rattle.embed.specs.Jobs.{HasCause, IsNoRoot}
+pub use Rattle.embed.specs.Jobs.{HasCause, IsNoRoot, IsNoStateText}
 pub use Rattle.embed.specs.Outcomes.{AreCounted, AreListed, AreNeeds, IsFirst, IsListing, IsNext, IsVerified}
+pub use Rattle.embed.specs.Trusted.{AreTrusted}
 use Rattle.embed.specs.declared.fault.JobFault.{JobFault}
 use Rattle.embed.specs.declared.fault.JobFault.TheVariants as fault
 use Rattle.embed.specs.declared.fetching.Missing.{Missing}
