@@ -4,12 +4,13 @@
 #
 #   dist/build.sh [FOLDER]      dist/out/build unless given
 #
-# Each build is `rt run` in crates/tufcheck and `rt lib` in crates/tufcheck_c, so each is proved; the second one in a copy
-# of the files that git knows, in which the number of lanes is 8, with what the first one kept: so of the second only what
-# that number changes is proved. With nothing kept it takes as long as the gate's proofs. FOLDER then has `tufcheck`, the
-# release's program; each build alone, `tufcheck-v2` and `tufcheck-v3`, and `tufcheck-own`, which Rattle's own compiler made
-# of the second, for dist/halves.sh; and the libraries `libtufcheck_c-v2.a` and `libtufcheck_c-v3.a`, for
-# dist/package-dev.sh. Needs the kit, cc, objcopy and strip. The status is 0, or 1 if something fails.
+# Each build is `rt run` in crates/tufcheck and `rt lib` in crates/tufcheck_c, so each is proved, in a copy of the files that
+# git knows. Unless one of them differs from the commit, `--version` names it. In the second copy the number of lanes is 8,
+# and what the first one kept is there: so only what that number changes is proved. With nothing kept it takes as long as the
+# gate's proofs. FOLDER then has `tufcheck`, the release's program; each build alone, `tufcheck-v2` and `tufcheck-v3`, and
+# `tufcheck-own`, which Rattle's own compiler made of the second, for dist/halves.sh; and the libraries
+# `libtufcheck_c-v2.a` and `libtufcheck_c-v3.a`, for dist/package-dev.sh. Needs the kit, cc, objcopy and strip. The status is
+# 0, or 1 if something fails.
 set -eu
 export LC_ALL=C
 top=$(cd "$(dirname "$0")/.." && pwd)
@@ -35,15 +36,25 @@ built() {
     objcopy --redefine-sym "main=main_$name" "$crates/tufcheck/out/tufcheck.o" "$work/$name.o"
 }
 
-mkdir -p "$out" "$work/v3"
-(cd "$top" && git ls-files -z | tar --null -T - -cf - | tar -xf - -C "$work/v3")
+# copied ROOT NAME: a copy of the files, with what was built below ROOT
+copied() {
+    mkdir -p "$work/$2"
+    (cd "$top" && git ls-files -z | tar --null -T - -cf - | tar -xf - -C "$work/$2")
+    for kept in "$1"/crates/*/out; do
+        [ -d "$kept" ] || continue
+        cp -a "$kept" "$work/$2/crates/$(basename "$(dirname "$kept")")"
+    done
+    [ -z "$commit" ] || sed -i "s/ (rattle logic/ (commit $commit, rattle logic/" "$work/$2/crates/words/src/version.rt"
+}
+
+mkdir -p "$out"
+commit=$(cd "$top" && git diff --quiet HEAD && git rev-parse --short=12 HEAD) || commit=
+copied "$top" v2
+built "$work/v2" v2
+copied "$work/v2" v3
 lanes=$work/v3/crates/lanes/src/lib.rt
 sed -i 's/^pub const LANES: usize = 4;$/pub const LANES: usize = 8;/' "$lanes"
 grep -q -x 'pub const LANES: usize = 8;' "$lanes" || { echo "build.sh: no number of lanes in crates/lanes" >&2; exit 1; }
-built "$top" v2
-for kept in "$top"/crates/*/out; do
-    cp -a "$kept" "$work/v3/crates/$(basename "$(dirname "$kept")")"
-done
 built "$work/v3" v3 --cpu x86-64-v3
 made "$work/v3/crates/tufcheck" run --cpu x86-64-v3 --backend rattle
 cp "$work/v3/crates/tufcheck/out/tufcheck" "$out/tufcheck-own"

@@ -53,6 +53,8 @@ if command -v rt > /dev/null; then
     [[ $(rt version) == *"logic $logic" ]] || { echo "rt version: $(rt version)"; status=1; }
 fi
 if [ -x "$program" ]; then
-    [ "$("$program" --version)" = "tufcheck $text" ] || { echo "$program: $("$program" --version)"; status=1; }
+    # (that of a release also names its commit)
+    [ "$("$program" --version | sed 's/(commit [0-9a-f]\{12\}, /(/')" = "tufcheck $text" ] ||
+        { echo "$program: $("$program" --version)"; status=1; }
 fi
 exit $status
