@@ -6,7 +6,7 @@ ghost use Rattle.folder.specs.declared.files.LoadFault.TheVariants as fault;
 ghost use Rattle.measured.specs.Closed.{IsClosed, is_found};
 ghost use Rattle.measured.specs.Known.{IsCovered, IsKnown};
 
-use crate::early::read_early;
+use crate::early::{Readers, read_early};
 use crate::known::{Known, named};
 use crate::reading::{note_all, read_all};
 use crate::store::Measured;
@@ -15,15 +15,6 @@ use cycle::{Course, Outcome};
 use folder::{Folder, LoadFault};
 use std::alloc::{AllocError, Global};
 use std::thread::Threads;
-
-/// The threads that read target files.
-#[derive(Drop)]
-pub struct Readers<'a, R> {
-    /// The runtime that starts them.
-    pub rt: &'a R,
-    /// Maximum number of threads; if it is 0, the calling thread reads.
-    pub threads: usize,
-}
 
 /// Ends a course by the target files of a folder that has these names. Each file that a search
 /// found is read once, in pieces, no further than the greatest length that is listed of it and one
@@ -79,7 +70,7 @@ fn measured<R: Threads + Sync, F: Folder + Sync>(
     let searches = course.searches();
     let mut known = named(alloc, names)?;
     note_all(alloc, searches, consistent, &mut known)?;
-    read_early(readers.rt, alloc, folder, readers.threads, &mut known)?;
+    read_early(readers, alloc, folder, &mut known)?;
     read_all(alloc, folder, searches, consistent, &mut known)?;
     Ok(known)
 }

@@ -10,6 +10,18 @@ use std::alloc::{AllocError, Global};
 use std::mem;
 use std::thread::{self, Threads};
 
+/// Maximum number of files that a thread measures before their measures are stored.
+const MOST_AT_ONCE: usize = 2_048;
+
+/// The threads that read target files.
+#[derive(Drop)]
+pub struct Readers<'a, R> {
+    /// The runtime that starts them.
+    pub rt: &'a R,
+    /// Maximum number of threads; if it is 0, the calling thread reads.
+    pub threads: usize,
+}
+
 /// The files that one thread measures, and those that it has measured.
 #[derive(Drop)]
 pub struct Share {
@@ -17,30 +29,32 @@ pub struct Share {
     pub done: Vec<Done>,
 }
 
-/// Measures the wanted files by `threads` threads, each of which digests several files side by
-/// side. If `threads` is 0, the calling thread does so, if several files are wanted. What is known
+/// Measures the wanted files by the readers' threads, each of which digests several files side by
+/// side. If there are none, the calling thread does so, if several files are wanted. What is known
 /// of a file is unchanged if it can't be measured. Fails only if out of memory.
 pub(crate) fn read_early<R: Threads + Sync, F: Folder + Sync>(
-    rt: &R,
+    readers: &Readers<'_, R>,
     alloc: Global,
     folder: &F,
-    threads: usize,
     known: &mut Known,
 ) -> Result<(), AllocError>
     ensures known { (names : List (List ℕ)) (found : List ℕ → Bool)
         → StaysKnown names (F.gives folder.now).holds found known.old known.new }
 {
-    let jobs = jobs_of(alloc, known)?;
-    if threads == 0 && jobs.len() < 2 {
+    let mut jobs = jobs_of(alloc, known)?;
+    if readers.threads == 0 && jobs.len() < 2 {
         return Ok(());
     }
-    let mut shares = shares_of(alloc, threads.max(1))?;
-    deal(jobs, shares.as_mut_slice())?;
-    measure_all(rt, alloc, folder, shares.as_mut_slice(), threads);
-    keep_shares(shares, known)
+    'parts: for _ in 0..jobs.len() {
+        if jobs.is_empty() {
+            return Ok(());
+        }
+        read_part(readers, alloc, folder, &mut jobs, known)?;
+    }
+    Ok(())
 }
 
-/// Returns a job for each wanted file, with those last of which most is wanted. Fails only if out
+/// Returns a job for each wanted file, with those first of which most is wanted. Fails only if out
 /// of memory.
 fn jobs_of(alloc: Global, known: &Known) -> Result<Vec<Job>, AllocError> {
     let mut jobs = Vec::new(alloc);
@@ -51,8 +65,25 @@ fn jobs_of(alloc: Global, known: &Known) -> Result<Vec<Job>, AllocError> {
             jobs.push(Job { name, need })?;
         }
     }
-    jobs.sort_unstable_by_key(|job: &Job| job.need.up_to);
+    jobs.sort_unstable_by_key(|job: &Job| u64::MAX - job.need.up_to);
     Ok(jobs)
+}
+
+/// Measures the files of the last jobs, so that the measures of no more are held twice.
+fn read_part<R: Threads + Sync, F: Folder + Sync>(
+    readers: &Readers<'_, R>,
+    alloc: Global,
+    folder: &F,
+    jobs: &mut Vec<Job>,
+    known: &mut Known,
+) -> Result<(), AllocError>
+    ensures known { (names : List (List ℕ)) (found : List ℕ → Bool)
+        → StaysKnown names (F.gives folder.now).holds found known.old known.new }
+{
+    let mut shares = shares_of(alloc, readers.threads.max(1))?;
+    deal(jobs, shares.as_mut_slice())?;
+    measure_all(readers, alloc, folder, shares.as_mut_slice());
+    keep_shares(shares, known)
 }
 
 /// Returns shares with no files. Fails only if out of memory.
@@ -67,10 +98,13 @@ fn shares_of(alloc: Global, count: usize) -> Result<Vec<Share>, AllocError> {
     Ok(shares)
 }
 
-/// Deals the jobs to the shares in turn. Fails only if out of memory.
-fn deal(jobs: Vec<Job>, shares: &mut [Share]) -> Result<(), AllocError> {
+/// Deals the last jobs to the shares in turn, the last one first. Fails only if out of memory.
+fn deal(jobs: &mut Vec<Job>, shares: &mut [Share]) -> Result<(), AllocError> {
     let mut next = 0;
-    for job in jobs {
+    'jobs: for _ in 0..shares.len().saturating_mul(MOST_AT_ONCE) {
+        let Some(job) = jobs.pop() else {
+            return Ok(());
+        };
         if next >= shares.len() {
             next = 0;
         }
@@ -82,24 +116,23 @@ fn deal(jobs: Vec<Job>, shares: &mut [Share]) -> Result<(), AllocError> {
     Ok(())
 }
 
-/// Measures the files of each share, each by a thread of its own unless `threads` is 0.
+/// Measures the files of each share, each by a thread of its own unless there are none.
 fn measure_all<R: Threads + Sync, F: Folder + Sync>(
-    rt: &R,
+    readers: &Readers<'_, R>,
     alloc: Global,
     folder: &F,
     shares: &mut [Share],
-    threads: usize,
 )
     ensures { All (λ s. AreDone (F.gives folder.now).holds s.done.items) shares.new }
 {
-    if threads == 0 {
+    if readers.threads == 0 {
         measure_each(alloc, folder, shares);
         return;
     }
     thread::for_each_mut(
-        rt,
+        readers.rt,
         shares,
-        threads,
+        readers.threads,
         &|_, share: &mut Share| { measure_share(alloc, folder, share) },
     );
 }

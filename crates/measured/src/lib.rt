@@ -15,5 +15,6 @@ mod need;
 mod reading;
 mod store;
 
-pub use closing::{Readers, close};
+pub use closing::close;
 pub use copying::{Copied, close_into};
+pub use early::Readers;

@@ -16,6 +16,9 @@ use std::num::NonZeroUsize;
 /// Number of signed bytes for each file of a cache's capacity. All its files together have no more.
 const BYTES_EACH: usize = 16_384;
 
+/// Number of bytes at each end of a message by which its file is found.
+const END: usize = 1_024;
+
 /// A verdict on a signature: a key's public value, the signature's text, and whether it is valid.
 struct Verdict {
     public: Public,
@@ -111,7 +114,8 @@ fn verdict_on(alloc: Global, question: &SignatureAsk, valid: bool) -> Result<Ver
 }
 
 /// Verdicts on the signatures of the files that were used last, found by a digest of a file's name
-/// and signed bytes. Each is the truth, and is used only if the signed bytes themselves are equal.
+/// and of the two ends of its signed bytes. Each is the truth, and is used only if the signed bytes
+/// themselves are equal.
 pub struct Cache {
     alloc: Global,
     files: LruCache<[u8; 32], Remembered>,
@@ -197,10 +201,18 @@ impl Cache {
         }
         let mut file = Remembered::new(self.alloc, question.file, question.message)?;
         file.learn(question.place, verdict)?;
+        self.forget(&digest);
         self.make_room(question.message.len());
         self.files.put(digest, file)?;
         self.left = self.left.saturating_sub(question.message.len());
         Ok(())
+    }
+
+    /// Drops the file with this digest, if there is one.
+    fn forget(&mut self, digest: &[u8; 32]) {
+        if let Some(file) = self.files.pop(digest) {
+            self.left = self.left.saturating_add(file.message.len());
+        }
     }
 
     /// Drops the files that were used least recently, until there is room for one more of this
@@ -217,11 +229,18 @@ impl Cache {
     }
 }
 
-/// Returns the SHA-256 of the name's length, the name and the message.
+/// Returns the SHA-256 of the lengths of name and message, the name, and the first and the last
+/// 1,024 bytes of the message, or all of a short one.
 fn digest_of_parts(name: &str, message: &[u8]) -> [u8; 32] {
     let mut hasher = Sha256::new();
     hasher.update(&(name.len() as u64).to_be_bytes());
+    hasher.update(&(message.len() as u64).to_be_bytes());
     hasher.update(name.as_bytes());
-    hasher.update(message);
+    if message.len() <= 2 * END {
+        hasher.update(message);
+    } else {
+        hasher.update(message.split_at(END).0);
+        hasher.update(message.split_at(message.len() - END).1);
+    }
     hasher.finalize()
 }

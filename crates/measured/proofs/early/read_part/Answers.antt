@@ -2,7 +2,7 @@ use Rattle.std.proofs.Common.{◌∙◌, All, subst, sym}
 use Rattle.folder.proofs.Streaming.{written}
 use Rattle.measured.specs.Known.{AreDone}
 use Rattle.measured.specs.declared.early.Share.{Share}
-use Rattle.measured.proofs.early.read_early.Goals as goal
+use Rattle.measured.proofs.early.read_part.Goals as goal
 
 pub returns : goal.returns
 returns g c = record {
