@@ -6,8 +6,9 @@ ghost use Rattle.embed.specs.Trusted as spec;
 ghost use Rattle.rolechain.specs.Headers.{headers};
 
 use crate::fault::JobFault;
-use cycle::{Moment, Step, Trusted};
+use cycle::{Step, Trusted};
 use meta::Header;
+use moment::Moment;
 use rolechain::headers;
 use std::alloc::Global;
 
