@@ -1,5 +1,5 @@
 -- What is known of the files of a folder, each of which is measured at most once.
-use Rattle.std.specs.Prelude.{ℕ, ◌+◌, ◌==◌, ⊤, Result, List, Bool, true, false, ◌&&◌, ◌||◌, not, max, nat_lt, ◌≡◌, Option, None, Some, IfSome, is_some, find, option_map, bytes_eq, All}
+use Rattle.std.specs.Prelude.{ℕ, ◌+◌, ◌==◌, ⊤, Result, List, Bool, true, false, ◌&&◌, ◌||◌, not, max, nat_lt, ◌≡◌, Option, None, Some, IfSome, is_some, find, option_map, bytes_eq, string_bytes, All}
 use Rattle.std.specs.BTreeMap.{get_by_text}
 use Rattle.std.specs.Option.{option_map_or}
 use Rattle.cjson.specs.Document.{◌>>=◌, refuse_if}
@@ -15,6 +15,7 @@ use Rattle.folder.specs.declared.job.Done.{Done}
 use Rattle.folder.specs.declared.measure.Measure.{Measure}
 use Rattle.folder.specs.declared.measure.Need.{Need}
 use Rattle.measured.specs.declared.known.Known.{Known}
+use Rattle.measured.specs.declared.known.There.{There}
 use Rattle.measured.specs.declared.known.Wanted.{Wanted}
 
 -- # What is needed of a file.
@@ -116,6 +117,10 @@ pub record Puts (name : List ℕ) (value : Option Wanted) (old new : Known) : Ty
   pub there : get_by_text new.files name ≡ Some value
   pub others : (other : List ℕ)
       → bytes_eq name other ≡ false → get_by_text new.files other ≡ get_by_text old.files other
+
+-- it has what is known of the file of its name
+abbrev pub IsThere : Known → There → Type 0
+IsThere k t = get_by_text k.files (string_bytes t.name) ≡ Some t.wanted
 
 -- each name has what it had
 abbrev pub IsSame : Known → Known → Type 0

@@ -1,17 +1,16 @@
 //! The end of a course, with copies of the files that its searches found.
 
 ghost use Rattle.std.specs.Prelude.{◌≡◌, ◌≢◌, ◌≤◌, true, List, [], ℕ, Bool, All, Err, IfErr};
-ghost use Rattle.std.specs.Prelude.{IfOk, IfSome, OnOk, is_some, map, string_bytes};
-ghost use Rattle.std.specs.BTreeMap.{get_by_text};
+ghost use Rattle.std.specs.Prelude.{IfOk, IfSome, OnOk, map, string_bytes};
 ghost use Rattle.folder.specs.Folders.{HasFailed, IsSameFolder};
 ghost use Rattle.copies.specs.declared.fault.CopyFault.TheVariants as fault;
 ghost use Rattle.measured.specs.Closed.{HasNamesOf, IsClosed, is_found};
 ghost use Rattle.measured.specs.Copied.{AreCopiesFor, HasContentOf, IsCopyFor, IsMade};
 ghost use Rattle.measured.specs.Copied.{IsMeasuredInto};
-ghost use Rattle.measured.specs.Known.{IsCovered, IsKnown, StaysKnown};
+ghost use Rattle.measured.specs.Known.{IsCovered, IsKnown, IsThere, StaysKnown};
 
 use crate::fitting::fits;
-use crate::known::{Known, Wanted, entry_of, named, place, put};
+use crate::known::{Known, There, Wanted, named, place, put};
 use crate::need::widened;
 use crate::reading::{is_measured, need_of, note_all, read_all, target_of};
 use crate::store::Measured;
@@ -161,16 +160,16 @@ fn copy_one<F: Folder, D: Destination>(
     let Some(target) = target_of(sought.search) else {
         return Ok(None);
     };
-    let Some(name) = place(alloc, known, sought.consistent, target)? else {
+    let Some(there) = place(alloc, known, sought.consistent, target)? else {
         return Ok(None);
     };
-    copy_file(alloc, folder, Placed { name, target }, known, to)
+    copy_file(alloc, folder, Placed { there, target }, known, to)
 }
 
 /// A file that is there, and the target that it should be.
 #[derive(Drop)]
 struct Placed<'a> {
-    name: String,
+    there: There,
     target: &'a Target,
 }
 
@@ -183,9 +182,9 @@ fn copy_file<F: Folder, D: Destination>(
     known: &mut Known,
     to: &mut D,
 ) -> Result<Option<D::Temporary>, CopyFault>
-    requires there { is_some (get_by_text known.old.files (string_bytes placed.name)) ≡ true }
+    requires there { IsThere known.old placed.there }
     ensures known { (names : List (List ℕ)) (found : List ℕ → Bool)
-        → found (string_bytes placed.entry.name) ≡ true
+        → found (string_bytes placed.entry.there.name) ≡ true
         → StaysKnown names (F.gives folder.old).holds found known.old known.new }
     ensures copy { IfOk result (λ copy. IfSome copy
         (λ file. HasContentOf (D.Temporary.wrote file) placed.entry.target.now)) }
@@ -195,12 +194,12 @@ fn copy_file<F: Folder, D: Destination>(
     ensures same { IsSameFolder (F.gives folder.old) (F.gives folder.new) }
     ensures same_site { D.site to.new ≡ D.site to.old }
 {
-    let Placed { name, target } = placed;
-    let entry = entry_of(known, name.as_str());
-    if is_measured(entry, target) {
+    let Placed { there, target } = placed;
+    let There { name, wanted } = there;
+    if is_measured(wanted, target) {
         return Ok(None);
     }
-    let need = widened(need_of(entry), target);
+    let need = widened(need_of(wanted), target);
     let reading = Reading {
         name: name.as_str(),
         need,
@@ -208,11 +207,11 @@ fn copy_file<F: Folder, D: Destination>(
     };
     let made = make_copy(alloc, folder, &reading, to)?;
     let Made { measure, copy } = made;
-    let wanted = Wanted {
+    let measured = Wanted {
         need,
         measure: Some(measure),
     };
-    put(known, name, Some(wanted))?;
+    put(known, name, Some(measured))?;
     Ok(copy)
 }
 

@@ -1,6 +1,6 @@
 //! The names of a folder's files, and the measures taken so far.
 
-ghost use Rattle.std.specs.Prelude.{◌≡◌, ◌∷◌, [], ℕ, List, Bool, Some, IfOk, OnOk, OnErr};
+ghost use Rattle.std.specs.Prelude.{◌≡◌, ◌∷◌, [], ℕ, List, Bool, Some, IfOk, IfSome, OnOk, OnErr};
 ghost use Rattle.std.specs.Prelude.{find, is_some, map, option_map, string_bytes};
 ghost use Rattle.std.specs.BTreeMap.{get_by_text};
 ghost use Rattle.meta.specs.Content.{hashed_name};
@@ -18,6 +18,13 @@ use std::collections::BTreeMap;
 pub struct Wanted {
     pub need: Need,
     pub measure: Option<Measure>,
+}
+
+/// A file that is there: its name, and what is known of it if it is wanted.
+#[derive(Drop)]
+pub struct There {
+    pub name: String,
+    pub wanted: Option<Wanted>,
 }
 
 /// The names of the files, each with what is known of the file if it is wanted.
@@ -62,17 +69,18 @@ pub(crate) fn entry_of(known: &Known, name: &str) -> Option<Option<Wanted>>
     Some(*known.files.get(name)?)
 }
 
-/// Returns the first of the target's names that is there: its path, or under consistent snapshots
-/// the names under its sha256 and its sha512 digest, each if it is listed (TUF 1.0 section 5.7).
-/// Fails only if out of memory.
+/// Returns the file under the first of the target's names that is there: its path, or under
+/// consistent snapshots the names under its sha256 and its sha512 digest, each if it is listed (TUF
+/// 1.0 section 5.7). Fails only if out of memory.
 pub(crate) fn place(
     alloc: Global,
     known: &Known,
     consistent: bool,
     target: &Target,
-) -> Result<Option<String>, AllocError>
-    ensures { IfOk result (λ o. option_map string_bytes o
+) -> Result<Option<There>, AllocError>
+    ensures name { IfOk result (λ o. option_map (λ t. string_bytes t.name) o
         ≡ spec.place known.now consistent target.now) }
+    ensures there { IfOk result (λ o. IfSome o (spec.IsThere known.now)) }
 {
     if !consistent {
         let path = String::from_str(alloc, target.path.as_str())?;
@@ -80,8 +88,8 @@ pub(crate) fn place(
     }
     if let Some(digest) = &target.hashes.sha256 {
         let name = name_under(alloc, digest, target)?;
-        if known.files.get(name.as_str()).is_some() {
-            return Ok(Some(name));
+        if let Some(there) = if_there(known, name) {
+            return Ok(Some(there));
         }
     }
     let Some(digest) = &target.hashes.sha512 else {
@@ -99,13 +107,15 @@ fn name_under(alloc: Global, digest: &[u8], target: &Target) -> Result<String, A
     digest_name(alloc, digest, target.path.as_str())
 }
 
-fn if_there(known: &Known, name: String) -> Option<String>
-    ensures { option_map string_bytes result
+/// Returns the file of that name, if there is one.
+fn if_there(known: &Known, name: String) -> Option<There>
+    ensures name { option_map (λ t. string_bytes t.name) result
         ≡ find (λ name. is_some (get_by_text known.now.files name)) (string_bytes name ∷ []) }
+    ensures some { is_some result ≡ is_some (get_by_text known.now.files (string_bytes name)) }
+    ensures there { IfSome result (spec.IsThere known.now) }
 {
-    if known.files.get(name.as_str()).is_some() {
-        Some(name)
-    } else {
-        None
+    match entry_of(known, name.as_str()) {
+        Some(wanted) => Some(There { name, wanted }),
+        None => None,
     }
 }

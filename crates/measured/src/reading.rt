@@ -1,7 +1,7 @@
 //! The reading of the files that searches found, each once.
 
 ghost use Rattle.std.specs.Prelude.{◌≡◌, ◌≤◌, ◌⊎◌, true, false, ℕ, List, Bool, All, IfErr, OnOk};
-ghost use Rattle.std.specs.Prelude.{is_some, option_map, string_bytes};
+ghost use Rattle.std.specs.Prelude.{option_map, string_bytes};
 ghost use Rattle.std.specs.BTreeMap.{get_by_text};
 ghost use Rattle.std.specs.Option.{option_map_or};
 ghost use Rattle.folder.specs.Folders.{HasFailed, IsSameFolder};
@@ -11,7 +11,7 @@ ghost use Rattle.measured.specs.Closed.{HasNamesOf, is_found};
 ghost use Rattle.measured.specs.Known as spec;
 ghost use Rattle.measured.specs.Known.{Grows, IsCovered, StaysKnown};
 
-use crate::known::{Known, Wanted, entry_of, place, put};
+use crate::known::{Known, There, Wanted, place, put};
 use crate::need::{NOTHING, covers, widened};
 use cycle::{Found, Search, Target};
 use folder::{Folder, LoadFault, Need};
@@ -57,13 +57,13 @@ fn note(
     let Some(target) = target_of(search) else {
         return Ok(());
     };
-    let Some(name) = place(alloc, known, consistent, target)? else {
+    let Some(there) = place(alloc, known, consistent, target)? else {
         return Ok(());
     };
-    let need = widened(need_of(entry_of(known, name.as_str())), target);
+    let need = widened(need_of(there.wanted), target);
     put(
         known,
-        name,
+        there.name,
         Some(Wanted {
             need,
             measure: None,
@@ -72,14 +72,12 @@ fn note(
 }
 
 /// Returns what has been needed of the file so far.
-pub(crate) fn need_of(entry: Option<Option<Wanted>>) -> Need
-    ensures { (t : Target)
-        → option_map_or (λ o. spec.is_measured o t) entry false ≡ true
-        → spec.covers result t ≡ true }
+pub(crate) fn need_of(wanted: Option<Wanted>) -> Need
+    ensures { (t : Target) → spec.is_measured wanted t ≡ true → spec.covers result t ≡ true }
 {
-    match entry {
-        Some(Some(wanted)) => wanted.need,
-        _ => NOTHING,
+    match wanted {
+        Some(wanted) => wanted.need,
+        None => NOTHING,
     }
 }
 
@@ -128,48 +126,48 @@ fn read<F: Folder>(
     let Some(target) = target_of(search) else {
         return Ok(());
     };
-    let Some(name) = place(alloc, known, consistent, target)? else {
+    let Some(there) = place(alloc, known, consistent, target)? else {
         return Ok(());
     };
-    read_file(alloc, folder, name, target, known)
+    read_file(alloc, folder, there, target, known)
 }
 
-/// Reads the file of that name, which is there, unless it was read as far as the target needs it.
+/// Reads the file, unless it was read as far as the target needs it.
 #[tactic(auto, using(folder::proofs::Sameness::sameness))]
 fn read_file<F: Folder>(
     alloc: Global,
     folder: &mut F,
-    name: String,
+    there: There,
     target: &Target,
     known: &mut Known,
 ) -> Result<(), LoadFault>
-    requires there { is_some (get_by_text known.old.files (string_bytes name)) ≡ true }
+    requires there { spec.IsThere known.old there }
     ensures known { (names : List (List ℕ)) (found : List ℕ → Bool)
-        → found (string_bytes name) ≡ true
+        → found (string_bytes there.name) ≡ true
         → StaysKnown names (F.gives folder.old).holds found known.old known.new }
     ensures measured { OnOk result (option_map_or (λ o. spec.is_measured o target.now)
-        (get_by_text known.new.files (string_bytes name)) false ≡ true) }
+        (get_by_text known.new.files (string_bytes there.name)) false ≡ true) }
     ensures grows { Grows known.old known.new }
     ensures failed { IfErr result (λ e. e ≡ fault.Folder
         → HasFailed (F.gives folder.old) (F.gives folder.new)) }
     ensures same { IsSameFolder (F.gives folder.old) (F.gives folder.new) }
 {
-    let entry = entry_of(known, name.as_str());
-    if is_measured(entry, target) {
+    let There { name, wanted } = there;
+    if is_measured(wanted, target) {
         return Ok(());
     }
-    let need = widened(need_of(entry), target);
+    let need = widened(need_of(wanted), target);
     let measure = Some(folder.measure(alloc, name.as_str(), need)?);
     put(known, name, Some(Wanted { need, measure }))?;
     Ok(())
 }
 
 /// Returns whether the file was measured as far as the target needs it.
-pub(crate) fn is_measured(entry: Option<Option<Wanted>>, target: &Target) -> bool
-    ensures { result ≡ option_map_or (λ o. spec.is_measured o target.now) entry false }
+pub(crate) fn is_measured(wanted: Option<Wanted>, target: &Target) -> bool
+    ensures { result ≡ spec.is_measured wanted target.now }
 {
-    match entry {
-        Some(Some(wanted)) => wanted.measure.is_some() && covers(wanted.need, target),
-        _ => false,
+    match wanted {
+        Some(wanted) => wanted.measure.is_some() && covers(wanted.need, target),
+        None => false,
     }
 }

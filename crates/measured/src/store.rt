@@ -4,7 +4,7 @@ ghost use Rattle.std.specs.Prelude.{◌≡◌, true};
 ghost use Rattle.measured.specs.Known as spec;
 
 use crate::check::check_measure;
-use crate::known::{Known, entry_of, place};
+use crate::known::{Known, place};
 use cycle::Store;
 use keys::Judge;
 use meta::{Fault, Stop, Target};
@@ -30,10 +30,10 @@ impl Store for Measured<'_> {
         target: &Target,
         _judge: &mut J,
     ) -> Result<(), Stop> {
-        let Some(name) = place(self.alloc, self.known, consistent, target)? else {
+        let Some(there) = place(self.alloc, self.known, consistent, target)? else {
             return Err(Stop::Refused(Fault::Missing));
         };
-        let Some(Some(wanted)) = entry_of(self.known, name.as_str()) else {
+        let Some(wanted) = there.wanted else {
             unreachable!();
         };
         let Some(measure) = &wanted.measure else {

@@ -8,6 +8,6 @@ returns-in_default = search rules
 pub returns : goal.returns
 returns g c = record {
   checked = λ checks gives.
-      checked c.args.self.now.known.now checks c.args.consistent c.args.target.now (string_bytes c.in-Some.name) c.in-Some-Some.wanted c.in-Some-measure.measure gives
+      checked c.args.self.now.known.now checks c.args.consistent c.args.target.now (string_bytes c.in-Some.there.name) c.in-Some-wanted.wanted c.in-Some-measure.measure gives
       (search rules) (search rules) (search rules) (search rules) ∙ (search rules);
 }
