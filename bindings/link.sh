@@ -27,7 +27,7 @@ ar x "$built"
 for name in heap texts nulls; do
     cc -std=c99 -Wall -Wextra -pedantic -O2 -fPIC -fvisibility=hidden -c -o $name.o "$top/bindings/c/$name.c"
 done
-for name in first next list verify lms_verify; do
+for name in first show next list verify lms_verify; do
     renamed+=(--redefine-sym "tufcheck_$name=proved_$name")
 done
 objcopy "${renamed[@]}" tufcheck_c.o

@@ -94,7 +94,7 @@ updates "an updater in Go" ../updater_go
 as_user 'cc -o static /usr/share/doc/libtufcheck-dev/examples/example_updater.c -l:libtufcheck.a && ! ldd static | grep tufcheck'
 report $? "an updater in C by the static library compiles"
 updates "an updater in C, by the static library" ../static
-as_user "for name in first list lms_verify next text verify version; do man tufcheck_\$name | grep -q \"tufcheck_\$name(\"; done"
+as_user "for name in first list lms_verify next show text verify version; do man tufcheck_\$name | grep -q \"tufcheck_\$name(\"; done"
 report $? "the man page of each call"
 as_user "cd rust/tufcheck && cargo test --offline && cargo test --offline --features static"
 report $? "the tests of the Rust crates, by the shared and by the static library"

@@ -91,3 +91,13 @@ SIZE(tufcheck_needs, 120);
 AT(tufcheck_needs, rows, 8);
 AT(tufcheck_needs, names, 24);
 AT(tufcheck_needs, summary, 40);
+
+SIZE(tufcheck_trusted_file, 32);
+AT(tufcheck_trusted_file, expires, 8);
+AT(tufcheck_trusted_file, reserved, 16);
+
+SIZE(tufcheck_trusted, 136);
+AT(tufcheck_trusted, root, 8);
+AT(tufcheck_trusted, timestamp, 40);
+AT(tufcheck_trusted, snapshot, 72);
+AT(tufcheck_trusted, targets, 104);

@@ -9,6 +9,7 @@
 
 int32_t proved_first(const uint8_t *root, size_t root_len, uint8_t *state, size_t state_room,
                      size_t *len);
+int32_t proved_show(const uint8_t *state, size_t state_len, tufcheck_trusted *trusted);
 int32_t proved_next(const tufcheck_job *job, tufcheck_needs *needs);
 int32_t proved_list(const tufcheck_job *job, tufcheck_listing *listing);
 int32_t proved_verify(const tufcheck_job *job, tufcheck_answer *answer);
@@ -43,6 +44,13 @@ int32_t tufcheck_first(const uint8_t *root, size_t root_len, uint8_t *state, siz
                        size_t *len)
 {
     return proved_first(from(root), root_len, into(state), state_room, len);
+}
+
+int32_t tufcheck_show(const uint8_t *state, size_t state_len, tufcheck_trusted *trusted)
+{
+    if (trusted->size != sizeof *trusted)
+        return TUFCHECK_NO_SIZE;
+    return proved_show(from(state), state_len, trusted);
 }
 
 int32_t tufcheck_next(const tufcheck_job *job, tufcheck_needs *needs)

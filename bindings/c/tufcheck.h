@@ -270,6 +270,22 @@ typedef struct tufcheck_needs {
     tufcheck_summary summary;
 } tufcheck_needs;
 
+/* A file that a state trusts. */
+typedef struct tufcheck_trusted_file {
+    uint64_t version; /* 0 if no such file is trusted */
+    int64_t expires;  /* seconds after 1970-01-01T00:00:00Z, below 0 before that */
+    uint64_t reserved[2];
+} tufcheck_trusted_file;
+
+/* What a state trusts: its four top-level files. The root is always one of them. */
+typedef struct tufcheck_trusted {
+    size_t size; /* sizeof(tufcheck_trusted) */
+    tufcheck_trusted_file root;
+    tufcheck_trusted_file timestamp;
+    tufcheck_trusted_file snapshot;
+    tufcheck_trusted_file targets;
+} tufcheck_trusted;
+
 /* The version of the library, as that of this header. */
 TUFCHECK_API TUFCHECK_RESULT uint32_t tufcheck_version(void) TUFCHECK_NOEXCEPT;
 
@@ -285,6 +301,12 @@ TUFCHECK_API TUFCHECK_RESULT const char *tufcheck_text(int32_t number) TUFCHECK_
 TUFCHECK_API TUFCHECK_RESULT TUFCHECK_NONNULL((5)) int32_t
 tufcheck_first(const uint8_t *root, size_t root_len, uint8_t *state, size_t state_room,
                size_t *len) TUFCHECK_NOEXCEPT;
+
+/* Writes to trusted which files the text of a state trusts, and when each expires; the two don't
+ * overlap. It checks no signature and no moment: a state is what its caller has kept. Returns 0,
+ * TUFCHECK_NO_MEMORY, TUFCHECK_NO_STATE or TUFCHECK_NO_SIZE; below 0 trusted is unchanged. */
+TUFCHECK_API TUFCHECK_RESULT TUFCHECK_NONNULL((3)) int32_t
+tufcheck_show(const uint8_t *state, size_t state_len, tufcheck_trusted *trusted) TUFCHECK_NOEXCEPT;
 
 /* Returns which files the cycle looked up in the job and didn't find: 1 if some of them isn't
  * optional, else 2 if the cycle stopped, else 0. Fetch the optional ones first: with one of them,
