@@ -32,7 +32,8 @@ from typing import Callable, Dict, List, Mapping, Optional, Sequence, Set, Tuple
 __all__ = [
     "Digests", "End", "Fault", "Job", "Kind", "LibraryError", "LimitError", "Listed", "Listing",
     "MomentError", "Need", "Needs", "Outcome", "Place", "StateError", "Status", "TextError",
-    "TufcheckError", "Verdict", "fetch_all", "first", "lms_verify", "version",
+    "Trusted", "TrustedFile", "TufcheckError", "Verdict", "fetch_all", "first", "lms_verify",
+    "show", "version",
 ]
 
 
@@ -153,6 +154,25 @@ class Digests:
     length: int
     sha256: Optional[bytes] = None
     sha512: Optional[bytes] = None
+
+
+@dataclass(frozen=True)
+class TrustedFile:
+    """A file that a state trusts."""
+
+    version: int
+    expires: int
+    """In seconds after 1970-01-01T00:00:00Z, below 0 before that."""
+
+
+@dataclass(frozen=True)
+class Trusted:
+    """What a state trusts: its top-level files, or None for one that it has not."""
+
+    root: TrustedFile
+    timestamp: Optional[TrustedFile]
+    snapshot: Optional[TrustedFile]
+    targets: Optional[TrustedFile]
 
 
 @dataclass(frozen=True)
@@ -365,6 +385,17 @@ def first(root: bytes) -> bytes:
             return room.raw[: used.value]
 
 
+def show(state: bytes) -> Trusted:
+    """Which files a state trusts, and when each expires. It checks no signature and no moment. Raises
+    `StateError` if it isn't a state, `LibraryError` or `MemoryError`."""
+    trusted = _Trusted(_c.sizeof(_Trusted))
+    result = _library().tufcheck_show(state, len(state), trusted)
+    if _status(result) is not Status.GOOD:
+        raise LibraryError(f"an unknown result {result}")
+    return Trusted(_file(trusted.root), _if_trusted(trusted.timestamp),
+                   _if_trusted(trusted.snapshot), _if_trusted(trusted.targets))
+
+
 def lms_verify(key: bytes, message: bytes, signature: bytes) -> bool:
     """Whether an LMS signature of a message is valid for a public key of 56 bytes (RFC 8554). Raises
     `LibraryError`."""
@@ -481,6 +512,15 @@ class _Needs(_c.Structure):
                 ("summary", _Summary)]
 
 
+class _TrustedFile(_c.Structure):
+    _fields_ = [("version", _c.c_uint64), ("expires", _c.c_int64), ("reserved", _c.c_uint64 * 2)]
+
+
+class _Trusted(_c.Structure):
+    _fields_ = [("size", _c.c_size_t), ("root", _TrustedFile), ("timestamp", _TrustedFile),
+                ("snapshot", _TrustedFile), ("targets", _TrustedFile)]
+
+
 @dataclass(frozen=True)
 class _Rooms:
     state: int
@@ -527,6 +567,14 @@ def _fault(number: int) -> Optional[Fault]:
     return Fault(number) if number else None
 
 
+def _file(row: _TrustedFile) -> TrustedFile:
+    return TrustedFile(row.version, row.expires)
+
+
+def _if_trusted(row: _TrustedFile) -> Optional[TrustedFile]:
+    return _file(row) if row.version else None
+
+
 def _status(result: int) -> Optional[Status]:
     """The status, or None if there was too little room."""
     if result in (0, 1, 2):
@@ -556,11 +604,12 @@ def _library() -> _c.CDLL:
 def _declare(library: _c.CDLL) -> None:
     room, size = _c.POINTER(_c.c_char), _c.c_size_t
     library.tufcheck_first.argtypes = [_c.c_char_p, size, room, size, _c.POINTER(size)]
+    library.tufcheck_show.argtypes = [_c.c_char_p, size, _c.POINTER(_Trusted)]
     library.tufcheck_next.argtypes = [_c.POINTER(_Job), _c.POINTER(_Needs)]
     library.tufcheck_list.argtypes = [_c.POINTER(_Job), _c.POINTER(_Listing)]
     library.tufcheck_verify.argtypes = [_c.POINTER(_Job), _c.POINTER(_Answer)]
     library.tufcheck_lms_verify.argtypes = [_c.c_char_p, size] * 3
     library.tufcheck_text.argtypes, library.tufcheck_text.restype = [_c.c_int32], _c.c_char_p
-    for call in (library.tufcheck_first, library.tufcheck_next, library.tufcheck_list,
-                 library.tufcheck_verify, library.tufcheck_lms_verify):
+    for call in (library.tufcheck_first, library.tufcheck_show, library.tufcheck_next,
+                 library.tufcheck_list, library.tufcheck_verify, library.tufcheck_lms_verify):
         call.restype = _c.c_int32
