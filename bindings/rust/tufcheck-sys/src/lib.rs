@@ -163,6 +163,26 @@ pub struct Needs {
     pub summary: Summary,
 }
 
+/// A file that a state trusts. `version` is 0 if no such file is trusted.
+#[repr(C)]
+#[derive(Clone, Copy, Debug, Default)]
+pub struct TrustedFile {
+    pub version: u64,
+    pub expires: i64,
+    pub reserved: [u64; 2],
+}
+
+/// What a state trusts.
+#[repr(C)]
+#[derive(Clone, Copy, Debug, Default)]
+pub struct Trusted {
+    pub size: usize,
+    pub root: TrustedFile,
+    pub timestamp: TrustedFile,
+    pub snapshot: TrustedFile,
+    pub targets: TrustedFile,
+}
+
 extern "C" {
     pub fn tufcheck_version() -> u32;
     pub fn tufcheck_text(number: i32) -> *const c_char;
@@ -173,6 +193,7 @@ extern "C" {
         state_room: usize,
         len: *mut usize,
     ) -> i32;
+    pub fn tufcheck_show(state: *const u8, state_len: usize, trusted: *mut Trusted) -> i32;
     pub fn tufcheck_next(job: *const Job, needs: *mut Needs) -> i32;
     pub fn tufcheck_list(job: *const Job, listing: *mut Listing) -> i32;
     pub fn tufcheck_verify(job: *const Job, answer: *mut Answer) -> i32;
@@ -220,4 +241,6 @@ mod layout {
         name_room 48, summary 56);
     layout!(Need, 48: place 0, optional 4, most 8, name_at 16, name_len 24, reserved 32);
     layout!(Needs, 120: size 0, rows 8, row_room 16, names 24, name_room 32, summary 40);
+    layout!(TrustedFile, 32: version 0, expires 8, reserved 16);
+    layout!(Trusted, 136: size 0, root 8, timestamp 40, snapshot 72, targets 104);
 }

@@ -274,6 +274,25 @@ pub struct Needs {
     pub files: Vec<Need>,
 }
 
+/// A file that a state trusts.
+#[derive(Clone, Copy, Debug, PartialEq, Eq)]
+#[non_exhaustive]
+pub struct TrustedFile {
+    pub version: u64,
+    /// The moment at which it expires, in seconds after 1970-01-01T00:00:00Z, below 0 before that.
+    pub expires: i64,
+}
+
+/// What a state trusts: its top-level files.
+#[derive(Clone, Copy, Debug, PartialEq, Eq)]
+#[non_exhaustive]
+pub struct Trusted {
+    pub root: TrustedFile,
+    pub timestamp: Option<TrustedFile>,
+    pub snapshot: Option<TrustedFile>,
+    pub targets: Option<TrustedFile>,
+}
+
 /// The version of the library, as 1,000,000 for 1.0.0.
 pub fn version() -> u32 {
     unsafe { c::tufcheck_version() }
@@ -300,6 +319,21 @@ pub fn first(root: &[u8]) -> Result<Vec<u8>, Error> {
             return Ok(state);
         }
     }
+}
+
+/// Returns which files a state trusts, and when each expires. It checks no signature and no moment.
+/// Fails with `State`, `Memory` or `Version`.
+pub fn show(state: &[u8]) -> Result<Trusted, Error> {
+    same_version(version())?;
+    let mut trusted = c::Trusted { size: size_of::<c::Trusted>(), ..c::Trusted::default() };
+    let result = unsafe { c::tufcheck_show(state.as_ptr(), state.len(), &mut trusted) };
+    status_of(result)?.ok_or(Error::Unknown(result))?;
+    Ok(Trusted {
+        root: file_of(trusted.root),
+        timestamp: trusted_of(trusted.timestamp),
+        snapshot: trusted_of(trusted.snapshot),
+        targets: trusted_of(trusted.targets),
+    })
 }
 
 /// Returns whether an LMS signature of a message is valid for a public key of 56 bytes (RFC 8554).
@@ -579,6 +613,15 @@ fn source_of(number: u32, at: usize) -> Option<Source> {
     })
 }
 
+fn file_of(row: c::TrustedFile) -> TrustedFile {
+    TrustedFile { version: row.version, expires: row.expires }
+}
+
+/// The file, or None if no such file is trusted.
+fn trusted_of(row: c::TrustedFile) -> Option<TrustedFile> {
+    (row.version != 0).then(|| file_of(row))
+}
+
 #[cfg(test)]
 mod tests {
     use super::*;
@@ -615,6 +658,20 @@ mod tests {
         assert_eq!(fault_of(u32::MAX), Some(Fault::Unknown(u32::MAX)));
         for result in [3, -3, -7, i32::MIN, i32::MAX] {
             assert_eq!(status_of(result), Err(Error::Unknown(result)));
+        }
+    }
+
+    #[test]
+    fn a_file_of_version_0_is_not_trusted() {
+        let row = c::TrustedFile { version: 2, expires: -1, reserved: [0; 2] };
+        assert_eq!(trusted_of(row), Some(TrustedFile { version: 2, expires: -1 }));
+        assert_eq!(trusted_of(c::TrustedFile::default()), None);
+    }
+
+    #[test]
+    fn no_text_of_a_state_is_shown() {
+        for text in [&b""[..], b"{}"] {
+            assert_eq!(show(text), Err(Error::State));
         }
     }
 
