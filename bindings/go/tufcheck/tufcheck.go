@@ -108,6 +108,17 @@ type Needs struct {
 	Files []Need
 }
 
+// A TrustedFile is a file that a state trusts. The zero value stands for one that it doesn't have.
+type TrustedFile struct {
+	Version uint64 // from 1 on, or 0 if no such file is trusted
+	Expires time.Time
+}
+
+// Trusted is what a state trusts: its top-level files, of which the root is always one.
+type Trusted struct {
+	Root, Timestamp, Snapshot, Targets TrustedFile
+}
+
 // Version returns the version of the library.
 func Version() string {
 	number := uint32(C.tufcheck_version())
@@ -136,6 +147,24 @@ func First(root []byte) ([]byte, error) {
 		}
 		return bytesOf(state, *used), nil
 	}
+}
+
+// Show returns which files a state trusts, and when each expires. It checks no signature and no
+// moment.
+func Show(state []byte) (Trusted, error) {
+	var a arena
+	defer a.free()
+	if err := sameVersion(); err != nil {
+		return Trusted{}, err
+	}
+	data := copied(&a, state)
+	trusted, _ := array[C.tufcheck_trusted](&a, 1)
+	*trusted = C.tufcheck_trusted{size: C.sizeof_tufcheck_trusted}
+	if err := failure(C.tufcheck_show(data.data, data.len, trusted)); err != nil {
+		return Trusted{}, err
+	}
+	return Trusted{trustedFile(&trusted.root), trustedFile(&trusted.timestamp), trustedFile(&trusted.snapshot),
+		trustedFile(&trusted.targets)}, nil
 }
 
 // VerifyLMS reports whether an LMS signature of a message is valid for a public key of 56 bytes (RFC
@@ -293,6 +322,14 @@ func needed(result C.int32_t, needs *C.tufcheck_needs) *Needs {
 			row.optional == 1})
 	}
 	return found
+}
+
+// trustedFile returns the file of a row.
+func trustedFile(row *C.tufcheck_trusted_file) TrustedFile {
+	if row.version == 0 {
+		return TrustedFile{}
+	}
+	return TrustedFile{uint64(row.version), time.Unix(int64(row.expires), 0).UTC()}
 }
 
 // bytesOf returns a copy of bytes of C, which isn't nil.

@@ -146,6 +146,22 @@ func TestList(t *testing.T) {
 	}
 }
 
+func TestShow(t *testing.T) {
+	job := fetched(t, repository(t), byBytes, "abc.txt")
+	file := TrustedFile{1, time.Date(2030, 1, 1, 0, 0, 0, 0, time.UTC)}
+	if first, err := Show(job.State); err != nil || first != (Trusted{Root: file}) {
+		t.Errorf("of the first root %+v, %v", first, err)
+	}
+	if all, err := Show(verify(t, job).State); err != nil || all != (Trusted{file, file, file, file}) {
+		t.Errorf("%+v, %v", all, err)
+	}
+	for _, text := range [][]byte{nil, []byte("{}"), job.State[1:]} {
+		if shown, err := Show(text); !errors.Is(err, ErrState) || shown != (Trusted{}) {
+			t.Errorf("no state: %+v, %v", shown, err)
+		}
+	}
+}
+
 // Rows and names that need more room than the first guess: the role's file isn't fetched, and each
 // verdict names it.
 func TestRooms(t *testing.T) {
