@@ -55,7 +55,7 @@ export TUFCHECK_LIBRARY=$work/lib/libtufcheck.so.1 PYTHONPATH=$top/bindings/pyth
 
 # 1. Names.
 {
-    for name in first list lms_verify next text verify version; do echo "shows tufcheck_$name"; done
+    for name in first list lms_verify next show text verify version; do echo "shows tufcheck_$name"; done
     echo "needs free malloc memcmp memcpy memmove memset realloc"
 } > "$work/wanted"
 {
@@ -65,7 +65,7 @@ export TUFCHECK_LIBRARY=$work/lib/libtufcheck.so.1 PYTHONPATH=$top/bindings/pyth
 diff <(sed 's/ memcmp//' "$work/wanted") <(sed 's/ memcmp//' "$work/has") > "$work/seen"
 done_ $? "names: $(tail -1 "$work/has")"
 
-for name in first list lms_verify next text verify version; do echo "tufcheck_$name@@TUFCHECK_1"; done > "$work/wanted"
+for name in first list lms_verify next show text verify version; do echo "tufcheck_$name@@TUFCHECK_1"; done > "$work/wanted"
 nm -D --defined-only "$work/lib/libtufcheck.so.1" | awk '$2 == "T" { print $3 }' | sort | diff "$work/wanted" - > "$work/seen" &&
     readelf -d "$work/lib/libtufcheck.so" > "$work/seen" && grep -q 'soname: \[libtufcheck.so.1\]' "$work/seen" &&
     [[ $(readlink -f "$work/lib/libtufcheck.so") == */libtufcheck.so.1.*.* ]]
@@ -100,7 +100,7 @@ done_ $? "texts: $(wc -l < "$work/has") numbers"
 if has man "man pages"; then
     mkdir -p "$work/man/man3" && cp "$top"/bindings/c/man/*.3 "$work/man/man3"
     : > "$work/seen"
-    for name in first list lms_verify next text verify version; do
+    for name in first list lms_verify next show text verify version; do
         MANPAGER=cat MANWIDTH=200 man --warnings -M "$work/man" "tufcheck_$name" > "$work/page" 2>> "$work/seen"
         tr -s ' \n' ' ' < "$top/bindings/c/tufcheck.h" | grep -o "[a-z0-9_]* \(char \*\)\?tufcheck_$name([^)]*)" | head -1 > "$work/wanted"
         tr -s ' \n' ' ' < "$work/page" | grep -q -F -f "$work/wanted" ||
@@ -162,7 +162,7 @@ sane() {
         -I "$top/bindings/c" -o "$work/sane/$name" "$top/$file" "$top"/bindings/c/{heap,texts,nulls}.c "$work/sane/tufcheck_c.o" "$@"
 }
 renamed=()
-for name in first next list verify lms_verify; do
+for name in first show next list verify lms_verify; do
     renamed+=(--redefine-sym "tufcheck_$name=proved_$name")
 done
 mkdir "$work/sane" && built=$(realpath "$library") && (cd "$work/sane" && ar x "$built" && objcopy "${renamed[@]}" tufcheck_c.o &&

@@ -11,14 +11,17 @@ The lines, the status and the new state must be the same, and so must be
   - the outcome with target files given by length and digests, all or some;
   - the outcome after `fetch_all` into an empty job, which asks for no file twice;
   - the listing's state and end, and what it lists beside the verdicts;
-  - what each language writes of the listing, and of the files that are needed with these target files and without any.
+  - what each language writes of the listing, of the files that are needed with these target files and without any, and of
+    what both states trust, which is what the program shows of a first and of a new state.
 
 The last lines count the statuses and the ends. A history that differs is printed, and the status is then 1.
 """
 import collections
 import dataclasses
+import datetime
 import hashlib
 import os
+import re
 import subprocess
 import sys
 import tempfile
@@ -54,8 +57,32 @@ def cycle(call, it):
     return f"{call}: {int(it.status)}, {it.end.text}, {it.fault.text if it.fault else 'no fault'}, {it.root_version}"
 
 
-def more(job):
-    """The lines of a listing, and of what is needed with the job's target files and without any."""
+def trusted(state):
+    """A line for each file that a state trusts."""
+    shown = tufcheck.show(state)
+    for name in ("root", "timestamp", "snapshot", "targets"):
+        row = getattr(shown, name)
+        if row is not None:
+            yield f"{name} {row.version} {row.expires}"
+
+
+def seconds(text):
+    """The seconds of a moment's text after 1970, also in the year 0, of which datetime knows nothing."""
+    year, month, day, hour, minute, second = map(int, re.findall("[0-9]+", text))
+    leaps = 400 if year == 0 else 0
+    days = datetime.date(year + leaps, month, day).toordinal() - datetime.date(1970, 1, 1).toordinal() - leaps * 146097 // 400
+    return ((days * 24 + hour) * 60 + minute) * 60 + second
+
+
+def shown(folder, name):
+    """Those lines by the program, with the time in seconds."""
+    ran = subprocess.run([PROGRAM, "show", name], cwd=folder, capture_output=True, text=True, check=True)
+    rows = (line.split(" ") for line in ran.stdout.splitlines())
+    return [f"{step} {version} {seconds(expires)}" for step, version, expires in rows]
+
+
+def more(job, outcome):
+    """The lines of a listing, of what is needed with the job's target files and without any, and of what both states trust."""
     listing = job.list()
     yield cycle("list", listing)
     for path, row in listing.listed.items():
@@ -66,6 +93,8 @@ def more(job):
         yield cycle("next", needs)
         for row in needs.files:
             yield f"{row.place.text} {quoted(row.name)} {row.most} {int(row.optional)}"
+    yield from trusted(job.state)
+    yield from trusted(outcome.state)
 
 
 def digests(data):
@@ -112,7 +141,9 @@ def compared(case):
     outcome = job.verify()
     if said != (list(lines(outcome)), outcome.status, outcome.state):
         return f"program {said[:2]}\nPython {brief(outcome)}", outcome
-    beside = list(more(job))
+    if shown(folder, "new") != list(trusted(outcome.state)):
+        return f"program shows {shown(folder, 'new')}\nPython {list(trusted(outcome.state))}", outcome
+    beside = list(more(job, outcome))
     for name, program in LINES.items():
         ran = subprocess.run([program, "state", "metadata", "targets", str(SECONDS), str(limit), "own", *wanted], cwd=folder,
                              capture_output=True, check=False)
@@ -158,6 +189,9 @@ def lived(seed):
     history.root()
     with tempfile.TemporaryDirectory(prefix="library-") as folder:
         state = tufcheck.first(history.metadata["1.root.json"])
+        common.write(f"{folder}/state", state)
+        if shown(folder, "state") != list(trusted(state)):
+            return counts, f"seed {seed}: program shows {shown(folder, 'state')}\nPython {list(trusted(state))}"
         for number in range(3):
             history.go_on()
             limit = history.draw.choice([1, 2, 3, 32, 32, 32])

@@ -1,6 +1,6 @@
 /* Prints the lines of `tufcheck verify` by the library: lines STATE METADATA TARGETS SECONDS LIMIT OUT PATH..
- * The new state goes to the file OUT, and to OUT.more what is listed, and what is needed with these target files and without
- * any. The status is the program's. */
+ * The new state goes to the file OUT, and to OUT.more what is listed, what is needed with these target files and without
+ * any, and what both states trust. The status is the program's. */
 #include "files.h"
 
 #include <inttypes.h>
@@ -156,15 +156,32 @@ static int print_needs(FILE *out, const tufcheck_job *job)
     return 1;
 }
 
-/* Writes what is listed, and what is needed with the job's target files and without any. */
-static int write_more(const char *name, const tufcheck_job *job)
+/* A line for each file that a state trusts. */
+static int print_trusted(FILE *out, tufcheck_bytes state)
+{
+    static const char *const names[] = {"root", "timestamp", "snapshot", "targets"};
+    tufcheck_trusted trusted = {.size = sizeof trusted};
+    if (tufcheck_show(state.data, state.len, &trusted) != TUFCHECK_GOOD)
+        return 0;
+    const tufcheck_trusted_file rows[] = {trusted.root, trusted.timestamp, trusted.snapshot, trusted.targets};
+    for (int i = 0; i < 4; i++)
+        if (rows[i].version != 0)
+            fprintf(out, "%s %" PRIu64 " %" PRId64 "\n", names[i], rows[i].version, rows[i].expires);
+    return 1;
+}
+
+/* Writes what is listed, what is needed with the job's target files and without any, and what the job's state and the new
+ * one trust. */
+static int write_more(const char *name, const tufcheck_job *job, const tufcheck_answer *answer)
 {
     char *path = room(strlen(name) + strlen(".more"));
     FILE *out = fopen(strcat(strcpy(path, name), ".more"), "wb");
     tufcheck_job bare = *job;
     bare.targets = NULL;
     bare.target_count = 0;
-    int holds = out != NULL && print_listing(out, job) && print_needs(out, job) && print_needs(out, &bare);
+    tufcheck_bytes state = {answer->state, answer->summary.state_len};
+    int holds = out != NULL && print_listing(out, job) && print_needs(out, job) && print_needs(out, &bare)
+        && print_trusted(out, job->state) && print_trusted(out, state);
     free(path);
     return holds && fclose(out) == 0;
 }
@@ -193,7 +210,7 @@ int main(int argc, char **argv)
     FILE *out = fopen(argv[6], "wb");
     if (out == NULL || fwrite(answer.state, 1, answer.summary.state_len, out) != answer.summary.state_len || fclose(out))
         return 4;
-    if (!write_more(argv[6], &job))
+    if (!write_more(argv[6], &job, &answer))
         return 5;
     return result;
 }

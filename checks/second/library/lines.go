@@ -133,8 +133,25 @@ func needed(job *tufcheck.Job) (string, error) {
 	return out, nil
 }
 
-// more returns what is listed, and what is needed with the job's target files and without any.
-func more(job *tufcheck.Job) (string, error) {
+// trusted returns a line for each file that a state trusts.
+func trusted(state []byte) (string, error) {
+	it, err := tufcheck.Show(state)
+	if err != nil {
+		return "", err
+	}
+	names := []string{"root", "timestamp", "snapshot", "targets"}
+	out := ""
+	for at, row := range []tufcheck.TrustedFile{it.Root, it.Timestamp, it.Snapshot, it.Targets} {
+		if row.Version != 0 {
+			out += fmt.Sprintf("%s %d %d\n", names[at], row.Version, row.Expires.Unix())
+		}
+	}
+	return out, nil
+}
+
+// more returns what is listed, what is needed with the job's target files and without any, and what
+// the job's state and the new one trust.
+func more(job *tufcheck.Job, outcome *tufcheck.Outcome) (string, error) {
 	bare := *job
 	bare.Targets = nil
 	list, err := listed(job)
@@ -146,7 +163,15 @@ func more(job *tufcheck.Job) (string, error) {
 		return "", err
 	}
 	first, err := needed(&bare)
-	return list + next + first, err
+	if err != nil {
+		return "", err
+	}
+	old, err := trusted(job.State)
+	if err != nil {
+		return "", err
+	}
+	renewed, err := trusted(outcome.State)
+	return list + next + first + old + renewed, err
 }
 
 // fetched returns the outcome after FetchAll into an empty job.
@@ -211,7 +236,7 @@ func update(state, metadata, targets, seconds, limit, out string, wanted []strin
 		return 0, err
 	}
 	printAll(&job, outcome)
-	lines, err := more(&job)
+	lines, err := more(&job, outcome)
 	if err != nil {
 		return 0, err
 	}

@@ -6,7 +6,9 @@
 use std::fmt::{Display, Write};
 use std::path::Path;
 use std::{env, fs, process};
-use tufcheck::{fetch_all, Digests, Fault, Found, Job, Kind, Need, Outcome, Place, Source, Verdict};
+use tufcheck::{
+    fetch_all, show, Digests, Fault, Found, Job, Kind, Need, Outcome, Place, Source, Verdict,
+};
 
 type Failure = Box<dyn std::error::Error>;
 type Files = Vec<(String, Vec<u8>)>;
@@ -102,6 +104,23 @@ fn needed(job: &Job) -> Result<String, Failure> {
     Ok(out)
 }
 
+/// A line for each file that a state trusts.
+fn trusted(state: &[u8]) -> Result<String, Failure> {
+    let (it, mut out) = (show(state)?, String::new());
+    let rows = [
+        ("root", Some(it.root)),
+        ("timestamp", it.timestamp),
+        ("snapshot", it.snapshot),
+        ("targets", it.targets),
+    ];
+    for (name, row) in rows {
+        if let Some(row) = row {
+            writeln!(out, "{name} {} {}", row.version, row.expires)?;
+        }
+    }
+    Ok(out)
+}
+
 /// The outcome with the name of each verified file.
 fn named(job: &Job) -> Result<(Outcome, Vec<Option<String>>), Failure> {
     let mut outcome = job.verify()?;
@@ -141,7 +160,8 @@ fn update(words: &[&str]) -> Result<i32, Failure> {
     let outcome = job.verify()?;
     print_all(&job, &outcome);
     fs::write(out, &outcome.state)?;
-    fs::write(format!("{out}.more"), listed(&job)? + &needed(&job)? + &needed(&bare)?)?;
+    let more = listed(&job)? + &needed(&job)? + &needed(&bare)? + &trusted(&state)?;
+    fs::write(format!("{out}.more"), more + &trusted(&outcome.state)?)?;
     let found = |need: &Need| {
         let files = &folders[if need.place == Place::Metadata { 0 } else { 1 }];
         files.iter().find(|(name, _)| *name == need.name).map(|(_, bytes)| bytes.clone())

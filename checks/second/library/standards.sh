@@ -38,6 +38,7 @@ int main(void)
     tufcheck_answer answer;
     tufcheck_listing listing;
     tufcheck_needs needs;
+    tufcheck_trusted trusted;
     job.size = sizeof job;
     job.state.data = NULL;
     job.metadata = NULL;
@@ -60,10 +61,12 @@ int main(void)
     needs.rows = NULL;
     needs.names = NULL;
     needs.row_room = needs.name_room = 0;
+    trusted.size = sizeof trusted;
 #if defined(__cplusplus) && __cplusplus >= 201103L
     static_assert(noexcept(tufcheck_version()), "version");
     static_assert(noexcept(tufcheck_text(0)), "text");
     static_assert(noexcept(tufcheck_first(job.state.data, 0, answer.state, 0, &job.limit)), "first");
+    static_assert(noexcept(tufcheck_show(NULL, 0, &trusted)), "show");
     static_assert(noexcept(tufcheck_next(&job, &needs)), "next");
     static_assert(noexcept(tufcheck_list(&job, &listing)), "list");
     static_assert(noexcept(tufcheck_verify(&job, &answer)), "verify");
@@ -73,6 +76,7 @@ int main(void)
         return 1;
     return first(&answer) == TUFCHECK_GOOD && next(&job, &needs) == TUFCHECK_GOOD
         && tufcheck_list(&job, &listing) == TUFCHECK_GOOD && tufcheck_verify(&job, &answer) == TUFCHECK_GOOD
+        && tufcheck_show(NULL, 0, &trusted) == TUFCHECK_NO_STATE
         && tufcheck_lms_verify(NULL, 0, NULL, 0, NULL, 0) == 0;
 }
 END

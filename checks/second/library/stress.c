@@ -227,6 +227,63 @@ static void errors(int which, const size_t *sizes)
     }
 }
 
+/* What a state trusts, over a pattern, so that each word is seen that is written. */
+static int32_t trusted_of(tufcheck_bytes state, size_t size, tufcheck_trusted *trusted)
+{
+    memset(trusted, 0x5a, sizeof *trusted);
+    trusted->size = size;
+    return tufcheck_show(state.data, state.len, trusted);
+}
+
+/* Whether nothing but the size was written. */
+static int is_untouched(const tufcheck_trusted *trusted)
+{
+    tufcheck_trusted pattern;
+    memset(&pattern, 0x5a, sizeof pattern);
+    pattern.size = trusted->size;
+    return memcmp(&pattern, trusted, sizeof pattern) == 0;
+}
+
+static tufcheck_trusted whole_trusted;
+
+/* What the job's state trusts; with each allocation refused, of no state, and in structs of another size. */
+static void shows(int quick)
+{
+    const size_t size = sizeof(tufcheck_trusted);
+    tufcheck_bytes cut = {job.state.data, job.state.len - 1}, none = {NULL, 0};
+    tufcheck_trusted trusted;
+    check(trusted_of(job.state, size, &whole_trusted) == 0 && whole_trusted.root.version > 0, "a root that is trusted");
+    const tufcheck_trusted_file rows[] = {whole_trusted.root, whole_trusted.timestamp, whole_trusted.snapshot,
+                                          whole_trusted.targets};
+    for (int i = 0; i < 4; i++) {
+        check(rows[i].reserved[0] == 0 && rows[i].reserved[1] == 0, "reserved words of zeros");
+        check(rows[i].version != 0 || rows[i].expires == 0, "no time of what isn't trusted");
+    }
+    check(trusted_of(cut, size, &trusted) == -2 && is_untouched(&trusted), "what a state that was cut trusts");
+    check(trusted_of(none, size, &trusted) == -2 && is_untouched(&trusted), "what no state trusts");
+    check(trusted_of(job.state, size + 8, &trusted) == -7 && is_untouched(&trusted), "a greater size");
+    check(trusted_of(none, size - 32, &trusted) == -7 && is_untouched(&trusted), "a smaller size, and no state");
+    int count = 0, others = 0;
+    for (int at = 0; !quick && at <= count; at++) {
+        counting = 1;
+        calls = live = 0;
+        held = most = 0;
+        refused_at = at;
+        int32_t result = trusted_of(job.state, size, &trusted);
+        counting = 0;
+        if (at == 0) {
+            count = calls;
+            printf("tufcheck_show: %d allocations, %zu bytes at most\n", count, most);
+        }
+        check(live == 0, "memory that is freed");
+        check(result == TUFCHECK_NO_MEMORY ? is_untouched(&trusted)
+                                           : result == 0 && memcmp(&trusted, &whole_trusted, size) == 0, "-1, or all that is trusted");
+        others += result != TUFCHECK_NO_MEMORY;
+    }
+    if (!quick)
+        printf("  refused in turn: the call continued after %d of them\n", others - 1);
+}
+
 /* Null with length or count 0: an empty file, path and name, no list, no room, and no struct of another size is read. */
 static void nulls(void)
 {
@@ -263,6 +320,9 @@ static void *in_thread(void *arg)
             *equal = *equal && same(&s, &whole[which]);
             drop(&s);
         }
+    tufcheck_trusted trusted;
+    int32_t result = trusted_of(job.state, sizeof trusted, &trusted);
+    *equal = *equal && result == 0 && memcmp(&trusted, &whole_trusted, sizeof trusted) == 0;
     return NULL;
 }
 
@@ -302,6 +362,7 @@ int main(int argc, char **argv)
     check(tufcheck_first(root.data, root.len - 1, text, len, &short_len) == -2, "a root that was cut");
     job = job_of(argv + 2, argc - 2);
     nulls();
+    shows(quick);
     for (int which = VERIFY; which <= NEXT; which++) {
         size_t none[4] = {0};
         seen s = call(which, &job, none);
