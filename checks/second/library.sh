@@ -17,7 +17,8 @@
 #   3. The example updaters of C, Python, Rust and Go fetch repositories of examples/ from a folder, and verify them, and do
 #      what they must with files of no bytes. `cargo package` takes both Rust crates.
 #   4. Drawn histories (those of second.py) have the lines, the status and the state of the program, from Python, C, Rust and
-#      Go, with bytes, with digests, also with the listed ones alone, and after fetching (library/compare.py, library/lines.*).
+#      Go, with bytes, with digests, also with the listed ones alone, and after fetching; what a state trusts is what the program
+#      shows of it (library/compare.py, library/lines.*).
 #   5. With each allocation refused in turn, with one too little in each room, with each error, with null for what is empty, in four threads and on a stack
 #      of 256 KB the calls return what they must (library/stress.c); and how much of a stack nested JSON takes.
 #   6. valgrind, and the address and undefined-behaviour sanitizers of cc over all C that is here, find nothing in 5, in lines.c
