@@ -163,8 +163,8 @@ func Show(state []byte) (Trusted, error) {
 	if err := failure(C.tufcheck_show(data.data, data.len, trusted)); err != nil {
 		return Trusted{}, err
 	}
-	return Trusted{trustedFile(&trusted.root), trustedFile(&trusted.timestamp), trustedFile(&trusted.snapshot),
-		trustedFile(&trusted.targets)}, nil
+	return Trusted{trustedFile(&trusted.root), trustedFile(&trusted.timestamp),
+		trustedFile(&trusted.snapshot), trustedFile(&trusted.targets)}, nil
 }
 
 // VerifyLMS reports whether an LMS signature of a message is valid for a public key of 56 bytes (RFC

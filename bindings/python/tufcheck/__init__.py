@@ -386,8 +386,8 @@ def first(root: bytes) -> bytes:
 
 
 def show(state: bytes) -> Trusted:
-    """Which files a state trusts, and when each expires. It checks no signature and no moment. Raises
-    `StateError` if it isn't a state, `LibraryError` or `MemoryError`."""
+    """Which files a state trusts, and when each expires. It checks no signature and no moment.
+    Raises `StateError` if it isn't a state, `LibraryError` or `MemoryError`."""
     trusted = _Trusted(_c.sizeof(_Trusted))
     result = _library().tufcheck_show(state, len(state), trusted)
     if _status(result) is not Status.GOOD:

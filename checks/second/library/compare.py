@@ -11,8 +11,9 @@ The lines, the status and the new state must be the same, and so must be
   - the outcome with target files given by length and digests, all or some;
   - the outcome after `fetch_all` into an empty job, which asks for no file twice;
   - the listing's state and end, and what it lists beside the verdicts;
-  - what each language writes of the listing, of the files that are needed with these target files and without any, and of
-    what both states trust, which is what the program shows of a first and of a new state.
+  - what each language writes of the listing, of the files that are needed with these target files
+    and without any, and of what both states trust;
+  - what a first and a new state trust, and what the program shows of them.
 
 The last lines count the statuses and the ends. A history that differs is printed, and the status is then 1.
 """
@@ -67,22 +68,31 @@ def trusted(state):
 
 
 def seconds(text):
-    """The seconds of a moment's text after 1970, also in the year 0, of which datetime knows nothing."""
+    """The seconds of a moment's text after 1970. The year 0, which datetime hasn't, is as the year
+    400, which is 146097 days later."""
     year, month, day, hour, minute, second = map(int, re.findall("[0-9]+", text))
-    leaps = 400 if year == 0 else 0
-    days = datetime.date(year + leaps, month, day).toordinal() - datetime.date(1970, 1, 1).toordinal() - leaps * 146097 // 400
+    last, later = datetime.date(1970, 1, 1).toordinal(), (400, 146097) if year == 0 else (0, 0)
+    days = datetime.date(year + later[0], month, day).toordinal() - later[1] - last
     return ((days * 24 + hour) * 60 + minute) * 60 + second
 
 
 def shown(folder, name):
     """Those lines by the program, with the time in seconds."""
-    ran = subprocess.run([PROGRAM, "show", name], cwd=folder, capture_output=True, text=True, check=True)
+    words = [PROGRAM, "show", name]
+    ran = subprocess.run(words, cwd=folder, capture_output=True, text=True, check=True)
     rows = (line.split(" ") for line in ran.stdout.splitlines())
     return [f"{step} {version} {seconds(expires)}" for step, version, expires in rows]
 
 
+def shown_otherwise(folder, name, state):
+    """What differs of these lines, if something does."""
+    said, own = shown(folder, name), list(trusted(state))
+    return f"program shows {said}\nPython {own}" if said != own else None
+
+
 def more(job, outcome):
-    """The lines of a listing, of what is needed with the job's target files and without any, and of what both states trust."""
+    """The lines of a listing, of what is needed with the job's target files and without any, and of
+    what both states trust."""
     listing = job.list()
     yield cycle("list", listing)
     for path, row in listing.listed.items():
@@ -141,8 +151,9 @@ def compared(case):
     outcome = job.verify()
     if said != (list(lines(outcome)), outcome.status, outcome.state):
         return f"program {said[:2]}\nPython {brief(outcome)}", outcome
-    if shown(folder, "new") != list(trusted(outcome.state)):
-        return f"program shows {shown(folder, 'new')}\nPython {list(trusted(outcome.state))}", outcome
+    differs = shown_otherwise(folder, "new", outcome.state)
+    if differs:
+        return differs, outcome
     beside = list(more(job, outcome))
     for name, program in LINES.items():
         ran = subprocess.run([program, "state", "metadata", "targets", str(SECONDS), str(limit), "own", *wanted], cwd=folder,
@@ -190,8 +201,9 @@ def lived(seed):
     with tempfile.TemporaryDirectory(prefix="library-") as folder:
         state = tufcheck.first(history.metadata["1.root.json"])
         common.write(f"{folder}/state", state)
-        if shown(folder, "state") != list(trusted(state)):
-            return counts, f"seed {seed}: program shows {shown(folder, 'state')}\nPython {list(trusted(state))}"
+        differs = shown_otherwise(folder, "state", state)
+        if differs:
+            return counts, f"seed {seed}: {differs}"
         for number in range(3):
             history.go_on()
             limit = history.draw.choice([1, 2, 3, 32, 32, 32])

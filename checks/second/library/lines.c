@@ -1,6 +1,6 @@
 /* Prints the lines of `tufcheck verify` by the library: lines STATE METADATA TARGETS SECONDS LIMIT OUT PATH..
- * The new state goes to the file OUT, and to OUT.more what is listed, what is needed with these target files and without
- * any, and what both states trust. The status is the program's. */
+ * The new state goes to the file OUT, and to OUT.more what is listed, what is needed with these
+ * target files and without any, and what both states trust. The status is the program's. */
 #include "files.h"
 
 #include <inttypes.h>
@@ -163,15 +163,18 @@ static int print_trusted(FILE *out, tufcheck_bytes state)
     tufcheck_trusted trusted = {.size = sizeof trusted};
     if (tufcheck_show(state.data, state.len, &trusted) != TUFCHECK_GOOD)
         return 0;
-    const tufcheck_trusted_file rows[] = {trusted.root, trusted.timestamp, trusted.snapshot, trusted.targets};
-    for (int i = 0; i < 4; i++)
-        if (rows[i].version != 0)
-            fprintf(out, "%s %" PRIu64 " %" PRId64 "\n", names[i], rows[i].version, rows[i].expires);
+    const tufcheck_trusted_file rows[] = {trusted.root, trusted.timestamp, trusted.snapshot,
+                                          trusted.targets};
+    for (int i = 0; i < 4; i++) {
+        const tufcheck_trusted_file *row = &rows[i];
+        if (row->version != 0)
+            fprintf(out, "%s %" PRIu64 " %" PRId64 "\n", names[i], row->version, row->expires);
+    }
     return 1;
 }
 
-/* Writes what is listed, what is needed with the job's target files and without any, and what the job's state and the new
- * one trust. */
+/* Writes what is listed, what is needed with the job's target files and without any, and what the
+ * job's state and the new one trust. */
 static int write_more(const char *name, const tufcheck_job *job, const tufcheck_answer *answer)
 {
     char *path = room(strlen(name) + strlen(".more"));
@@ -180,8 +183,8 @@ static int write_more(const char *name, const tufcheck_job *job, const tufcheck_
     bare.targets = NULL;
     bare.target_count = 0;
     tufcheck_bytes state = {answer->state, answer->summary.state_len};
-    int holds = out != NULL && print_listing(out, job) && print_needs(out, job) && print_needs(out, &bare)
-        && print_trusted(out, job->state) && print_trusted(out, state);
+    int holds = out != NULL && print_listing(out, job) && print_needs(out, job)
+        && print_needs(out, &bare) && print_trusted(out, job->state) && print_trusted(out, state);
     free(path);
     return holds && fclose(out) == 0;
 }

@@ -1,6 +1,7 @@
 #!/usr/bin/env python3
 """Checks of the Python module what no verdict shows: which error a missing library is, one of another kind, of another
-version or without a call; what a number is that the module doesn't know, and a digest of another length; what a state trusts.
+version or without a call; what a number is that the module doesn't know, a digest of another length, and what a first
+state trusts.
 
   module.py FOLDER
 
@@ -64,9 +65,11 @@ def tried(folder):
         yield f"limit {limit}", raised(Job(state, [], 0, limit=limit).next), tufcheck.LimitError
     yield "a name that isn't UTF-8", raised(Job(state, ["\ud800"], 0).verify), tufcheck.TextError
     yield "no state", raised(Job(b"", [], 0).verify), tufcheck.StateError
-    yield "what a first state trusts", tufcheck.show(state), Trusted(TrustedFile(1, 1893456000), None, None, None)
+    root = TrustedFile(1, 1893456000)
+    yield "what a first state trusts", tufcheck.show(state), Trusted(root, None, None, None)
     for text in (b"", b"{}", state[:-1]):
-        yield f"what {text[:2]!r} trusts", raised(lambda text=text: tufcheck.show(text)), tufcheck.StateError
+        trusted = raised(lambda text=text: tufcheck.show(text))
+        yield f"what {text[:2]!r} trusts", trusted, tufcheck.StateError
 
 
 def main():

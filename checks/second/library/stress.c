@@ -246,23 +246,34 @@ static int is_untouched(const tufcheck_trusted *trusted)
 
 static tufcheck_trusted whole_trusted;
 
-/* What the job's state trusts; with each allocation refused, of no state, and in structs of another size. */
+/* What the job's state trusts; with each allocation refused, of no state, and in structs of another
+ * size. */
 static void shows(int quick)
 {
     const size_t size = sizeof(tufcheck_trusted);
     tufcheck_bytes cut = {job.state.data, job.state.len - 1}, none = {NULL, 0};
     tufcheck_trusted trusted;
-    check(trusted_of(job.state, size, &whole_trusted) == 0 && whole_trusted.root.version > 0, "a root that is trusted");
-    const tufcheck_trusted_file rows[] = {whole_trusted.root, whole_trusted.timestamp, whole_trusted.snapshot,
-                                          whole_trusted.targets};
+    check(trusted_of(job.state, size, &whole_trusted) == 0, "a state that is shown");
+    check(whole_trusted.root.version > 0, "a root that is trusted");
+    const tufcheck_trusted_file rows[] = {whole_trusted.root, whole_trusted.timestamp,
+                                          whole_trusted.snapshot, whole_trusted.targets};
     for (int i = 0; i < 4; i++) {
         check(rows[i].reserved[0] == 0 && rows[i].reserved[1] == 0, "reserved words of zeros");
         check(rows[i].version != 0 || rows[i].expires == 0, "no time of what isn't trusted");
     }
-    check(trusted_of(cut, size, &trusted) == -2 && is_untouched(&trusted), "what a state that was cut trusts");
-    check(trusted_of(none, size, &trusted) == -2 && is_untouched(&trusted), "what no state trusts");
-    check(trusted_of(job.state, size + 8, &trusted) == -7 && is_untouched(&trusted), "a greater size");
-    check(trusted_of(none, size - 32, &trusted) == -7 && is_untouched(&trusted), "a smaller size, and no state");
+    const struct {
+        tufcheck_bytes state;
+        size_t size;
+        int32_t result;
+        const char *what;
+    } cases[] = {{cut, size, -2, "what a state that was cut trusts"},
+                 {none, size, -2, "what no state trusts"},
+                 {job.state, size + 8, -7, "a greater size"},
+                 {none, size - 32, -7, "a smaller size, and no state"}};
+    for (size_t i = 0; i < sizeof cases / sizeof *cases; i++) {
+        int32_t result = trusted_of(cases[i].state, cases[i].size, &trusted);
+        check(result == cases[i].result && is_untouched(&trusted), cases[i].what);
+    }
     int count = 0, others = 0;
     for (int at = 0; !quick && at <= count; at++) {
         counting = 1;
@@ -276,8 +287,8 @@ static void shows(int quick)
             printf("tufcheck_show: %d allocations, %zu bytes at most\n", count, most);
         }
         check(live == 0, "memory that is freed");
-        check(result == TUFCHECK_NO_MEMORY ? is_untouched(&trusted)
-                                           : result == 0 && memcmp(&trusted, &whole_trusted, size) == 0, "-1, or all that is trusted");
+        int is_whole = result == 0 && memcmp(&trusted, &whole_trusted, size) == 0;
+        check(result == TUFCHECK_NO_MEMORY ? is_untouched(&trusted) : is_whole, "-1, or all of it");
         others += result != TUFCHECK_NO_MEMORY;
     }
     if (!quick)
