@@ -12,7 +12,7 @@ pub fn parse<'a>(alloc: Global, words: &'a [String]) -> Result<ArgMatches<'a>, E
 fn lmskey<'a>(alloc: Global) -> Result<Command<'a>, AllocError> {
     let command = Command::new(alloc, "lmskey")
         .about("Signs with LMS keys whose leaves can't be used twice")
-        .version("1.0.0")
+        .version("1.0.0 (rattle logic dac8208d650f15bf)")
         .no_binary_name(true)
         .subcommand_required(true);
     let command = command.bin_name("lmskey")?;
