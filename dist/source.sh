@@ -1,11 +1,12 @@
 #!/bin/bash
-# Makes a Debian source package around the built program, and builds the package from it.
+# Makes a Debian source package around the built programs, and builds the packages from it.
 #
-#   dist/source.sh [PROGRAM [FOLDER]]      what dist/build.sh built and dist/out/source unless given
+#   dist/source.sh [PROGRAM [FOLDER [LMSKEY]]]      what dist/build.sh built, dist/out/source and `lmskey` beside PROGRAM unless
+#                                                   given
 #
-# The source package has the files of the repository, and the program as it was built, since its toolchain isn't in Debian;
+# The source package has the files of the repository, and the programs as they were built, since their toolchain isn't in Debian;
 # its debian/ is dist/debian with a changelog made of CHANGELOG.md, and dist/notices as `copyright`.
-# `dpkg-buildpackage -us -uc` then builds from it the package that dist/package.sh makes, byte for byte. FOLDER has all that
+# `dpkg-buildpackage -us -uc` then builds from it the packages that dist/package.sh makes, byte for byte. FOLDER has all that
 # it makes, and is emptied before. Times are SOURCE_DATE_EPOCH or else the last commit's. Needs git and dpkg-dev, in a clone.
 # The status is 0, or 1 if something fails, which is printed.
 set -u
@@ -13,6 +14,7 @@ export LC_ALL=C
 umask 022
 top=$(cd "$(dirname "$0")/.." && pwd) || exit 1
 program=$(realpath -m "${1:-$top/dist/out/build/tufcheck}") out=$(realpath -m "${2:-$top/dist/out/source}")
+lmskey=$(realpath -m "${3:-$(dirname "$program")/lmskey}")
 version=$(sed -n 's/^version=//p' "$top/dist/package.sh")
 name=tufcheck-$version
 work=$(mktemp -d) || exit 1
@@ -25,17 +27,19 @@ refused() {
 }
 
 command -v dpkg-buildpackage > "$work/found" || refused "dpkg-buildpackage is missing (package dpkg-dev)"
-[ -f "$program" ] || refused "no program at $program: dist/build.sh builds it"
+for file in "$program" "$lmskey"; do
+    [ -f "$file" ] || refused "no program at $file: dist/build.sh builds it"
+done
 when=${SOURCE_DATE_EPOCH:-$(git -C "$top" log -1 --format=%ct 2> "$work/found")}
 [[ $when =~ ^[0-9]+$ ]] || refused "no date: give SOURCE_DATE_EPOCH, or package in a clone with git"
 mkdir "$work/$name" || exit 1
 set -o pipefail
 (cd "$top" && git ls-files -z | tar --null -T - -cf -) | tar -C "$work/$name" -xf - || refused "the files of the repository can't be copied"
-cp "$program" "$work/$name/tufcheck" && chmod 755 "$work/$name/tufcheck" && cp -r "$top/dist/debian" "$work/$name/debian" &&
+install -m 755 "$program" "$work/$name/tufcheck" && install -m 755 "$lmskey" "$work/$name/lmskey" && cp -r "$top/dist/debian" "$work/$name/debian" &&
     cp "$top/dist/notices" "$work/$name/debian/copyright" || exit 1
 "$top/dist/changelog.py" tufcheck "$version" "$when" > "$work/$name/debian/changelog" || refused "the changelog can't be made"
 find "$work/$name" -exec touch -h -d "@$when" {} +
 (cd "$work/$name" && SOURCE_DATE_EPOCH=$when dpkg-buildpackage -us -uc) > "$work/lines" 2>&1 ||
     refused "dpkg-buildpackage: $(tail -5 "$work/lines")"
-rm -rf "$out" && mkdir -p "$out" && find "$work" -maxdepth 1 -name 'tufcheck_*' -exec mv -t "$out" {} + || exit 1
+rm -rf "$out" && mkdir -p "$out" && find "$work" -maxdepth 1 -name '*_*' -exec mv -t "$out" {} + || exit 1
 ls "$out"

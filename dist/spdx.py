@@ -4,8 +4,8 @@
     dist/spdx.py NAME SECONDS ARCHIVE..
 
 NAME is the document's, SECONDS its time since 1970. Each ARCHIVE, a tarball or a Debian package, is listed with its SHA-256
-and each file in it. The program, and the libraries, link what dist/notices names between parentheses: ports of crates, and
-parts of the kit. The licenses and holders are those that it names, and nothing is said of what it doesn't name. The same
+and each file in it. A program, and the libraries as `tufcheck`, link what dist/notices names between parentheses: ports of
+crates, and parts of the kit. The licenses and holders are those that it names, and nothing is said of what it doesn't name. The same
 archives make the same bytes. Needs dpkg-deb for a package. The status is 0, or 1 if something can't be read.
 """
 import datetime
@@ -30,25 +30,31 @@ def stanzas():
         yield {name: "\n".join(line.strip() for line in value.strip().split("\n")) for name, value in fields}
 
 
-class Notices:
-    """What the notices say: the license of all files and of the program, the holders, and the parts of the program."""
+class Program:
+    """What a stanza says of a program: the license, the holders, and the parts, each with its license and holders."""
 
-    def __init__(self):
-        found = list(stanzas())
-        every, program = [next(it for it in found if it.get("Files") == files) for files in ("*", "tufcheck")]
-        self.license, self.program = [" AND ".join(SPDX[it] for it in self.names(part)) for part in (every, program)]
-        self.holder, self.holders = every["Copyright"], program["Copyright"]
-        self.kit = next(it["License"] for it in found if it.get("License", "").startswith("kit\n")).split("\n", 1)[1]
+    def __init__(self, stanza):
+        self.license = " AND ".join(SPDX[it] for it in stanza["License"].split("\n")[0].split(" and "))
+        self.holders = stanza["Copyright"]
         self.parts = {}
-        for line in program["Copyright"].split("\n"):
+        for line in self.holders.split("\n"):
             named = re.fullmatch(r"(.*) \(([^()]*?)(?:; (.*))?\)", line)
             for name in named[2].split(", ") if named else []:
                 part = self.parts.setdefault(name, {"license": SPDX[named[3] or "Expat"], "holders": []})
                 part["holders"] += [] if named[1].startswith("not named") else [named[1]]
 
-    @staticmethod
-    def names(stanza):
-        return stanza["License"].split("\n")[0].split(" and ")
+
+class Notices:
+    """What the notices say: of all files, of each program, and of the kit."""
+
+    def __init__(self):
+        found = list(stanzas())
+        self.all_files, self.tufcheck, self.lmskey = [
+            Program(next(it for it in found if it.get("Files") == files)) for files in ("*", "tufcheck", "lmskey")]
+        self.kit = next(it["License"] for it in found if it.get("License", "").startswith("kit\n")).split("\n", 1)[1]
+
+    def of_archive(self, base):
+        return self.lmskey if base.startswith("lmskey") else self.tufcheck
 
 
 def members(path):
@@ -85,31 +91,32 @@ def main():
 
     for path in archives:
         base = pathlib.Path(path).name
+        program = notices.of_archive(base)
         package, inside = identifier("archive", base), []
         content = pathlib.Path(path).read_bytes()
         sums.append(hashlib.sha256(content).hexdigest())
         relate("SPDXRef-DOCUMENT", "DESCRIBES", package)
         for number, (place, data) in enumerate(members(path)):
             file, linking = identifier("file", base, str(number)), data.startswith((b"\x7fELF", b"!<arch>"))
+            known = program if linking else notices.all_files
             inside.append(hashlib.sha1(data).hexdigest())
             files.append({
                 "SPDXID": file, "fileName": place,
                 "checksums": [{"algorithm": "SHA1", "checksumValue": inside[-1]},
                               {"algorithm": "SHA256", "checksumValue": hashlib.sha256(data).hexdigest()}],
-                "licenseConcluded": notices.program if linking else notices.license, "licenseInfoInFiles": [NOTHING],
-                "copyrightText": notices.holders if linking else notices.holder,
+                "licenseConcluded": known.license, "licenseInfoInFiles": [NOTHING], "copyrightText": known.holders,
             })
             relate(package, "CONTAINS", file)
-            for part in notices.parts if linking else []:
+            for part in known.parts:
                 relate(file, "STATIC_LINK", identifier("part", part))
         packages.append({
             "SPDXID": package, "name": re.split(r"[-_][0-9]", base)[0], "versionInfo": re.search(r"[0-9]+(\.[0-9]+)+", base)[0],
             "packageFileName": base, "downloadLocation": NOTHING, "supplier": "Organization: Fullqimi", "filesAnalyzed": True,
             "packageVerificationCode": {"packageVerificationCodeValue": hashlib.sha1("".join(sorted(inside)).encode()).hexdigest()},
-            "checksums": [{"algorithm": "SHA256", "checksumValue": sums[-1]}], "licenseConcluded": notices.program,
-            "licenseDeclared": notices.program, "licenseInfoFromFiles": [NOTHING], "copyrightText": notices.holders,
+            "checksums": [{"algorithm": "SHA256", "checksumValue": sums[-1]}], "licenseConcluded": program.license,
+            "licenseDeclared": program.license, "licenseInfoFromFiles": [NOTHING], "copyrightText": program.holders,
         })
-    for part, known in notices.parts.items():
+    for part, known in {**notices.lmskey.parts, **notices.tufcheck.parts}.items():
         packages.append({
             "SPDXID": identifier("part", part), "name": part, "downloadLocation": NOTHING, "filesAnalyzed": False,
             "licenseConcluded": known["license"], "licenseDeclared": NOTHING,
