@@ -1,19 +1,24 @@
 #!/usr/bin/env python3
 """Tries to have `lmskey` sign by one leaf twice.
 
-  checks/faults/lmskey.py [KILLS [HISTORIES]]      1,000 and 200 unless given
+  checks/faults/lmskey.py [KILLS [HISTORIES [WORKERS [SECONDS]]]]      1,000, 200, 1 and without an end unless given
 
-In turn: what is printed and stored, and each refusal; each file call of `new` and `sign` failing, and the process
-ended before and after each of them; runs that are killed KILLS times at a random moment; runs beside one another; and
-HISTORIES drawn histories, each of a key of its own: signing, ends at drawn calls, lost leaves files that are restored from
-the log. After each, all signatures that are there are by different leaves, each leaf is below the number in the leaves file,
-and each signature counts for `tufcheck attach`; some are verified by Bouncy Castle, where there is bcprov.jar. A small library, made with `cc`, is loaded before the C library's calls.
-LMSKEY names the program, or it is the one that `rt run` in crates/lmskey proves and builds, and PROGRAM is `tufcheck`. A line
-for each check says `ok` or `FAILS`. The status is 1 if one fails. It took six minutes beside much other work, of which 40 seconds were the processor's.
+In turn: what is printed and stored, and each refusal; each file call of `new`, `sign` and `restore` failing, and the process
+ended before and after each of them; runs beside one another; runs that are killed KILLS times at a random moment; and
+HISTORIES drawn histories, by WORKERS processes and for SECONDS at most: signing, ends at drawn calls, leaves files that are
+lost or set back and then restored from the log. Each history begins with a new key's files: each 50th with a key of its own,
+the others with copies, since what decides which leaf signs are the leaves file and the log. After each, all signatures that
+are there are by different leaves, each leaf is below the number in the leaves file, and each signature counts for
+`tufcheck attach` (in histories those of each 50th); some are verified by Bouncy Castle, where there is bcprov.jar. A small
+library, made with `cc`, is loaded before the C library's calls. LMSKEY names the program, or it is the one that `rt run` in
+crates/lmskey proves and builds, and PROGRAM is `tufcheck`. A line for each check says `ok` or `FAILS`. The status is 1 if one
+fails. It took six minutes beside much other work, of which 40 seconds were the processor's.
 """
 import glob
+import multiprocessing
 import os
 import random
+import resource
 import signal
 import subprocess
 import sys
@@ -106,11 +111,15 @@ def new(key="k", width="4", height="5"):
     return lmskey("new", "--width", width, "--height", height, "--log", f"{key}.log", key)
 
 
+def restore(gap, **how):
+    return lmskey("restore", "--log", "k.log", "--gap", str(gap), "k", **how)
+
+
 class Signing:
     """Signs one file after the other, and keeps the leaves of all signatures that were there."""
 
     def __init__(self, key="k", file="m"):
-        self.key, self.file, self.runs, self.leaves = key, file, 0, []
+        self.key, self.file, self.runs, self.leaves, self.run = key, file, 0, [], lmskey
         write(file, MESSAGE)
 
     def words(self, count=1):
@@ -122,7 +131,7 @@ class Signing:
         return ["sign", "--log", f"{self.key}.log", self.key, *names]
 
     def sign(self, count=1, **how):
-        done = lmskey(*self.words(count), **how)
+        done = self.run(*self.words(count), **how)
         self.gather()
         return done
 
@@ -202,7 +211,7 @@ def first():
     refused = signing.sign()
     check("another key's is refused", refused == (1, "lmskey: the leaves file is not one of this key\n"), refused)
     os.remove("k.leaves")
-    done = lmskey("restore", "--log", "k.log", "--gap", "4", "k")
+    done = restore(4)
     check("restore goes past the log by the gap", done == (0, "reserved 7\n") and signing.reserved() == 7, done)
     check("and signs on from there", signing.sign() == (0, "signed 1\n") and signing.leaves[-1][0] == 7)
     write("k.log", read("k.log") + b"cut")
@@ -281,6 +290,54 @@ def ends(way):
     check(f"sign, {done} {told}", done > 20 and signing.all_count(), done)
 
 
+def ends_of_restore(way):
+    """Ends `restore` at each of its calls, or has the call fail: with no leaves file, with an older one, and with one that is
+    ahead of the log. It is then done again, and no leaf signs twice."""
+    told = {"FAILS": "calls that fail", "BEFORE": "ends before calls", "AFTER": "ends after calls"}[way]
+    remove_all()
+    new()
+    made, done = kept(), 0
+    for case in ("lost", "older", "ahead"):
+        for number in range(1, 10000):
+            renewed(made)
+            signing = Signing()
+            signing.sign(2)
+            older = read("k.leaves")
+            signing.sign(3)
+            if case == "lost":
+                os.remove("k.leaves")
+            elif case == "older":
+                write("k.leaves", older)
+            else:
+                write("k.log", read("k.log")[:-60])
+            status, _ = restore(2, **{way: str(number)})
+            if not os.path.exists("met"):
+                break
+            os.remove("met")
+            done += 1
+            # Without another `restore` only an older leaves file would be believed.
+            signed = signing.sign() if case != "older" else (0, "")
+            is_missing = signed == (1, "lmskey: the leaves file is missing\n") and not os.path.exists("k.leaves")
+            again = restore(0)
+            later = signing.sign(2)
+            if not signing.is_safe() or again[0] or later[0] or not (signed[0] == 0 or is_missing) or way == "FAILS" and status == 0:
+                check(f"restore, {told}", False, (case, number, status, signed, again, later))
+                return
+    check(f"restore, {done} {told}", done > 40 and signing.all_count(), done)
+
+
+def kept():
+    """The files of a new key."""
+    return {name: read(name) for name in glob.glob("k*")}
+
+
+def renewed(files):
+    """Puts them back."""
+    remove_all()
+    for name, content in files.items():
+        write(name, content)
+
+
 def remove_all():
     for name in glob.glob("[km]*"):
         os.remove(name)
@@ -325,36 +382,81 @@ def beside(count=12):
     check(f"{count} runs at once", statuses == [0] * count and leaves == list(range(2 * count)), (statuses, leaves))
 
 
-def histories(count):
-    """Draws histories."""
-    runs = 0
-    for number in range(count):
-        remove_all()
-        new()
-        signing = Signing()
-        for _ in range(RANDOM.randrange(3, 9)):
-            how = RANDOM.choice(["", "FAILS", "BEFORE", "AFTER"])
-            ends = {how: str(RANDOM.randrange(1, 60))} if how else {}
-            signing.sign(RANDOM.randrange(1, 4), **ends)
-            if RANDOM.random() < 0.2 and os.path.exists("k.leaves"):
+def quiet(*words, **how):
+    """Runs the program as `lmskey` does, but keeps nothing of what it prints."""
+    more = dict(os.environ, LD_PRELOAD=f"{os.environ['ROOM']}/faults.so", **how) if how else os.environ
+    shut = [(os.POSIX_SPAWN_OPEN, number, os.devnull, os.O_WRONLY, 0) for number in (1, 2)]
+    _, status = os.waitpid(os.posix_spawn(LMSKEY, [LMSKEY, *words], more, file_actions=shut), 0)
+    return os.waitstatus_to_exitcode(status), ""
+
+
+def history(drawing):
+    """Draws a history. Returns its signatures and how many runs it had, or None if it isn't safe."""
+    signing, runs, older = Signing(), 0, [read("k.leaves")]
+    signing.run = quiet
+    for _ in range(drawing.randrange(3, 9)):
+        how = drawing.choice(["", "FAILS", "BEFORE", "AFTER"])
+        ends = {how: str(drawing.randrange(1, 60))} if how else {}
+        signing.sign(drawing.randrange(1, 4), **ends)
+        runs += 1
+        drawn = drawing.random()
+        if os.path.exists("k.leaves"):
+            older.append(read("k.leaves"))
+            if drawn < 0.2:
                 os.remove("k.leaves")
-            if not os.path.exists("k.leaves"):
-                lmskey("restore", "--log", "k.log", "--gap", str(RANDOM.randrange(4)), "k", **ends)
-                lmskey("restore", "--log", "k.log", "--gap", "1", "k")
-            runs += 1
-            if not signing.is_safe():
-                check("drawn histories", False, number)
-                return
-        if number % 50 == 0 and not signing.all_count():
-            check("drawn histories", False, f"a signature of {number}")
-            return
-    check(f"{count} drawn histories, {runs} runs: no leaf twice", True)
+            elif drawn < 0.3:
+                write("k.leaves", drawing.choice(older))
+        if drawn < 0.3 or not os.path.exists("k.leaves"):
+            words = ["restore", "--log", "k.log", "k", "--gap"]
+            quiet(*words, str(drawing.randrange(4)), **ends)
+            quiet(*words, "1")
+            runs += 2
+        if not signing.is_safe():
+            return None
+    return signing, runs
+
+
+def worker(number, count, seed, most):
+    """Draws histories in a folder of its own, until there are that many or it is that moment. Returns how many there were, how
+    many runs and signatures they had, and what is wrong, if anything."""
+    drawing, made, runs, signed = random.Random(f"{seed} {number}"), None, 0, 0
+    os.mkdir(f"worker.{number}")
+    os.chdir(f"worker.{number}")
+    for done in range(count):
+        if time.monotonic() > most:
+            return done, runs, signed, ""
+        if done % 50 == 0:
+            remove_all()
+            new()
+            made = kept()
+        renewed(made)
+        found = history(drawing)
+        if not found:
+            return done, runs, signed, f"worker {number}, history {done}"
+        if done % 50 == 0 and not found[0].all_count():
+            return done, runs, signed, f"worker {number}, a signature of history {done}"
+        runs, signed = runs + found[1], signed + len(found[0].leaves)
+    return count, runs, signed, ""
+
+
+def histories(count, workers, seconds):
+    """Draws histories, in several processes."""
+    begin, seed = time.monotonic(), RANDOM.random()
+    shares = [(number, (count + number) // workers, seed, begin + seconds) for number in range(workers)]
+    with multiprocessing.Pool(workers) as pool:
+        found = pool.starmap(worker, shares, 1)
+    done, runs, signed = (sum(each[n] for each in found) for n in range(3))
+    wrong = [each[3] for each in found if each[3]]
+    check(f"{done} drawn histories, {runs} runs, {signed} signatures: no leaf twice", not wrong, wrong)
+    usage = resource.getrusage(resource.RUSAGE_CHILDREN)
+    common.told("took", f"{time.monotonic() - begin:.0f} seconds, {usage.ru_utime + usage.ru_stime:.1f} of the processor since the start")
 
 
 def main():
     counts = [int(word) for word in sys.argv[1:]]
-    killed, drawn = (counts + [1000, 200][len(counts) :])[:2]
-    with room() as folder:
+    killed, drawn, workers, seconds = (counts + [1000, 200, 1, 10**9][len(counts) :])[:4]
+    # Where flushing takes no time: a process that ends loses nothing that was written.
+    with room("/dev/shm" if os.path.isdir("/dev/shm") else None) as folder:
         os.environ["ROOM"] = folder
         write("faults.c", LIBRARY.encode())
         subprocess.run(["cc", "-shared", "-fPIC", "-O1", "-w", "-o", "faults.so", "faults.c", "-ldl"], check=True)
@@ -364,9 +466,10 @@ def main():
         elsewhere()
         for way in ("FAILS", "BEFORE", "AFTER"):
             ends(way)
+            ends_of_restore(way)
         beside()
         kills(killed)
-        histories(drawn)
+        histories(drawn, workers, seconds)
         os.chdir("/")
     return common.counted(WORDS)
 
