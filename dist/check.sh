@@ -1,6 +1,6 @@
 #!/bin/bash
-# Shows that a release works on a machine without the kit: it unpacks the Debian package and the tarball that
-# dist/package.sh made into temporary folders and runs the program from there, with a cleaned environment.
+# Shows that a release works on a machine without the kit: it unpacks the Debian packages and the tarballs that
+# dist/package.sh made into temporary folders and runs the programs from there, with a cleaned environment.
 #
 #   dist/check.sh [FOLDER]      the folder of the release, dist/out unless given
 #
@@ -8,9 +8,11 @@
 # status is 1 where something failed. It takes a minute on a busy machine, half of it for lintian and the source package, and
 # installs nothing.
 #
-# For both: the help, the run without arguments, a repository that is made and verified, the man pages, the links of the other
+# For both of `tufcheck`: the help, the run without arguments, a repository that is made and verified, the man pages, the links of the other
 # pages, the completions of each shell that is here, the libraries, the SPDX file, and with strace every file that the program
-# opens. For the package also the operator's scripts, pages and unit, and the source package (dist/source.sh). Then the release
+# opens. For the package also the operator's scripts, pages and unit, and the source package (dist/source.sh). For both of
+# `lmskey`: a key that is made, and its signature attached by `tufcheck`, the man page, completions, libraries and the SPDX file;
+# and the package of `tufcheck` names it nowhere. Then the release
 # is published in a repository of trial keys (dist/repository.py) and fetched from it, and its sums are signed (dist/sign.sh),
 # both in temporary folders. Then the program runs in a root folder that has nothing but it and its libraries (for the
 # superuser, or where user namespaces are allowed), and the release is packaged again from the unpacked program, which must
@@ -20,7 +22,8 @@
 from=$(realpath -m "${1:-$top/dist/out}")
 version=$(sed -n 's/^version=//p' "$top/dist/package.sh")
 name=tufcheck-$version-x86_64-linux deb=tufcheck_${version}_amd64.deb
-mkdir "$work/home" "$work/deb" "$work/tar" || exit 1
+signer=lmskey-$version-x86_64-linux signer_deb=lmskey_${version}_amd64.deb
+mkdir "$work/home" "$work/deb" "$work/tar" "$work/signer" "$work/signer.deb" || exit 1
 printf 'root 1\nend ready\nok "abc.txt" 3 "targets"\n' > "$work/three"
 (echo "root 1" && cat "$work/three") > "$work/four"
 
@@ -47,14 +50,14 @@ session() {
 completed() {
     # shellcheck disable=SC2016 # for the other bash
     clean "$BASH" --noprofile --norc -c '
-        source "$1" && shift && named=$(complete -p tufcheck) && named=${named##*-F } && COMP_WORDS=("$@") COMP_CWORD=$(($# - 1)) &&
+        source "$1" && shift && named=$(complete -p "$1") && named=${named##*-F } && COMP_WORDS=("$@") COMP_CWORD=$(($# - 1)) &&
             "${named%% *}" && printf "%s\n" "${COMPREPLY[@]}"' bash "$@"
 }
 
-# offered: checks that `seen` has each option that the program's help of `verify` names
+# offered NAME COMMAND: checks that `seen` has each option that the program's help of a subcommand names
 offered() {
     local option options
-    options=$(clean tufcheck help verify | grep -o -- '--[a-z][a-z-]*' | sort -u)
+    options=$(clean "$1" help "$2" | grep -o -- '--[a-z][a-z-]*' | sort -u)
     [ -n "$options" ] || return 1
     for option in $options; do
         grep -q -x -e "$option" -e "${option}[[:space:]].*" "$work/seen" || { echo "lacks $option" >> "$work/seen"; return 1; }
@@ -75,40 +78,41 @@ keyed() {
     cat "$work/line"
 }
 
-# shells TAKEN ZSH: the completions, in each shell that is here
+# shells TAKEN ZSH NAME COMMAND OPTION: the completions of a program, with a subcommand and the one option of it that begins so,
+# in each shell that is here
 shells() {
-    local loader="/usr/share/bash-completion/bash_completion" file=$share/bash-completion/completions/tufcheck
-    completed "$file" tufcheck ver > "$work/seen" 2>&1
-    [ "$(cat "$work/seen")" = verify ]
-    report $? "$1: bash completes \`tufcheck ver\` to \`verify\`"
-    completed "$file" tufcheck verify -- > "$work/seen" 2>&1
-    offered
-    report $? "$1: bash offers each option of \`verify\`"
+    local loader="/usr/share/bash-completion/bash_completion" file=$share/bash-completion/completions/$3 begin=${4:0:3}
+    completed "$file" "$3" "$begin" > "$work/seen" 2>&1
+    [ "$(cat "$work/seen")" = "$4" ]
+    report $? "$1: bash completes \`$3 $begin\` to \`$4\`"
+    completed "$file" "$3" "$4" -- > "$work/seen" 2>&1
+    offered "$3" "$4"
+    report $? "$1: bash offers each option of \`$4\`"
     if [ -f "$loader" ]; then
         # shellcheck disable=SC2016 # for the other bash
         env -i HOME="$work/home" PATH="$PATH" XDG_DATA_DIRS="$share" bash --noprofile --norc -c '
-            source "$1"; if declare -F _comp_load; then _comp_load tufcheck; else _completion_loader tufcheck; fi
-            complete -p tufcheck' bash "$loader" > "$work/seen" 2>&1
-        grep -q -- '-F _tufcheck tufcheck' "$work/seen"
+            source "$1"; if declare -F _comp_load; then _comp_load "$2"; else _completion_loader "$2"; fi
+            complete -p "$2"' bash "$loader" "$3" > "$work/seen" 2>&1
+        grep -q -- "-F _$3 $3" "$work/seen"
         report $? "$1: bash-completion finds the file by the program's name"
     else
         echo "not tried $1: bash-completion is missing"
     fi
     if has zsh "$1: completion in zsh"; then
-        keyed "$share/zsh/$2" "tufcheck ver" > "$work/seen" 2>&1
-        [ "$(sed 's/ *$//' "$work/seen")" = "tufcheck verify" ]
-        report $? "$1: zsh completes \`tufcheck ver\` to \`verify\`"
-        keyed "$share/zsh/$2" "tufcheck verify --wor" > "$work/seen" 2>&1
-        [ "$(sed 's/ *$//' "$work/seen")" = "tufcheck verify --workers" ]
-        report $? "$1: zsh completes \`tufcheck verify --wor\` to \`--workers\`"
+        keyed "$share/zsh/$2" "$3 $begin" > "$work/seen" 2>&1
+        [ "$(sed 's/ *$//' "$work/seen")" = "$3 $4" ]
+        report $? "$1: zsh completes \`$3 $begin\` to \`$4\`"
+        keyed "$share/zsh/$2" "$3 $4 ${5:0:5}" > "$work/seen" 2>&1
+        [ "$(sed 's/ *$//' "$work/seen")" = "$3 $4 $5" ]
+        report $? "$1: zsh completes \`$3 $4 ${5:0:5}\` to \`$5\`"
     fi
     if has fish "$1: completion in fish"; then
-        fished "tufcheck ver" > "$work/seen" 2>&1
-        [ "$(cut -f 1 "$work/seen")" = verify ]
-        report $? "$1: fish completes \`tufcheck ver\` to \`verify\`"
-        fished "tufcheck verify --" > "$work/seen" 2>&1
-        offered
-        report $? "$1: fish offers each option of \`verify\`"
+        fished "$3 $begin" > "$work/seen" 2>&1
+        [ "$(cut -f 1 "$work/seen")" = "$4" ]
+        report $? "$1: fish completes \`$3 $begin\` to \`$4\`"
+        fished "$3 $4 --" > "$work/seen" 2>&1
+        offered "$3" "$4"
+        report $? "$1: fish offers each option of \`$4\`"
     fi
 }
 
@@ -188,9 +192,8 @@ tried() {
     fi
     linked "$share/doc/tufcheck" > "$work/seen" && [ ! -s "$work/seen" ]
     report $? "$1: the links of the pages lead to files and headings there"
-    shells "$1" "$3"
-    ldd "$root/bin/tufcheck" > "$work/seen" 2>&1
-    ! grep -v -E '^\s*(linux-vdso\.so|lib(c|m|pthread|dl|rt)\.so|/lib64/ld-linux-x86-64\.so|statically linked)' "$work/seen" > "$work/found"
+    shells "$1" "$3" tufcheck verify --workers
+    linking tufcheck
     report $? "$1: the libraries are the C library's"
     if has strace "$1: the files that the program asks for"; then
         # shellcheck disable=SC2016 # for the other bash
@@ -199,6 +202,41 @@ tried() {
             ! strange "$work/trace.$1" > "$work/seen"
         report $? "$1: the program asks for no file but the system's and those of its command line"
     fi
+}
+
+# linking NAME: whether a program links nothing but the C library's
+linking() {
+    ldd "$root/bin/$1" > "$work/seen" 2>&1
+    ! grep -v -E '^\s*(linux-vdso\.so|lib(c|m|pthread|dl|rt)\.so|/lib64/ld-linux-x86-64\.so|statically linked)' "$work/seen" > "$work/found"
+}
+
+# signed TUFCHECK: makes a key and a signature, which that `tufcheck` attaches
+signed() {
+    echo '{"signed":{"_type":"timestamp","version":1}}' > draft.json &&
+        clean lmskey new --height 5 --log key.log key && "$1" text draft.json > to-sign && clean lmskey sign --log key.log key to-sign &&
+        "$1" attach draft.json key.json to-sign.sig --out draft.json
+}
+
+# signer_tried TAKEN ROOT ZSH: all that is tried with one unpacked release of `lmskey`
+signer_tried() {
+    local root=$2 share=$2/share
+    mkdir "$work/room.lmskey.$1" && cd "$work/room.lmskey.$1" || exit 1
+    clean lmskey --version > "$work/seen" 2>&1 && grep -q -F "lmskey $version (rattle logic " "$work/seen"
+    report $? "lmskey's $1: \`lmskey --version\`"
+    signed "$work/tar/$name/bin/tufcheck" > "$work/seen" 2>&1 && [ "$(sed 's/"[0-9a-f]*"/ID/' "$work/seen" | tr '\n' ' ')" = "key ID W8 H5 32 signed 1 entry ID 0 " ]
+    report $? "lmskey's $1: a key is made, and \`tufcheck attach\` takes its signature"
+    if has man "lmskey's $1: the man page"; then
+        rendered lmskey
+        report $? "lmskey's $1: \`man\` renders the page, with no warning"
+    fi
+    shells "lmskey's $1" "$3" lmskey restore --gap
+    linking lmskey
+    report $? "lmskey's $1: the libraries are the C library's"
+}
+
+# alone: whether the package of `tufcheck` names `lmskey` in no field, and has no file of it
+alone() {
+    ! { dpkg-deb -f "$from/$deb" && dpkg-deb -c "$from/$deb"; } | grep lmskey > "$work/seen"
 }
 
 # rendered PAGE: whether `man` renders a page of the release and says nothing
@@ -243,11 +281,12 @@ sourced() {
         echo "not tried package: the source package: this is no clone"
     elif has dpkg-buildpackage "package: the source package" && has git "package: the source package"; then
         SOURCE_DATE_EPOCH=$(stat -c %Y "$work/deb/usr/bin/tufcheck") "$top/dist/source.sh" "$work/deb/usr/bin/tufcheck" "$work/source" \
-            > "$work/seen" 2>&1 && cmp "$work/source/$deb" "$from/$deb" > "$work/seen" 2>&1
-        report $? "package: \`dpkg-buildpackage\` builds the same bytes from the source package"
+            "$work/signer.deb/usr/bin/lmskey" > "$work/seen" 2>&1 && cmp "$work/source/$deb" "$from/$deb" > "$work/seen" 2>&1 &&
+            cmp "$work/source/$signer_deb" "$from/$signer_deb" > "$work/seen" 2>&1
+        report $? "packages: \`dpkg-buildpackage\` builds the same bytes from the source package"
         if has lintian "package: what lintian says"; then
             lintian --fail-on error,warning "$work/source/tufcheck_${version}_amd64.changes" > "$work/seen" 2> "$work/found"
-            report $? "package: lintian has no errors and no warnings"
+            report $? "packages: lintian has no errors and no warnings"
         fi
     fi
 }
@@ -304,7 +343,23 @@ if tar -xzf "$from/$name.tar.gz" -C "$work/tar" > "$work/seen" 2>&1; then
 else
     report 1 "tarball: it can be unpacked"
 fi
-if has dpkg-deb "the Debian package"; then
+if tar -xzf "$from/$signer.tar.gz" -C "$work/signer" > "$work/seen" 2>&1; then
+    signer_tried tarball "$work/signer/$signer" site-functions
+    listed "$signer.tar.gz" "$work/signer" > "$work/seen" 2>&1
+    report $? "lmskey's tarball: the SPDX file lists it and its files"
+else
+    report 1 "lmskey's tarball: it can be unpacked"
+fi
+if has dpkg-deb "the Debian packages"; then
+    if dpkg-deb -x "$from/$signer_deb" "$work/signer.deb" > "$work/seen" 2>&1; then
+        signer_tried package "$work/signer.deb/usr" vendor-completions
+        listed "$signer_deb" "$work/signer.deb" > "$work/seen" 2>&1
+        report $? "lmskey's package: the SPDX file lists it and its files"
+        dpkg-deb -e "$from/$signer_deb" "$work/signer.deb/DEBIAN" && (cd "$work/signer.deb" && md5sum -c DEBIAN/md5sums) > "$work/seen" 2>&1
+        report $? "lmskey's package: its list of sums"
+    else
+        report 1 "lmskey's package: it can be unpacked"
+    fi
     if dpkg-deb -x "$from/$deb" "$work/deb" > "$work/seen" 2>&1; then
         tried package "$work/deb/usr" vendor-completions
         cmp "$work/deb/usr/bin/tufcheck" "$work/tar/$name/bin/tufcheck" > "$work/seen" 2>&1
@@ -313,6 +368,8 @@ if has dpkg-deb "the Debian package"; then
         report $? "package: its list of sums"
         listed "$deb" "$work/deb" > "$work/seen" 2>&1
         report $? "package: the SPDX file lists it and its files"
+        alone
+        report $? "package: it names \`lmskey\` nowhere, and has no file of it"
         sourced
         operated "$work/deb/usr"
     else
@@ -332,7 +389,7 @@ elif unshare -r true > "$work/found" 2>&1; then
 else
     echo "not tried a session in a bare root folder: chroot isn't allowed"
 fi
-SOURCE_DATE_EPOCH=$(stat -c %Y "$root/bin/tufcheck") "$top/dist/package.sh" "$root/bin/tufcheck" "$work/again" > "$work/found" 2> "$work/seen" &&
+SOURCE_DATE_EPOCH=$(stat -c %Y "$root/bin/tufcheck") "$top/dist/package.sh" "$root/bin/tufcheck" "$work/again" "$work/signer/$signer/bin/lmskey" > "$work/found" 2> "$work/seen" &&
     diff -r -x build -x source -x repository -x '*-dev*' -x 'libtufcheck*' -x 'python3-*' -x 'SHA256SUMS.*' "$from" "$work/again" > "$work/seen" 2>&1
 report $? "packaged again, the release has the same bytes"
 if [ -d "$from/build" ]; then
