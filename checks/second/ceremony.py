@@ -113,11 +113,14 @@ class Own(Key):
         super().__init__(name, width, height)
         self.key, self.log, self.leaves = f"{name}.key", f"stick/{name}.log", []
         self.file, self.sig = f"{self.key}.json", "to-sign.sig"
-        self.made = lmskey("new", "--width", str(width), "--height", str(height), "--log", self.log, self.key)
-        self.known(read(self.key)[:56])
+        words = [LMSKEY, "new", "--width", str(width), "--height", str(height), "--log", self.log, self.key]
+        self.making = subprocess.Popen(words, stdout=subprocess.PIPE, stderr=subprocess.STDOUT, text=True)
 
     def make(self):
-        check(f"key of {self.name}", (self.line, 0), self.made)
+        """Waits until it is made, beside the others."""
+        line, _ = self.making.communicate()
+        self.known(read(self.key)[:56])
+        check(f"key of {self.name}", (self.line, 0), (line, self.making.returncode))
         check(f"key object of {self.name}", self.text, read(self.file))
 
     def asked(self, message):
