@@ -445,7 +445,7 @@ def histories(count, workers, seconds):
     """Draws histories, in several processes."""
     begin, seed = time.monotonic(), RANDOM.random()
     shares = [(number, (count + number) // workers, seed, begin + seconds) for number in range(workers)]
-    with multiprocessing.Pool(workers) as pool:
+    with multiprocessing.get_context("fork").Pool(workers) as pool:
         found = pool.starmap(worker, shares, 1)
     done, runs, signed = (sum(each[n] for each in found) for n in range(3))
     wrong = [each[3] for each in found if each[3]]
