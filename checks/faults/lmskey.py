@@ -322,7 +322,8 @@ def ends_of_restore(way):
             is_missing = signed == (1, "lmskey: the leaves file is missing\n") and not os.path.exists("k.leaves")
             again = restore(0)
             later = signing.sign(2)
-            if not signing.is_safe() or again[0] or later[0] or not (signed[0] == 0 or is_missing) or way == "FAILS" and status == 0:
+            is_wrong = signed[0] != 0 and not is_missing or way == "FAILS" and status == 0
+            if not signing.is_safe() or again[0] or later[0] or is_wrong:
                 check(f"restore, {told}", False, (case, number, status, signed, again, later))
                 return
     check(f"restore, {done} {told}", done > 40 and signing.all_count(), done)

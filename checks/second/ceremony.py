@@ -156,7 +156,8 @@ def signed_file(name, signed, keys):
 def signers(name, threshold, states, *of):
     """Checks the lines of the keys of a role, each with what is said of it, for a draft."""
     count = sum(said.startswith("signed") for said in states.values())
-    lines = [f'why keys "{of[1]}" threshold {threshold} signed {count}', *(f'why key "{key}" {said}' for key, said in states.items())]
+    lines = [f'why keys "{of[1]}" threshold {threshold} signed {count}']
+    lines += [f'why key "{key}" {said}' for key, said in states.items()]
     ran = run("signers", f"draft/{name}", *of, text=True)
     wanted = ("\n".join(lines) + "\n", int(count < threshold))
     check(f"signers of {name} by {' '.join(of)}", wanted, (ran.stdout, ran.returncode))
@@ -182,10 +183,12 @@ def repository(keys, version):
         signers(root, 2, states, "--root", f"draft/{number}.root.json", "--role", "root")
     apps = {"apps/it.txt": tuf.target(CONTENTS[version])}
     signed_file("apps.json", tuf.part("targets", version, targets=apps), [keys["apps"]])
-    delegations = {"keys": {keys["apps"].id: keys["apps"].object}, "roles": [tuf.delegation("apps", keys["apps"], paths=["apps/*"])]}
+    role = tuf.delegation("apps", keys["apps"], paths=["apps/*"])
+    delegations = {"keys": {keys["apps"].id: keys["apps"].object}, "roles": [role]}
     targets = tuf.part("targets", version, targets={"abc.txt": tuf.target(CONTENTS[version])}, delegations=delegations)
     signed_file("targets.json", targets, [keys["targets"]])
-    signers("apps.json", 1, {keys["apps"].id: f"signed {keys['apps'].leaf - 1}"}, "--from", "draft/targets.json", "--role", "apps")
+    states = {keys["apps"].id: f"signed {keys['apps'].leaf - 1}"}
+    signers("apps.json", 1, states, "--from", "draft/targets.json", "--role", "apps")
     meta = {name: listing(name, version) for name in ("targets.json", "apps.json")}
     signed_file("snapshot.json", tuf.part("snapshot", version, meta=meta), [keys["snapshot"]])
     meta = {"snapshot.json": listing("snapshot.json", version)}
@@ -296,7 +299,10 @@ def tried(module, kind):
         os.mkdir("stick")
         names = ["root-a", "root-b", "root-c", *ROLES[1:], "apps"]
         sizes = int(width), int(height)
-        keys = {name: Own(name, *sizes) if scheme == "lmskey" else Kept(module, name, int(scheme == "hss"), *sizes) for name in names}
+        if scheme == "lmskey":
+            keys = {name: Own(name, *sizes) for name in names}
+        else:
+            keys = {name: Kept(module, name, int(scheme == "hss"), *sizes) for name in names}
         for key in keys.values():
             key.make()
         for version in CONTENTS:
@@ -317,8 +323,8 @@ def main():
     words = [word for word in sys.argv[1:] if word != "--tall"]
     tall = words or "--tall" in sys.argv
     kinds = words or [kind for kind in KINDS if tall or not (kind.startswith("lmskey") and kind.endswith("15"))]
-    lacking = {word for word, what in (("", common.PROGRAM), ("lmskey", LMSKEY), ("lms", JAR), ("hss", JAR)) if not os.path.isfile(what)}
-    module = None
+    needs, module = {"": common.PROGRAM, "lmskey": LMSKEY, "lms": JAR, "hss": JAR}, None
+    lacking = {word for word, what in needs.items() if not os.path.isfile(what)}
     for kind in kinds:
         if {"", kind.split("-")[0]} & lacking:
             WORDS.append(common.told("not tried", kind))
