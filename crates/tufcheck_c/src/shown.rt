@@ -35,6 +35,7 @@ pub extern "C" fn tufcheck_show(alloc: Global, state: &[u8], shown: &mut Shown) 
     ensures unchanged_on_error { spec.IfError result (shown.new ≡ shown.old) }
     ensures same_size { shown.new.size ≡ shown.old.size }
     ensures status_range { spec.IsResult 0 result }
+    ensures no_room_needed { result ≢ spec.no_room }
 {
     if shown.size != SHOWN_SIZE {
         return NO_SIZE;
