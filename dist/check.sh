@@ -8,16 +8,15 @@
 # status is 1 where something failed. It takes a minute on a busy machine, half of it for lintian and the source package, and
 # installs nothing.
 #
-# For both of `tufcheck`: the help, the run without arguments, a repository that is made and verified, the man pages, the links of the other
-# pages, the completions of each shell that is here, the libraries, the SPDX file, and with strace every file that the program
-# opens. For the package also the operator's scripts, pages and unit, and the source package (dist/source.sh). For both of
-# `lmskey`: a key that is made, and its signature attached by `tufcheck`, the man page, completions, libraries and the SPDX file;
-# and the package of `tufcheck` names it nowhere. Then the release
-# is published in a repository of trial keys (dist/repository.py) and fetched from it, and its sums are signed (dist/sign.sh),
-# both in temporary folders. Then the program runs in a root folder that has nothing but it and its libraries (for the
-# superuser, or where user namespaces are allowed), and the release is packaged again from the unpacked program, which must
-# make the same bytes. dist/halves.sh compares the two builds. Last, dist/check-dev.sh tries the library's release, if it is in
-# the folder.
+# For both of `tufcheck`: the help, the run without arguments, a repository that is made and verified, the man pages, the links
+# of the other pages, the completions of each shell that is here, the libraries, the SPDX file, and with strace every file that
+# the program opens. For its package also the operator's scripts, pages and unit, the source package (dist/source.sh), and that
+# it names `lmskey` nowhere. For both of `lmskey`: a key that is made, and its signature attached by `tufcheck`, the man page,
+# completions, libraries and the SPDX file. Then the release is published in a repository of trial keys (dist/repository.py) and
+# fetched from it, and its sums are signed (dist/sign.sh), both in temporary folders. Then the program runs in a root folder that
+# has nothing but it and its libraries (for the superuser, or where user namespaces are allowed), and the release is packaged
+# again from the unpacked programs, which must make the same bytes. dist/halves.sh compares the two builds. Last,
+# dist/check-dev.sh tries the library's release, if it is in the folder.
 . "$(dirname "$0")/tried.sh" || exit 1
 from=$(realpath -m "${1:-$top/dist/out}")
 version=$(sed -n 's/^version=//p' "$top/dist/package.sh")
@@ -102,9 +101,9 @@ shells() {
         keyed "$share/zsh/$2" "$3 $begin" > "$work/seen" 2>&1
         [ "$(sed 's/ *$//' "$work/seen")" = "$3 $4" ]
         report $? "$1: zsh completes \`$3 $begin\` to \`$4\`"
-        keyed "$share/zsh/$2" "$3 $4 ${5:0:5}" > "$work/seen" 2>&1
+        keyed "$share/zsh/$2" "$3 $4 ${5:0:4}" > "$work/seen" 2>&1
         [ "$(sed 's/ *$//' "$work/seen")" = "$3 $4 $5" ]
-        report $? "$1: zsh completes \`$3 $4 ${5:0:5}\` to \`$5\`"
+        report $? "$1: zsh completes \`$3 $4 ${5:0:4}\` to \`$5\`"
     fi
     if has fish "$1: completion in fish"; then
         fished "$3 $begin" > "$work/seen" 2>&1
