@@ -13,8 +13,8 @@ are there are by different leaves, each leaf is below the number in the leaves f
 library, made with `cc`, is loaded before the C library's calls. LMSKEY names the program, or it is the one that `rt run` in
 crates/lmskey proves and builds, and PROGRAM is `tufcheck`. A line for each check says `ok` or `FAILS`. The status is 1 if one
 fails. With 200 histories it took six minutes beside much other work, of which 40 seconds were the processor's. Of its seconds
-1,000 histories take 15 on /dev/shm; so 100,000 should take some six minutes of four idle cores. The most that were drawn at
-once were 1,962, in ten minutes beside much other work.
+1,000 histories take 14 on /dev/shm; so 100,000 should take some six minutes of four idle cores. The most that were drawn at
+once were 4,106, in nine minutes beside much other work.
 """
 import glob
 import multiprocessing
