@@ -1,5 +1,5 @@
 -- The lines that a ceremony prints.
-use Rattle.std.specs.Prelude.{ℕ, ◌^◌, ◌-◌, ◌==◌, List, [], ◌∷◌, ◌++◌, if◌then◌else◌, codes, decimal, flat_map, length}
+use Rattle.std.specs.Prelude.{ℕ, ◌^◌, List, [], ◌∷◌, if◌then◌else◌, codes, decimal}
 use Rattle.std.specs.Option.{option_map_or}
 use Rattle.cjson.specs.declared.fault.DocFault.{DocFault}
 use Rattle.cjson.specs.declared.fault.DocFault.TheVariants.{NotJson, NotObject, Float, BadSignatures}
@@ -17,13 +17,7 @@ use Rattle.signing.specs.declared.fault.KeyFault.{KeyFault}
 use Rattle.signing.specs.declared.fault.KeyFault.TheVariants as key
 use Rattle.signing.specs.declared.fault.Invalid.{Invalid}
 use Rattle.signing.specs.declared.fault.Invalid.TheVariants as invalid
-use Rattle.signing.specs.declared.signing.KeyFinding.{KeyFinding}
-use Rattle.signing.specs.declared.signing.KeyFinding.TheVariants as finding
 use Rattle.signing.specs.declared.attaching.Attached.{Attached}
-use Rattle.signing.specs.declared.signing.ListedKey.{ListedKey}
-use Rattle.signing.specs.declared.signing.Signing.{Signing}
-use Rattle.signing.specs.declared.unusable.Unusable.{Unusable}
-use Rattle.signing.specs.declared.unusable.Unusable.TheVariants as unusable
 use Rattle.ceremony.specs.declared.lines.Refusal.{Refusal}
 use Rattle.ceremony.specs.declared.lines.Refusal.TheVariants as refusal
 
@@ -89,68 +83,3 @@ abbrev pub entry_text : Key → Attached → List ℕ
 entry_text key a =
     line ((if a.is_new then codes "entry" else codes "again") ∷ quoted_text key.id
     ∷ decimal a.leaf ∷ [])
-
--- # Who signed.
-
--- `why keys FILE threshold T signed N`
-abbrev pub keys_text : List ℕ → ℕ → ℕ → List ℕ
-keys_text path threshold signed =
-    line (codes "why" ∷ codes "keys" ∷ quoted_text path ∷ codes "threshold" ∷ decimal threshold
-    ∷ codes "signed" ∷ decimal signed ∷ [])
-
--- ---- `why key ID WHAT`, of a quoted id
-
-abbrev pub key_words : List ℕ → List (List ℕ) → List ℕ
-key_words id words = line (codes "why" ∷ codes "key" ∷ id ∷ words)
-
-abbrev pub signed_text : List ℕ → ℕ → List ℕ
-signed_text id leaf = key_words id (codes "signed" ∷ decimal leaf ∷ [])
-
-abbrev pub again_text : List ℕ → List ℕ → List ℕ
-again_text id other = key_words id (codes "again" ∷ quoted_text other ∷ [])
-
-abbrev pub unsigned_text : List ℕ → List ℕ
-unsigned_text id = key_words id (codes "unsigned" ∷ [])
-
-abbrev pub other_type_text : List ℕ → List ℕ → List ℕ
-other_type_text id quoted =
-    key_words id (codes "unusable" ∷ codes "type" ∷ quoted ∷ [])
-
-abbrev pub unusable_text : List ℕ → Unusable → List ℕ
-unusable_text id unusable.Absent = key_words id (codes "absent" ∷ [])
-unusable_text id (unusable.Type name) = other_type_text id (quoted_text name)
-unusable_text id unusable.Kind = key_words id (codes "unusable" ∷ codes "kind" ∷ [])
-unusable_text id unusable.Id = key_words id (codes "unusable" ∷ codes "id" ∷ [])
-
-abbrev pub invalid_text : List ℕ → ℕ → Invalid → List ℕ
-invalid_text id n invalid.Hexadecimal =
-    key_words id (codes "invalid" ∷ decimal n ∷ codes "hexadecimal" ∷ [])
-invalid_text id n (invalid.Length found due) =
-    key_words id (codes "invalid" ∷ decimal n ∷ codes "length" ∷ decimal found ∷ decimal due
-    ∷ [])
-invalid_text id n invalid.Kind = key_words id (codes "invalid" ∷ decimal n ∷ codes "kind" ∷ [])
-invalid_text id n (invalid.Leaf leaf) =
-    key_words id (codes "invalid" ∷ decimal n ∷ codes "leaf" ∷ decimal leaf ∷ [])
-invalid_text id n invalid.Root = key_words id (codes "invalid" ∷ decimal n ∷ codes "root" ∷ [])
-
-abbrev pub finding_of_text : List ℕ → KeyFinding → List ℕ
-finding_of_text id (finding.Unusable why) = unusable_text id why
-finding_of_text id (finding.Signed leaf) = signed_text id leaf
-finding_of_text id (finding.Again other) = again_text id other
-finding_of_text id finding.Unsigned = unsigned_text id
-finding_of_text id (finding.Invalid n why) = invalid_text id n why
-
--- the line of a listed id
-abbrev pub finding_text : ListedKey → List ℕ
-finding_text k = finding_of_text (quoted_text k.id) k.finding
-
--- `why more N`, if more ids are listed than have a line
-abbrev pub more_text : ℕ → List ℕ
-more_text n =
-    if n == 0 then [] else line (codes "why" ∷ codes "more" ∷ decimal n ∷ [])
-
--- all lines
-abbrev pub signing_text : List ℕ → Signing → List ℕ
-signing_text path s =
-    keys_text path s.threshold s.signed ++ flat_map finding_text s.keys
-    ++ more_text (s.listed - length s.keys)

@@ -6,12 +6,12 @@ use Rattle.failure.specs.declared.failure.Failure.{Failure}
 use Rattle.failure.specs.declared.failure.Failure.TheVariants.{Input, Output, Memory}
 use Rattle.signing.specs.declared.signing.Signing.{Signing}
 use Rattle.std.specs.Io.KnownBytes.{Appends}
-use Rattle.ceremony.specs.Printed.{signing_text}
 use Rattle.ceremony.specs.Required.{IsSigning, Required, required}
 use Rattle.ceremony.specs.declared.lines.Refusal.{Refusal}
 use Rattle.ceremony.specs.declared.lines.Refusal.TheVariants as refusal
 use Rattle.ceremony.specs.declared.required.Role.{Role}
 use Rattle.ceremony.specs.declared.signers.By.{By}
+use Rattle.whys.specs.Signed.{signing_text}
 
 -- the exit status
 abbrev pub met_status : Bool → ℕ

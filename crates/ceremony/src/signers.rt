@@ -7,7 +7,7 @@ ghost use Rattle.ceremony.specs.Required.{Required};
 ghost use Rattle.ceremony.specs.SignedBy as spec;
 ghost use Rattle.signing.specs.Signers.{IsReasoned};
 
-use crate::lines::{Refusal, put_refusal, signing_lines};
+use crate::lines::{Refusal, put_refusal};
 use crate::required::{Role, signing_by};
 use crate::text::FILE_MOST;
 use cjson::{DocFault, signed_bytes};
@@ -17,6 +17,7 @@ use signing::Signing;
 use std::alloc::Global;
 use std::io::Write;
 use system::System;
+use whys::signing_lines;
 
 /// The file that lists the keys of a role.
 #[derive(Clone, Copy)]

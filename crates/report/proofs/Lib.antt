@@ -1,3 +1,2 @@
-pub mod Spelling
 mod Numbered
 mod WorkedValues

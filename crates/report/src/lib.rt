@@ -2,8 +2,7 @@
 //!
 //! - [`tell`] prints the lines of an outcome and returns the status, [`tell_stored`] does with
 //!   whether copies were stored, and [`tell_cycles`] does for one cycle after another.
-//! - [`show`] prints what a trusted state has, and when it expires; [`moment_text`] returns the
-//!   text of a moment.
+//! - [`show`] prints what a trusted state has, and when it expires.
 //! - [`tell_needs`] prints the names of the files to fetch.
 //! - [`root_line`], [`push_end`] and [`push_verdict`] make single lines.
 #![tactic(auto)]
@@ -11,11 +10,9 @@
 mod cycles;
 mod fetching;
 mod lines;
-mod moments;
 mod shown;
 
 pub use cycles::tell_cycles;
 pub use fetching::tell_needs;
 pub use lines::{push_end, push_verdict, root_line, tell, tell_stored};
-pub use moments::moment_text;
 pub use shown::show;

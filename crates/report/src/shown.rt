@@ -8,10 +8,9 @@ ghost use Rattle.failure.specs.Failures.{IsLate};
 ghost use Rattle.report.specs.Shown as spec;
 
 use crate::lines::step_name;
-use crate::moments::moment_text;
 use cycle::{Step, Trusted};
 use failure::Failure;
-use inout::put;
+use inout::{moment_text, put};
 use meta::Header;
 use moment::Moment;
 use rolechain::headers;

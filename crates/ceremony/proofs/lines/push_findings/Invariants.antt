@@ -1,6 +1,0 @@
-use Rattle.std.proofs.Common.{◌≡◌, ◌++◌, flat_map, take, string_bytes}
-use Rattle.ceremony.specs.Printed.{finding_text}
-use Rattle.ceremony.proofs.lines.push_findings.Given as goal
-
-abbrev pub invariant-loop-listed : goal.invariant-loop-listed
-invariant-loop-listed l = string_bytes l.text ≡ string_bytes l.initial.text ++ flat_map finding_text (take l.listed-index l.keys)
