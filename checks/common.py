@@ -37,9 +37,10 @@ def write(name, content):
 
 
 def quoted(name):
-    """A name as the lines have it (docs/USERS.md)."""
+    """A name, a text or its bytes, as the lines have it (docs/USERS.md)."""
+    spelled = name.encode() if isinstance(name, str) else name
     plain = lambda byte: 0x20 <= byte < 0x7F and byte not in b'"\\'
-    return '"' + "".join(chr(byte) if plain(byte) else f"\\x{byte:02x}" for byte in name.encode()) + '"'
+    return '"' + "".join(chr(byte) if plain(byte) else f"\\x{byte:02x}" for byte in spelled) + '"'
 
 
 def told(word, name, seen=None):
@@ -55,10 +56,10 @@ def counted(words):
     return 1 if "FAILS" in words else 0
 
 
-def verify(*more, state="state", out="new", repo=".", workers="0"):
+def verify(*more, state="state", out="new", repo=".", workers="0", now=NOW):
     """The words of a run of `verify` over a repository, and more of them."""
     folders = ["--metadata", f"{repo}/metadata", "--targets", f"{repo}/targets"]
-    return ["verify", "--now", NOW, "--workers", workers, "--state", state, "--out", out, *folders, *more]
+    return ["verify", "--now", now, "--workers", workers, "--state", state, "--out", out, *folders, *more]
 
 
 def run(*words, check=False, **how):

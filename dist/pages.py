@@ -24,6 +24,7 @@ LACKS = {
     ("NAMES", ""): "init show make key text attach signers",
     ("FAULTS", ""): "init next show make key text attach signers",
     ("FAULTS", "NoPlace"): "replay",
+    ("REASONS", ""): "init next show make key text attach signers",
     ("DIAGNOSTICS", "now "): "init make key text attach signers",
     ("DIAGNOSTICS", "state file "): "init make key text attach signers",
     ("DIAGNOSTICS", "script LINE "): "init verify replay next show key text attach signers",

@@ -17,9 +17,8 @@ sys.path.insert(0, os.path.dirname(os.path.dirname(os.path.abspath(__file__))))
 import common
 
 CHECKS = f"{common.TOP}/checks"
-SIGNED = '    ask(is_met(file, ring, asked), "Unsigned")\n'
-OF_VERSION = '    ask(file["version"] == listed["version"], "VersionWrong")\n'
-NEW_ROOT = 'ask(is_met(new, {0}["keys"], {0}["roles"]["root"]), "Unsigned")'
+SIGNED = '        ask_signed(file, ring, asked, whose)\n'
+OF_VERSION = '        ask_version(file, listed["version"])\n'
 EXPIRES, TRUSTS = "        self.expires(new)\n", '        self.trust("{}", new)\n'
 IDS = 'set({}["roles"][it]["keyids"])'
 
@@ -30,12 +29,13 @@ MISREADINGS = {
     "a rotation is another order of ids": (
         f"{IDS.format('old')} != {IDS.format('new')}",
         f"{IDS.format('old')[4:-1]} != {IDS.format('new')[4:-1]}"),
-    "the old root's keys aren't checked": (NEW_ROOT.format("old"), "pass"),
-    "the new root's keys aren't checked": (NEW_ROOT.format("new"), "pass"),
-    "roots may leave versions out": ('ask(new["version"] == old["version"] + 1', 'ask(new["version"] > old["version"]'),
+    "the old root's keys aren't checked": ('ask_signed(new, *self.by_root("root"))', "pass"),
+    "the new root's keys aren't checked": ('ask_signed(new, new["keys"], new["roles"]["root"], name)', "pass"),
+    "roots may leave versions out": (
+        'ask_version(new, old["version"] + 1)', 'ask(new["version"] > old["version"], "VersionWrong")'),
     "a timestamp of an equal version is taken": ('if old and new["version"] == old["version"]:', "if False:"),
-    "an older snapshot may be listed": ('ask(not old or new["snapshot"]["version"] >=', "ask(True or new >="),
-    "a listed file may vanish": ('ask(name in new["meta"] and', 'ask(name not in new["meta"] or'),
+    "an older snapshot may be listed": ('falls += fall(', 'falls and fall('),
+    "a listed file may vanish": (' else [f"name {cut(name)} gone"]', " else []"),
     "an expired timestamp is trusted": (
         EXPIRES + TRUSTS.format("timestamp"), TRUSTS.format("timestamp") + EXPIRES),
     "an expired snapshot is trusted": (EXPIRES + TRUSTS.format("snapshot"), TRUSTS.format("snapshot") + EXPIRES),
@@ -46,7 +46,7 @@ MISREADINGS = {
     "prefixes may have capitals": ('"[0-9a-f]{1,64}"', '"[0-9a-fA-F]{1,64}"'),
     "a delegation needs no paths": ('ask(("paths" in tree) != (', 'tree.setdefault("paths", [])\n    ask(True or ('),
     "unknown hashes are enough": ('ask(known, "NoKnownHash")', "pass"),
-    "one good hash is enough": ("ask(all(hashlib.new", "ask(any(hashlib.new"),
+    "one good hash is enough": ("ask(not differing,", "ask(not differing or len(differing) < len(known),"),
     "ids are counted": ("signed.add(public)", "signed.add(key_id)"),
     "a key may stand under any id": ("if usable and hashlib.sha256(tuf.canonical(key)).hexdigest() == key_id", "if usable"),
     "signatures have no capitals": ('re.fullmatch("([0-9a-fA-F]{2})*"', 're.fullmatch("([0-9a-f]{2})*"'),
@@ -58,6 +58,19 @@ MISREADINGS = {
     "a bin is named by the last bits": (".digest()[:4]", ".digest()[-4:]"),
     "targets have no digest in their names": ('if self.state["root"]["consistent"] else [path]', "if False else [path]"),
     "one digest alone names a target": ('for it in known] if', 'for it in known[:1]] if'),
+    "the refused file lists the keys": ("*signing(file, ring, asked, whose)", "*signing(file, ring, asked, \"timestamp.json\")"),
+    "a key that signed again signed": ("elif public in signers:", "elif False:"),
+    "a signature that isn't valid is none": ('sigs[0])}" if sigs else', 'sigs[0])}" if False else'),
+    "the last entry of a key is told": ("invalid(public, sigs[0])", "invalid(public, sigs[-1])"),
+    "leaves may be past the last": ("if leaf >= 2**height else", "if False else"),
+    "a signature is of its chains' kind alone": ("32 * chains] != public[4:8] + public[:4]:", "32 * chains][:4] != public[4:8]:"),
+    "an id is told each time": ("in dict.fromkeys(asked", "in list(asked"),
+    "one name that fell is told": ("*most(falls))", "*most(falls[:1]))"),
+    "a fallen version hides a fallen snapshot": ("falls += fall(", "falls = falls or fall("),
+    "one wrong digest is told": ("for it in differing))", "for it in differing[:1]))"),
+    "a trusted file is the repository's": ('self.expires(file, "trusted ")', "self.expires(file)"),
+    "long texts are whole": ("SHOWN, TOLD = 5_000_001, 256,", "SHOWN, TOLD = 5_000_001, 2560,"),
+    "all keys are told": ("5_000_001, 256, 64", "5_000_001, 256, 6400"),
 }
 
 

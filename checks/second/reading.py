@@ -1,6 +1,7 @@
 """Verifies a repository by docs/FORMATS.md (TUF 1.0 sections 4 and 5, RFC 8554), and prints the lines of
 docs/USERS.md, for second.py beside it. It was written from these pages and shares no code with the crates. A file's tree
-is what Python's `json` reads, but for what they say otherwise; a float in it is a `Float`."""
+is what Python's `json` reads, but for what they say otherwise; a float in it is a `Float`. The lines of `--why` are those
+of `whys/specs` and `reasons/specs`, and what they compare is the standard's."""
 import hashlib
 import json
 import math
@@ -15,10 +16,16 @@ LIMITS = {"root": 512_000, "timestamp": 16_384, "snapshot": 2_000_000, "targets"
 WIDTHS = {3: (4, 67), 4: (8, 34)}
 HEIGHTS = {5: 5, 6: 10, 7: 15}
 LENGTHS = {"sha256": 64, "sha512": 128}
+# The most bytes of a file that are read, and of a text and of keys or names that are printed
+READ, SHOWN, TOLD = 5_000_001, 256, 64
 
 
 class Refused(Exception):
-    """The fault of a file."""
+    """The fault of a file, and the words of each line of its reason."""
+
+    def __init__(self, fault, *why):
+        super().__init__(fault)
+        self.why = why
 
 
 class Float:
@@ -66,8 +73,8 @@ def tree_of(content):
         for text in texts(tree):
             text.encode()
     except (ValueError, RecursionError):
-        raise Refused("Malformed") from None
-    ask(depth(tree) <= 127)
+        raise Refused("Malformed", "json") from None
+    ask(depth(tree) <= 127, "Malformed", "json")
     return tree
 
 
@@ -78,14 +85,14 @@ def has_float(tree):
 
 # ---- what files say (TUF sections 4.2 to 4.6)
 
-def ask(holds, fault="Malformed"):
+def ask(holds, fault="Malformed", *why):
     if not holds:
-        raise Refused(fault)
+        raise Refused(fault, *why or ("form",) * (fault == "Malformed"))
 
 
-def member(tree, name, kind):
+def member(tree, name, kind, why="form"):
     """A needed member of that Python type."""
-    ask(isinstance(tree, dict) and type(tree.get(name)) is kind)
+    ask(isinstance(tree, dict) and type(tree.get(name)) is kind, "Malformed", why)
     return tree[name]
 
 
@@ -212,9 +219,10 @@ def says(kind, tree):
 def read(kind, content):
     """A file of that kind: what it says, its bytes, and who signed which text."""
     tree = tree_of(content)
-    part = member(tree, "signed", dict)
-    ask(not has_float(part))
-    entries = [(member(it, "keyid", str), member(it, "sig", str)) for it in member(tree, "signatures", list)]
+    part = member(tree, "signed", dict, "object")
+    ask(not has_float(part), "Malformed", "float")
+    text = lambda it, name: member(it, name, str, "signatures")
+    entries = [(text(it, "keyid"), text(it, "sig")) for it in member(tree, "signatures", list, "signatures")]
     return {**says(kind, part), "bytes": content, "text": tuf.canonical(part), "entries": entries}
 
 
@@ -224,18 +232,34 @@ def of_hex(text):
     return bytes.fromhex(text) if re.fullmatch("([0-9a-fA-F]{2})*", text) else None
 
 
-def public_of(key_id, key):
-    """The key's public value, where it is usable."""
+def value_of(key):
+    """The key's public value, where it is one of a supported kind."""
     value = key.get("keyval")
     public = value.get("public") if isinstance(value, dict) else None
     public = of_hex(public) if isinstance(public, str) else None
-    usable = key.get("keytype") == "lms" and key.get("scheme") == "lms-sha256" and public is not None and len(public) == 56
-    usable = usable and int.from_bytes(public[:4], "big") in HEIGHTS and int.from_bytes(public[4:8], "big") in WIDTHS
+    known = public is not None and len(public) == 56
+    known = known and int.from_bytes(public[:4], "big") in HEIGHTS and int.from_bytes(public[4:8], "big") in WIDTHS
+    return public if known else None
+
+
+def is_lms(key):
+    return key.get("keytype") == "lms" and key.get("scheme") == "lms-sha256"
+
+
+def public_of(key_id, key):
+    """The key's public value, where it is usable."""
+    public = value_of(key)
+    usable = is_lms(key) and public is not None
     return public if usable and hashlib.sha256(tuf.canonical(key)).hexdigest() == key_id else None
 
 
+def kind_of(public):
+    """The height of the key's tree, and the bits and the number of its chains."""
+    return HEIGHTS[int.from_bytes(public[:4], "big")], *WIDTHS[int.from_bytes(public[4:8], "big")]
+
+
 def is_valid(public, message, sig):
-    height, (width, chains) = HEIGHTS[int.from_bytes(public[:4], "big")], WIDTHS[int.from_bytes(public[4:8], "big")]
+    height, width, chains = kind_of(public)
     name, top = public[8:24], public[24:]
     if len(sig) != 12 + 32 + 32 * chains + 32 * height or sig[4:8] != public[4:8]:
         return False
@@ -269,31 +293,102 @@ def is_met(file, ring, asked):
     return len(signed) >= asked["threshold"]
 
 
+# ---- why a file is refused, line by line
+
+def cut(text):
+    spelled = text.encode()
+    return quoted(spelled) if len(spelled) <= SHOWN else quoted(spelled[:SHOWN]) + ".."
+
+
+def most(lines):
+    """The first lines, and how many more there are."""
+    return [*lines[:TOLD], *([f"more {len(lines) - TOLD}"] if len(lines) > TOLD else [])]
+
+
+def invalid(public, sig):
+    """The first check that a signature fails (RFC 8554 section 5.4.2)."""
+    height, _, chains = kind_of(public)
+    sig = of_hex(sig)
+    if sig is None:
+        return "hexadecimal"
+    due = 12 + 32 + 32 * chains + 32 * height
+    if len(sig) != due:
+        return f"length {len(sig)} {due}"
+    if sig[4:8] + sig[40 + 32 * chains : 44 + 32 * chains] != public[4:8] + public[:4]:
+        return "kind"
+    leaf = int.from_bytes(sig[:4], "big")
+    return f"leaf {leaf}" if leaf >= 2**height else "root"
+
+
+def signing(file, ring, asked, whose):
+    """Who signed, of a role's keys, which the file of that name lists: each id once, in the role's order."""
+    signers, lines = {}, []
+    for key_id in dict.fromkeys(asked["keyids"]):
+        key = ring.get(key_id)
+        if key is None:
+            what = "absent"
+        elif not is_lms(key):
+            what = f"unusable type {cut(key['keytype'] if isinstance(key.get('keytype'), str) else '')}"
+        elif value_of(key) is None:
+            what = "unusable kind"
+        elif public_of(key_id, key) is None:
+            what = "unusable id"
+        else:
+            public = public_of(key_id, key)
+            sigs = [sig for name, sig in file["entries"] if name == key_id]
+            good = next((sig for sig in map(of_hex, sigs) if sig is not None and is_valid(public, file["text"], sig)), None)
+            if good is None:
+                what = f"invalid {len(sigs)} {invalid(public, sigs[0])}" if sigs else "unsigned"
+            elif public in signers:
+                what = f"again {cut(signers[public])}"
+            else:
+                what = f"signed {int.from_bytes(good[:4], 'big')}"
+            if good is not None:
+                signers.setdefault(public, key_id)
+        lines.append(f"key {cut(key_id)} {what}")
+    return [f"keys {cut(whose)} threshold {asked['threshold']} signed {len(signers)}", *most(lines)]
+
+
+def ask_signed(file, ring, asked, whose):
+    if not is_met(file, ring, asked):
+        raise Refused("Unsigned", *signing(file, ring, asked, whose))
+
+
+def ask_version(file, due):
+    ask(file["version"] == due, "VersionWrong", f"version {file['version']} expected {due}")
+
+
+def fall(what, found, trusted):
+    """That a number fell, if it did."""
+    return [f"{what} {found} trusted {trusted}"] if found < trusted else []
+
+
+def name_fall(name, found, trusted):
+    """That a name is no longer listed or its version fell, if so."""
+    return fall(f"name {cut(name)}", found["version"], trusted["version"]) if found else [f"name {cut(name)} gone"]
+
+
+def spelled_moment(found):
+    return "{:04}-{:02}-{:02}T{:02}:{:02}:{:02}Z".format(*found)
+
+
 # ---- the checks of one file (TUF sections 5.3 to 5.7)
 
 def check_content(content, listed):
-    ask(listed["length"] in (None, len(content)), "LengthWrong")
+    ask(listed["length"] in (None, len(content)), "LengthWrong", f"length {len(content)} listed {listed['length']}")
     if listed["hashes"] is not None:
-        known = listed["hashes"].keys() & LENGTHS.keys()
-        ask(all(hashlib.new(it, content).hexdigest() == listed["hashes"][it] for it in known), "HashWrong")
+        known = [it for it in LENGTHS if it in listed["hashes"]]
+        found = {it: hashlib.new(it, content).hexdigest() for it in known}
+        differing = [it for it in known if found[it] != listed["hashes"][it]]
+        ask(not differing, "HashWrong", *(f"{it} {found[it]} listed {listed['hashes'][it]}" for it in differing))
         ask(known, "NoKnownHash")
 
 
 def fetched(files, name, kind):
-    ask(name in files, "Missing")
-    ask(len(files[name]) <= LIMITS[kind], "TooLong")
+    ask(name in files, "Missing", f"absent {cut(name)}")
+    length = min(len(files[name]), READ)
+    ask(length <= LIMITS[kind], "TooLong", f"length {length} most {LIMITS[kind]}")
     return files[name]
-
-
-def listed_file(files, consistent, name, kind, listed, ring, asked):
-    """A file that another one lists, up to its version."""
-    ask(listed is not None, "NotListed")
-    content = fetched(files, f"{listed['version']}.{name}" if consistent else name, kind)
-    check_content(content, listed)
-    file = read(kind, content)
-    ask(is_met(file, ring, asked), "Unsigned")
-    ask(file["version"] == listed["version"], "VersionWrong")
-    return file
 
 
 # ---- the steps of a cycle (TUF sections 5.3 to 5.6)
@@ -304,57 +399,82 @@ class Cycle:
     def __init__(self, state, files, targets, now, limit):
         self.state, self.files, self.targets, self.now, self.limit = dict(state), files, targets, now, limit
         self.accepted = {}
+        # The name of the file that is examined, or none if that is a trusted one
+        self.name = None
 
     def trust(self, kind, file):
         self.state[kind] = file
 
-    def expires(self, file):
-        ask(file["expires"] > self.now, "Expired")
+    def expires(self, file, word=""):
+        times = f"{word}expires {spelled_moment(file['expires'])} moment {spelled_moment(self.now)}"
+        ask(file["expires"] > self.now, "Expired", times)
+
+    def stays(self, file):
+        """Asks that a trusted file isn't expired."""
+        self.name = None
+        self.expires(file, "trusted ")
+
+    def fetched(self, name, kind):
+        self.name = name
+        return fetched(self.files, name, kind)
 
     def by_root(self, kind):
         root = self.state["root"]
-        return root["keys"], root["roles"][kind]
+        return root["keys"], root["roles"][kind], f"{root['version']}.root.json"
 
     def root(self):
         while True:
             old = self.state["root"]
             name = f"{old['version'] + 1}.root.json"
             if name not in self.files:
-                return self.expires(old)
-            new = read("root", fetched(self.files, name, "root"))
-            ask(is_met(new, old["keys"], old["roles"]["root"]), "Unsigned")
-            ask(is_met(new, new["keys"], new["roles"]["root"]), "Unsigned")
-            ask(new["version"] == old["version"] + 1, "VersionWrong")
+                return self.stays(old)
+            new = read("root", self.fetched(name, "root"))
+            ask_signed(new, *self.by_root("root"))
+            ask_signed(new, new["keys"], new["roles"]["root"], name)
+            ask_version(new, old["version"] + 1)
             self.trust("root", new)
             if any(set(old["roles"][it]["keyids"]) != set(new["roles"][it]["keyids"]) for it in ("timestamp", "snapshot")):
                 self.state.pop("timestamp", None)
                 self.state.pop("snapshot", None)
 
     def timestamp(self):
-        new = read("timestamp", fetched(self.files, "timestamp.json", "timestamp"))
-        ask(is_met(new, *self.by_root("timestamp")), "Unsigned")
+        new = read("timestamp", self.fetched("timestamp.json", "timestamp"))
+        ask_signed(new, *self.by_root("timestamp"))
         old = self.state.get("timestamp")
         if old and new["version"] == old["version"]:
-            return self.expires(old)
-        ask(not old or new["version"] > old["version"], "Rollback")
-        ask(not old or new["snapshot"]["version"] >= old["snapshot"]["version"], "Rollback")
+            return self.stays(old)
+        falls = fall("version", new["version"], old["version"]) if old else []
+        falls += fall("snapshot", new["snapshot"]["version"], old["snapshot"]["version"]) if old else []
+        ask(not falls, "Rollback", *falls)
         self.expires(new)
         self.trust("timestamp", new)
 
     def snapshot(self):
         listed = self.state["timestamp"]["snapshot"]
         new = self.listed("snapshot.json", "snapshot", listed, *self.by_root("snapshot"))
-        for name, it in self.state.get("snapshot", {"meta": {}})["meta"].items():
-            ask(name in new["meta"] and new["meta"][name]["version"] >= it["version"], "Rollback")
+        old = self.state.get("snapshot", {"meta": {}})["meta"]
+        falls = [it for name in sorted(old, key=str.encode) for it in name_fall(name, new["meta"].get(name), old[name])]
+        ask(not falls, "Rollback", *most(falls))
         self.expires(new)
         self.trust("snapshot", new)
 
-    def listed(self, name, kind, listed, ring, asked):
-        return listed_file(self.files, self.state["root"]["consistent"], name, kind, listed, ring, asked)
+    def listed(self, name, kind, listed, ring, asked, whose):
+        """A file that another one lists, up to its version. `whose` is the file that lists its keys."""
+        if listed is None:
+            self.name, snapshot = None, self.state["snapshot"]
+            raise Refused("NotListed", f"snapshot {snapshot['version']} names {len(snapshot['meta'])}")
+        consistent = self.state["root"]["consistent"]
+        content = self.fetched(f"{listed['version']}.{name}" if consistent else name, kind)
+        check_content(content, listed)
+        file = read(kind, content)
+        ask_signed(file, ring, asked, whose)
+        ask_version(file, listed["version"])
+        return file
 
-    def targets_of(self, name, ring, asked):
+    def targets_of(self, name, ring, asked, whose):
         """The targets file of a role."""
-        file = self.listed(f"{name}.json", "targets", self.state["snapshot"]["meta"].get(f"{name}.json"), ring, asked)
+        listed = self.state["snapshot"]["meta"].get(f"{name}.json")
+        file = self.listed(f"{name}.json", "targets", listed, ring, asked, whose)
         self.expires(file)
         return file
 
@@ -362,13 +482,18 @@ class Cycle:
         self.trust("targets", self.targets_of("targets", *self.by_root("targets")))
 
     def steps(self):
-        """The step and the fault of the end, or none."""
+        """The step and the fault of the end, or none, and the lines that say why."""
         for name, step in zip(KINDS, (self.root, self.timestamp, self.snapshot, self.top)):
             try:
                 step()
             except Refused as fault:
-                return f"{name} {fault}"
-        return None
+                return f"{name} {fault}", [*self.file(), *(f"why {line}" for line in fault.why)]
+        return None, []
+
+    def file(self):
+        """The line of the file that is examined, if it is there."""
+        there = self.name in self.files
+        return [f"why file {cut(self.name)} {min(len(self.files[self.name]), READ)}"] if there else []
 
     # ---- the search for a path (TUF section 5.6.7)
 
@@ -385,7 +510,7 @@ class Cycle:
                     if len(visited) == self.limit:
                         return "LimitReached"
                     try:
-                        below = self.targets_of(it["name"], file["ring"], it)
+                        below = self.targets_of(it["name"], file["ring"], it, name)
                     except Refused as fault:
                         return f"{fault} {quoted(it['name'])}"
                     self.accepted[it["name"]] = below["version"]
@@ -418,13 +543,13 @@ class Cycle:
             return f"no {quoted(path)} {fault}"
 
 
-def verified(state, files, targets, now, limit, wanted):
-    """The new state, the lines and the status of a run."""
+def verified(state, files, targets, now, limit, wanted, is_told=False):
+    """The new state, the lines, with those of `--why` or without, and the status of a run."""
     cycle = Cycle(state, files, targets, moment(now), limit)
-    end = cycle.steps()
+    end, why = cycle.steps()
     verdicts = [f"no {quoted(path)} NotSearched" if end else cycle.verdict(path) for path in wanted]
     roles = [f"role {quoted(name)} {cycle.accepted[name]}" for name in sorted(cycle.accepted, key=str.encode)]
-    lines = [f"root {cycle.state['root']['version']}", f"end {end or 'ready'}", *roles, *verdicts]
+    lines = [f"root {cycle.state['root']['version']}", f"end {end or 'ready'}", *(why if is_told else []), *roles, *verdicts]
     status = 2 if end else 1 if any(it.startswith("no ") for it in verdicts) else 0
     return cycle.state, "".join(f"{line}\n" for line in lines), status
 

@@ -4,12 +4,14 @@
   checks/second/second.py [COUNT [SEED]]      1,000 histories from seed 1 unless given
 
 A history is a first root and then three states of one repository: roots that rotate, files that come and go, delegations
-by patterns, prefixes and bins that meet and lead round, thresholds, keys of both widths, one public value under two ids.
-In most states up to two files are damaged: in their contents, in their signatures, in their bytes, in how they are listed.
-Each is verified from the trusted state of the one before, by `tufcheck verify` with 0 or 4 workers and by reading.py
-beside this script, which was written from the pages of docs and shares no code with the crates. The lines, the status and
-the bytes of the new state must be the same. The last lines count each end and each verdict. A history that
-differs is left in a folder, whose name is printed, and the status is then 1.
+by patterns, prefixes and bins that meet and lead round, thresholds, keys of both widths, one public value under two ids,
+keys that count for nothing, ids of no key and many of them. In most states up to two files are damaged: in their contents,
+in their signatures, in their bytes, in how they are listed. Each is verified from the trusted state of the one before, by
+`tufcheck verify` with 0 or 4 workers, with and without `--why`, and by reading.py beside this script, which was written from
+the pages of docs and shares no code with the crates. The lines, the status and the bytes of the new state must be the same;
+those of the run without `--why` must be those of the other without the lines that begin with `why`. The last lines count
+each end, each verdict and each form of such a line. A history that differs is left in a folder, whose name is printed, and
+the status is then 1; so it is if 1,000 histories or more lack a form of REASONS.
 
 Where Debian's python3-securesystemslib is installed, which is the canonical JSON of TUF's reference implementation, each
 text that is signed must also be what that makes of it. `rt run` in crates/tufcheck proves and builds the program.
@@ -20,6 +22,7 @@ import hashlib
 import json
 import os
 import random
+import re
 import shutil
 import sys
 import tempfile
@@ -37,13 +40,33 @@ except ImportError:
     encode_canonical = None
 
 LATER = "2030-01-01T00:00:00Z"
-TIMES = [LATER, NOW, "2025-12-31T23:59:59Z", "2026-01-01T00:00:01Z", "0000-02-29T00:00:00Z"]
+SOON = "2026-01-01T00:00:01Z"
+TIMES = [LATER, NOW, "2025-12-31T23:59:59Z", SOON, "0000-02-29T00:00:00Z"]
 PATHS = ["a", "b", "ab", "d/a", "d/b", "d/e/a", "\u00e9", 'd/"\u00e9*']
 PATTERNS = ["*", "a*", "?", "d/*", "d/?", "*/*", "d/e/*", "ab", "\u00e9", "nobody", "*a*b*", "d/??*", ""]
 ROLES = ["r", "s", "t", "u", "bin-0", "bin-1", "bin-2", "bin-3", 'v/"w']
 ODD = [None, True, False, 0, 1, -1, 2**63 - 1, 2**63, 2**64, 1.5, "", "1.1", "x", [], ["x"], {}, {"x": 1}]
 WRONG = "ab" * 32
+# Keys that count for nothing, by ids that roles list too, and ids of no key
+STRANGE = {
+    "odd": {"keytype": "ed25519", "keyval": {"public": "00"}, "scheme": "ed25519"},
+    "odd scheme": {"keytype": "lms", "keyval": {"public": "00"}, "scheme": "x"},
+    "odd type": {"keytype": 'the "type"\n\u00e9\\' + 25 * "0123456789"},
+    "no type": {"keytype": 1},
+    "odd kind": {"keytype": "lms", "keyval": {"public": "00" * 56}, "scheme": "lms-sha256"},
+    "no value": {"keytype": "lms", "keyval": {}, "scheme": "lms-sha256"},
+}
+UNKNOWN = ["unknown", "", 'an "\u00e9" id', "\u00e9" * 129]
+MANY = [f"id {number}" for number in range(70)]
 POOL = []
+# The forms of the lines of `--why`, without names and numbers
+REASONS = """
+absent; expires moment; file; form; json; object; float; signatures; length listed; length most; more; name gone;
+name trusted; sha256 listed; sha512 listed; snapshot names; snapshot trusted; trusted expires moment; version expected;
+version trusted; keys threshold signed; key absent; key again; key invalid hexadecimal; key invalid kind;
+key invalid leaf; key invalid length; key invalid root; key signed; key unsigned; key unusable id; key unusable kind;
+key unusable type
+"""
 
 
 def pool():
@@ -66,33 +89,36 @@ class History:
         self.metadata, self.targets, self.hurt = {}, {}, set()
         self.signers = {role: self.some_keys() for role in ROLES}
         self.versions = collections.Counter()
-        self.last = None
+        self.last, self.has_many = None, False
 
     def chance(self, share):
         return self.draw.random() < share
 
     def some_keys(self):
-        return self.draw.sample(pool(), self.draw.choice([1, 1, 2, 3]))
+        keys = self.draw.sample(pool(), self.draw.choice([1, 1, 2, 3]))
+        twins = [key for key in pool() if key not in keys and key.name in {it.name for it in keys}]
+        return keys + twins[:1] if len(keys) < 3 and self.chance(0.3) else keys
 
     # ---- parts
 
     def role(self, keys):
         most = len(keys if self.chance(0.1) else {key.object["keyval"]["public"] for key in keys if key.id != WRONG}) or 1
         ids = [key.id for key in keys]
-        if self.chance(0.2):
-            ids.insert(0, self.draw.choice([ids[-1], "unknown"]))
+        if self.chance(0.3):
+            ids.insert(self.draw.choice([0, len(ids)]), self.draw.choice([ids[-1], self.draw.choice(UNKNOWN), *STRANGE]))
+        if self.chance(0.03):
+            ids = self.draw.choice([[*MANY, *ids], [*ids, *MANY]])
         return {"keyids": ids, "threshold": self.draw.randint(1, most)}
 
     def ring(self, *many):
         ring = {key.id: key.object for keys in many for key in keys}
-        if self.chance(0.2):
-            ring["odd"] = {"keytype": "ed25519", "keyval": {"public": "00"}, "scheme": "ed25519"}
-        return ring
+        return {**ring, **STRANGE} if self.chance(0.8) else ring
 
     def part(self, kind, name, **members):
         """A signed part, a version above the one before more often than not."""
         self.versions[name] = max(1, self.versions[name] + self.draw.choice([0, 1, 1, 1, 1, 2, -1]))
         expires = self.draw.choice(TIMES) if self.chance(0.3 if name in self.hurt else 0.02) else LATER
+        expires = SOON if name == "timestamp" and self.chance(0.2) else expires
         return {"_type": kind, "expires": expires, "spec_version": "1.0.31", "version": self.versions[name], **members}
 
     def listing(self, name, content):
@@ -111,13 +137,13 @@ class History:
                 lambda: listed.update(hashes={"sha256": "0" * 64}),
                 lambda: listed.update(length=None),
                 lambda: listed.update(hashes=self.draw.choice([{}, {"md4": "x"}, {"sha512": "0" * 128}])),
+                lambda: listed.update(hashes={"sha512": "F" * 128, "sha256": self.draw.choice([WRONG, digest_of(content)])}),
             ])()
         return listed
 
     def target(self, path):
         content = f"{path} {self.versions['timestamp'] // 2}".encode()
-        listed = {"length": len(content), "hashes": {"sha256": hashlib.sha256(content).hexdigest()},
-                  **self.listing(path, content)}
+        listed = {"length": len(content), "hashes": {"sha256": digest_of(content)}, **self.listing(path, content)}
         folder, slash, base = path.rpartition("/")
         names = [f"{folder}{slash}{value.lower()}.{base}" for value in listed["hashes"].values()]
         names = names if self.consistent() else [path]
@@ -173,25 +199,53 @@ class History:
         sig = key.sign(message).hex()
         return {"keyid": key.id, "sig": sig.upper() if self.chance(0.1) else sig}
 
+    def spoiled(self, entry, message):
+        """Entries with other signatures in the place of one, and it too or not, all under its id."""
+        sig = bytearray.fromhex(entry["sig"])
+        other = self.entry(self.draw.choice(pool()), message + self.draw.choice([b"", b" "]))
+        near = lambda place: sig[:place] + bytes([sig[place] ^ 1 << self.draw.randrange(8)]) + sig[place + 1 :]
+        # the last byte of the first type code, of the second one, and of the leaf
+        codes, second, leaf = 7, len(sig) - 161, self.draw.randrange(4)
+        wrong = self.draw.choice([
+            lambda: near(self.draw.randrange(len(sig))).hex(),
+            lambda: self.draw.choice([sig[:-1], sig + b"\0", sig[:3], b""]).hex(),
+            lambda: near(codes).hex(),
+            lambda: near(second).hex(),
+            lambda: (sig[:leaf] + b"\x20" + sig[leaf + 1 :]).hex(),
+            lambda: self.draw.choice([sig.hex()[1:], "0g", sig.hex() + "\u00e9\u00e9", sig.hex() + " "]),
+            lambda: other["sig"],
+        ])()
+        sigs = self.draw.choice([[wrong], [wrong], [wrong, other["sig"]], [wrong, entry["sig"]], [entry["sig"], wrong]])
+        return [{**entry, "sig": it} for it in sigs]
+
     def sealed(self, name, part, keys):
         """The file of a part that these keys sign."""
         is_hurt = name in self.hurt and self.chance(0.8)
-        ways = self.draw.choices(["number", "part", "keys", "keys", "entries", "bytes"], k=self.draw.choice([1, 1, 2]))
+        ways = self.draw.choices(
+            ["number", "part", "float", "keys", "keys", *["signature"] * 6, "entries", "file", "bytes", "length"],
+            k=self.draw.choice([1, 1, 2]))
         ways = ways if is_hurt else []
         part = copy.deepcopy(part)
         if "number" in ways:
             self.spoil_number(part)
         if "part" in ways:
             self.spoil(part)
+        if "float" in ways:
+            part["note"] = self.draw.choice([1.5, [0, 1e2], {"x": -0.0}])
         message = tuf.canonical(part)
         if "keys" in ways:
-            keys = self.draw.choice([keys[:-1], keys[:1], self.some_keys()])
+            keys = self.draw.choice([keys[:-1], keys[:1], keys[1:], self.some_keys()])
         entries = [self.entry(key, message) for key in keys]
+        if "signature" in ways:
+            both = [self.spoiled(it, message) if self.chance(0.7) else [it] for it in entries]
+            entries = [it for some in both for it in some]
         if "entries" in ways:
             self.spoil(entries)
             odd = {"keyid": pool()[0].id, "sig": "0g"}, {"keyid": "", "sig": ""}
             entries = entries[::-1] + [*self.draw.choice([odd, odd[:1], odd[2:]])]
         file = {"signatures": entries, "signed": part}
+        if "file" in ways:
+            self.spoil(file)
         content = json.dumps(file, indent=self.draw.choice([None, 1])).encode() if self.chance(0.5) else tight(file)
         if "bytes" in ways:
             cut, flipped = self.draw.randrange(len(content)), self.draw.randrange(len(content))
@@ -199,7 +253,10 @@ class History:
                 content[:cut], content + b"x", content + b" " * 20_000, b"\xef\xbb\xbf" + content, b"[" * 200 + b"]" * 200,
                 content[:flipped] + bytes([content[flipped] ^ 1 << self.draw.randrange(8)]) + content[flipped + 1 :],
                 b'{"signed":1.5,' + content[1:], content.replace(b'"version"', b'"version":3,"version"'),
+                b"[" + content + b"]",
             ])
+        if "length" in ways:
+            content = content.ljust(reading.LIMITS.get(name, reading.LIMITS["targets"]) + self.draw.choice([0, 1, 9]))
         return content
 
     def put(self, name, content, version=None):
@@ -220,7 +277,7 @@ class History:
         part = {**self.part("root", "root"), "version": number, "roles": {name: it[1] for name, it in roles.items()},
                 "keys": self.ring(*keys.values()), "consistent_snapshot": self.chance(0.5)}
         for name, it in roles.items():
-            if not {*it[1]["keyids"]} <= {*part["keys"], "unknown"}:
+            if not {*it[1]["keyids"]} <= {*part["keys"], *STRANGE, *UNKNOWN, *MANY}:
                 part["roles"][name] = self.role(keys[name])
         signers = keys["root"] + [key for key in (self.keys["root"] if self.last else []) if key not in keys["root"]]
         self.versions["root"] = number
@@ -231,7 +288,7 @@ class History:
         """The next state of the repository."""
         self.targets = {}
         self.hurt = set(self.draw.sample(
-            [*reading.KINDS, *reading.KINDS, *ROLES[:4], *PATHS[:4], "timestamp.json", "targets.json", "r.json"],
+            [*reading.KINDS, *reading.KINDS, *reading.KINDS, *ROLES[:4], *PATHS[:4], "timestamp.json", "snapshot.json", "targets.json", "r.json"],
             self.draw.choice([0, 0, 0, 1, 1, 2])))
         self.metadata = {name: it for name, it in self.metadata.items() if name.endswith(".root.json")}
         for _ in range(self.draw.choice([0, 0, 1, 2])):
@@ -248,6 +305,10 @@ class History:
             self.put(f"{name}.json", content, self.draw.choice([version, listed_version]))
             if not self.chance(0.03):
                 listed[f"{name}.json"] = {"version": listed_version, **self.listing(name, content)}
+        self.has_many = self.chance(0.7 if self.has_many else 0.05)
+        if self.has_many:
+            names = [name for name in [*UNKNOWN, *MANY] if self.chance(0.97)]
+            listed |= {f"{name}.json": {"version": self.draw.randint(1, 2)} for name in names}
         part = self.part("snapshot", "snapshot", meta=listed)
         version = part["version"]
         content = self.sealed("snapshot", part, self.keys["snapshot"])
@@ -264,6 +325,10 @@ def numbers(tree):
             yield from numbers(below)
         elif type(below) is int:
             yield tree, at
+
+
+def digest_of(content):
+    return hashlib.sha256(content).hexdigest()
 
 
 def tight(tree):
@@ -289,6 +354,18 @@ def same_texts(state):
         encode_canonical(json.loads(file["bytes"])["signed"]).encode() == file["text"] for file in state.values())
 
 
+def untold(lines):
+    """The lines but those that begin with `why`."""
+    return "".join(line for line in lines.splitlines(keepends=True) if not line.startswith("why "))
+
+
+def form_of(line):
+    """The first words of a line, and all of one that begins with `why`, without names, numbers, digests and moments."""
+    words = re.sub('"[^"]*"(\\.\\.)?', "", line).split()
+    words = [word for word in words if re.fullmatch("[A-Za-z]{1,12}|sha256|sha512", word)]
+    return " ".join(words[: {"why": len(words), "end": 3, "no": 2}.get(words[0], 1)])
+
+
 def lived(seed):
     """Draws a history and verifies its states; the first words of each line, or what differs and where."""
     history, counts = History(seed), collections.Counter()
@@ -302,20 +379,22 @@ def lived(seed):
         return counts, f"{room}: init: {said}"
     for number in range(3):
         history.go_on()
-        limit, workers = history.draw.choice([1, 2, 3, 32, 32, 32]), history.draw.choice(["0", "4"])
-        wanted = history.draw.sample(PATHS, 4) + ["none"]
+        limit, workers = history.draw.choice([1, 2, 3, 32, 32, 32]), history.draw.choice([["0", "4"], ["4", "0"]])
+        wanted, now = history.draw.sample(PATHS, 4) + ["none"], history.draw.choice([NOW, NOW, NOW, NOW, SOON])
         write(f"{room}/metadata", history.metadata)
         write(f"{room}/targets", history.targets)
-        said = run(room, *common.verify("--limit", str(limit), "--", *wanted, workers=workers))
+        words = "--limit", str(limit), "--", *wanted
+        said = run(room, *common.verify(*words, workers=workers[0], now=now))
+        told = run(room, *common.verify("--why", *words, workers=workers[1], now=now, out="told"))
         direct = {name: content for name, content in history.metadata.items() if "/" not in name}
-        state, *read = reading.verified(state, direct, history.targets, NOW, limit, wanted)
-        stored = common.read(f"{room}/new")
-        if said != tuple(read) or stored != reading.spelled(state) or not same_texts(state):
-            return counts, f"{room}: state {number + 1}, limit {limit}, {wanted}\nsaid {said}\nread {read}"
+        state, *read = reading.verified(state, direct, history.targets, now, limit, wanted, is_told=True)
+        stored = {common.read(f"{room}/new"), common.read(f"{room}/told"), reading.spelled(state)}
+        if told != tuple(read) or said != (untold(told[0]), told[1]) or len(stored) > 1 or not same_texts(state):
+            where = f"{room}: state {number + 1}, limit {limit}, now {now}, {wanted}"
+            return counts, f"{where}\nsaid {said}\ntold {told}\nread {read}"
         os.replace(f"{room}/new", f"{room}/state")
-        for line in said[0].split("\n"):
-            words = [word for word in line.split(" ") if not word.startswith('"')]
-            counts[" ".join(words[: 3 if words[0] == "end" else 2 if words[0] == "no" else 1])] += 1
+        os.remove(f"{room}/told")
+        counts.update(form_of(line) for line in told[0].splitlines())
     shutil.rmtree(room)
     return counts, None
 
@@ -339,6 +418,10 @@ def all_lived(live, count, seed):
 def main():
     count, seed = (int(word) for word in (sys.argv[1:] + ["1000", "1"][len(sys.argv) - 1 :]))
     total, status = all_lived(lived, count, seed)
+    lacking = [form for form in re.split(";\\s+", REASONS.strip()) if not total[f"why {' '.join(form.split())}"]]
+    if lacking and count >= 1000:
+        print(f"no history has these reasons: {'; '.join(lacking)}")
+        status = 1
     print(f"{count} histories, {total['root']} runs: {'none differs' if not status else 'some differ'}")
     return status
 

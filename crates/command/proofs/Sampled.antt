@@ -1,22 +1,24 @@
 -- What is printed of an outcome of the workflow.
-use Rattle.std.proofs.Common.{◌≡◌, Result, Ok, Err, IfOk, List, ℕ, Option, subst}
-use Rattle.cycle.specs.Workflow.{Outcome, Repository, Request, workflow}
+use Rattle.std.proofs.Common.{◌≡◌, Result, Ok, Err, IfOk, List, [], ℕ, Option, string_bytes, subst}
+use Rattle.cycle.specs.Workflow.{Repository, Request, workflow}
+use Rattle.report.specs.declared.told.Told.{Told}
 use Rattle.update.specs.Runs.{IsPrinted}
 use Rattle.command.specs.Sampled.{IsSampled}
 
 -- the lines and the status of an outcome of the workflow
-pub sampled : {E : Type 0} (r : Request) (repo : Repository) (o : Outcome) (wanted : List (List ℕ)) (old new : Option (List ℕ)) (status : Result ℕ E)
+pub sampled : {E : Type 0} (r : Request) (repo : Repository) (t : Told) (wanted : List (List ℕ)) (old new : Option (List ℕ)) (status : Result ℕ E)
     → r.wanted ≡ wanted
-    → o ≡ workflow r repo
-    → IfOk status (λ status. IsPrinted o wanted status old new)
+    → t.outcome ≡ workflow r repo
+    → string_bytes t.why ≡ []
+    → IfOk status (λ status. IsPrinted t.outcome (string_bytes t.why) wanted status old new)
     → IfOk status (λ status. IsSampled wanted status old new)
-sampled r repo o wanted old new (Ok status) paths is lines = record {
+sampled r repo t wanted old new (Ok status) paths is none lines = record {
   request = r;
   repo = repo;
   of_paths = paths;
-  printed = subst (λ o. IsPrinted o wanted status old new) is lines;
+  printed = subst (λ w. IsPrinted (workflow r repo) w wanted status old new) none (subst (λ o. IsPrinted o (string_bytes t.why) wanted status old new) is lines);
 }
-sampled r repo o wanted old new (Err e) paths is lines = tt
+sampled r repo t wanted old new (Err e) paths is none lines = tt
 
 -- the wanted paths by another name
 pub renamed : {E : Type 0} (wanted other : List (List ℕ)) (old new : Option (List ℕ)) (r : Result ℕ E) → wanted ≡ other

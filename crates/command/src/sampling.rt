@@ -7,6 +7,7 @@ ghost use Rattle.command.specs.Sampled.{IsSampled};
 use crate::made::{first_state, repository};
 use cycle::{Limits, Moment, run_alone};
 use failure::Failure;
+use report::Told;
 use std::alloc::Global;
 use std::io::Write;
 use update::tell_outcome;
@@ -36,5 +37,5 @@ fn verify<W: Write>(alloc: Global, wanted: &[String], out: &mut W) -> Result<u8,
     let limits = Limits::new(32, 4096).ok_or(Failure::Words)?;
     let trusted = first_state(alloc, &repo)?;
     let outcome = run_alone(alloc, &trusted, &repo, now, wanted, &limits)?;
-    tell_outcome(alloc, &outcome, wanted, out)
+    tell_outcome(alloc, &Told::plain(alloc, outcome), wanted, out)
 }

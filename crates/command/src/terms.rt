@@ -6,7 +6,7 @@ use cycle::Limits;
 use failure::Failure;
 use needs::Place;
 use std::alloc::{AllocError, Global};
-use update::{Locking, Settings, Wants};
+use update::{Detail, Locking, Settings, Wants};
 
 /// Maximum number of checks of a plan.
 const CHECKS: usize = 4096;
@@ -20,6 +20,7 @@ pub fn settings<'a>(matches: &ArgMatches<'a>) -> Result<Settings<'a>, Failure> {
         limits: limits(matches)?,
         workers: number(matches, "workers")?,
         out: word(matches, "out")?,
+        detail: detail(matches),
     })
 }
 
@@ -29,6 +30,15 @@ fn locking(matches: &ArgMatches<'_>) -> Locking {
         Locking::Without
     } else {
         Locking::Needed
+    }
+}
+
+/// Returns what is printed of a stop.
+fn detail(matches: &ArgMatches<'_>) -> Detail {
+    if matches.get_flag("why") {
+        Detail::Reasons
+    } else {
+        Detail::Faults
     }
 }
 

@@ -6,7 +6,7 @@ use copies::CopyFault;
 use file_tests::{Kept, Memory, Piece};
 use folder::Folder;
 use measured::{Copied, close_into};
-use report::tell;
+use report::{Told, tell};
 use std::process::Abort;
 
 /// Ends the course of the wanted paths `a`, `b`, `a` and `d`, with copies. The file `b` has that
@@ -41,14 +41,17 @@ fn copy_at(copied: &Copied<Piece>, place: usize) -> Option<&[u8]> {
 fn each_found_file_is_copied_once(rt: HostRuntime) {
     let mut to = Kept::working();
     let copied = copied(&rt, "bb", &mut to).expect(&rt, "copies");
-    let mut lines = Vec::new(rt.alloc());
-    tell(rt.alloc(), &copied.outcome, &wanted(&rt), &mut lines).expect(&rt, "memory");
-    assert!(rt; lines.as_slice() == LINES.as_bytes());
     assert!(rt; copied.copies.len() == 4);
     assert!(rt; copy_at(&copied, 0) == Some(b"a".as_slice()));
     assert!(rt; copy_at(&copied, 1) == Some(b"bb".as_slice()));
     assert!(rt; copy_at(&copied, 2).is_none() && copy_at(&copied, 3).is_none());
     assert!(rt; to.made() == 2 && to.left() == 2);
+    let Copied { outcome, copies } = copied;
+    drop(copies);
+    let told = Told::plain(rt.alloc(), outcome);
+    let mut lines = Vec::new(rt.alloc());
+    tell(rt.alloc(), &told, &wanted(&rt), &mut lines).expect(&rt, "memory");
+    assert!(rt; lines.as_slice() == LINES.as_bytes());
 }
 
 #[test]

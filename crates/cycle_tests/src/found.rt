@@ -8,7 +8,7 @@ use crate::repositories::{first_state, limits_of, made, metadata, moment, string
 use cycle::{Course, Cycle, Repo, Round, Trusted, follow_alone};
 use folder::{Folder, LoadFault, Measure, Need};
 use measured::{Readers, close};
-use report::tell;
+use report::{Told, tell};
 use std::alloc::{AllocError, Global};
 use std::collections::BTreeMap;
 use std::process::Abort;
@@ -196,7 +196,7 @@ fn closed<R: Abort + AllocGlobal + Threads + Sync>(
     let readers = Readers { rt, threads };
     let outcome = close(&readers, alloc, course, targets, names).expect(rt, "an outcome");
     let mut lines = Vec::new(alloc);
-    tell(alloc, &outcome, &wanted, &mut lines).expect(rt, "memory");
+    tell(alloc, &Told::plain(alloc, outcome), &wanted, &mut lines).expect(rt, "memory");
     lines
 }
 

@@ -8,7 +8,7 @@ use meta::Repo;
 use std::alloc::Global;
 use std::process::Abort;
 use system::System;
-use update::{Folders, Host, Locking, Settings, Terms, Wanted, Workers};
+use update::{Detail, Folders, Host, Locking, Settings, Terms, Wanted, Workers};
 
 /// 2026-01-01T00:00:00Z, in seconds since 1970.
 const SECONDS: u64 = 1_767_225_600;
@@ -62,6 +62,7 @@ fn terms<R: Abort + AllocGlobal>(rt: &R, alloc: Global) -> Terms<'static> {
             limits: limits_of(rt, 16),
             workers: Workers::new(1).expect(rt, "workers"),
             out: "state",
+            detail: Detail::Faults,
         },
         wanted: Wanted::Paths(paths),
     }

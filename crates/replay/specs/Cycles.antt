@@ -6,11 +6,14 @@ use Rattle.std.specs.declared.alloc.Global.{Global}
 use Rattle.failure.specs.declared.failure.Failure.{Failure}
 use Rattle.failure.specs.declared.failure.Failure.TheVariants.{Output}
 use Rattle.folder.specs.Folders.{Giving}
+use Rattle.lookups.specs.Lookups.{files_read}
 use Rattle.report.specs.Lines.{last_status, cycles_text}
+use Rattle.report.specs.declared.told.Told.{Told}
 use Rattle.system.specs.Blocked.{Obstacles}
 use Rattle.update.specs.Causes.{IsCauseOf, IsCauseToRead}
-use Rattle.update.specs.Runs.{Begins, IsOutcomeOn, IsUntouched, Mirror, Outcome, Request, State, World, start_of, state_text}
+use Rattle.update.specs.Runs.{Begins, IsOutcomeOn, IsUntouched, Mirror, Outcome, Request, State, World, start_of, state_text, why_of}
 use Rattle.replay.specs.declared.replaying.Cycles.{Cycles}
+use Rattle.update.specs.declared.start.Detail.{Detail}
 use Rattle.update.specs.declared.start.Start as program
 
 -- what the first cycle begins with
@@ -26,46 +29,52 @@ abbrev pub after : Request → Outcome → Request
 after s o = from_state s o.trusted
 
 -- the state after the cycles
-abbrev pub last_state : Request → List Outcome → State
+abbrev pub last_state : Request → List Told → State
 last_state s [] = s.trusted
-last_state s (o ∷ os) = last_state (after s o) os
+last_state s (t ∷ ts) = last_state (after s t.outcome) ts
 
 -- the folders of a repository
 abbrev pub mirror_of : Giving → Giving → Mirror
 mirror_of metadata targets = record { metadata = metadata; targets = targets }
 
--- the outcomes of the cycles, each on a repository of its own and from the state of the one before
-abbrev pub AreOutcomesOn : List Mirror → Request → List Outcome → Type 0
-AreOutcomesOn [] s [] = Unit {0}
-AreOutcomesOn [] s (o ∷ os) = ⊥
-AreOutcomesOn (m ∷ ms) s [] = ⊥
-AreOutcomesOn (m ∷ ms) s (o ∷ os) = IsOutcomeOn m s o × AreOutcomesOn ms (after s o) os
+-- an outcome on the folders of a repository, and the lines that say why it stopped, by the metadata
+-- files that were read
+pub record IsToldOn (d : Detail) (m : Mirror) (s : Request) (t : Told) : Type 0 where
+  pub of_workflow : IsOutcomeOn m s t.outcome
+  pub why : string_bytes t.why ≡ why_of d s (files_read of_workflow.metadata) t.outcome
+
+-- what is told of the cycles, each on a repository of its own and from the state of the one before
+abbrev pub AreToldOn : Detail → List Mirror → Request → List Told → Type 0
+AreToldOn d [] s [] = Unit {0}
+AreToldOn d [] s (t ∷ ts) = ⊥
+AreToldOn d (m ∷ ms) s [] = ⊥
+AreToldOn d (m ∷ ms) s (t ∷ ts) = IsToldOn d m s t × AreToldOn d ms (after s t.outcome) ts
 
 -- the lines of the cycles were printed, and the status is that of the last one
-pub record ArePrinted (os : List Outcome) (wanted : List (List ℕ)) (status : ℕ)
+pub record ArePrinted (ts : List Told) (wanted : List (List ℕ)) (status : ℕ)
     (old new : Option (List ℕ)) : Type 0 where
-  pub lines : Appends old new (cycles_text wanted os)
-  pub answered : status ≡ last_status os
+  pub lines : Appends old new (cycles_text wanted ts)
+  pub answered : status ≡ last_status ts
 
--- the outcomes of the cycles: the state after them is stored, and more holds of them
-pub record AreStored (mirrors : List Mirror) (start : Request) (keeps : List ℕ → Bool)
-    (follows : List Outcome → Type 0) : Type 0 where
-  pub outcomes : List Outcome
-  pub of_cycles : AreOutcomesOn mirrors start outcomes
-  pub kept : keeps (state_text (last_state start outcomes)) ≡ true
-  pub then : follows outcomes
+-- what is told of the cycles: the state after them is stored, and more holds of it
+pub record AreStored (d : Detail) (mirrors : List Mirror) (start : Request)
+    (keeps : List ℕ → Bool) (follows : List Told → Type 0) : Type 0 where
+  pub told : List Told
+  pub of_cycles : AreToldOn d mirrors start told
+  pub kept : keeps (state_text (last_state start told)) ≡ true
+  pub then : follows told
 
 -- # The cycles on the repositories, in order, from the state and the moment that the words name.
 
--- the state after them is stored, and more holds of their outcomes
-abbrev pub CyclesStore : Cycles → World → World → (List Outcome → Type 0) → Type 0
+-- the state after them is stored, and more holds of what is told of them
+abbrev pub CyclesStore : Cycles → World → World → (List Told → Type 0) → Type 0
 CyclesStore c old new follows = Begins c.settings old (λ s.
-    AreStored old.mirrors (first_of s c.wanted.items) (new.keeps s.state.now) follows)
+    AreStored s.detail old.mirrors (first_of s c.wanted.items) (new.keeps s.state.now) follows)
 
 -- their lines were printed too, and this is the status
 abbrev pub IsReplayed : Cycles → World → World → ℕ → Type 0
 IsReplayed c old new status = CyclesStore c old new
-    (λ os. ArePrinted os (map string_bytes c.wanted.items) status old.printed new.printed)
+    (λ ts. ArePrinted ts (map string_bytes c.wanted.items) status old.printed new.printed)
 
 -- nothing was stored or printed, or the last state was stored
 abbrev pub IsUntouchedOrCycled : Cycles → World → World → Type 0
@@ -78,7 +87,7 @@ IsUntouchedOrCycled c old new = IsUntouched old new ⊎ CyclesStore c old new (�
 abbrev pub IsCauseBy : Cycles → program.Start → Obstacles → List Mirror → World → Failure → Type 0
 IsCauseBy c s obstacles mirrors new Output =
     (obstacles.fails s.state.now ≡ true)
-    ⊎ AreStored mirrors (first_of s c.wanted.items) (new.keeps s.state.now) (λ _. ⊤)
+    ⊎ AreStored s.detail mirrors (first_of s c.wanted.items) (new.keeps s.state.now) (λ _. ⊤)
 IsCauseBy c s obstacles mirrors new f = IsCauseToRead mirrors new.mirrors f
 
 -- of what the words name

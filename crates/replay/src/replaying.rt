@@ -6,22 +6,21 @@ ghost use Rattle.std.specs.List.{AllZip};
 ghost use Rattle.folder.specs.Folders.{IsSameFolder};
 ghost use Rattle.report.specs.Lines.{IsStatus};
 ghost use Rattle.update.specs.Causes.{IsCauseToRead};
-ghost use Rattle.replay.specs.Cycles.{AreOutcomesOn, IsCause, IsReplayed, IsUntouchedOrCycled};
+ghost use Rattle.replay.specs.Cycles.{AreToldOn, IsCause, IsReplayed, IsToldOn, IsUntouchedOrCycled};
 ghost use Rattle.replay.specs.Cycles.{first_of, from_state, last_state, mirror_of};
-ghost use Rattle.lookups.specs.Lookups.{IsCourseOn, IsPart};
+ghost use Rattle.lookups.specs.Lookups.{IsPart, IsSettledOn};
 ghost use Rattle.update.specs.Opened.{IsOpened};
-ghost use Rattle.update.specs.Runs.{IsOutcomeOn};
 ghost use Rattle.update.specs.Same.{IsCauseToEnd, IsSame};
 ghost use Rattle.update.specs.World.{IsUntouched, OthersKept};
 
 use cjson::NoMemory;
 use cjson::number::Within;
-use cycle::{Course, Gate, Keeper, Outcome, Threading, Watch};
+use cycle::{Course, Gate, Keeper, Threading, Watch};
 use failure::Failure;
 use folder::Folder;
 use lookups::{Asked, Metadata};
 use measured::{Readers, close};
-use report::tell_cycles;
+use report::{Told, tell_cycles};
 use std::alloc::Global;
 use std::io::Write;
 use std::sync::Wait;
@@ -29,6 +28,7 @@ use std::thread::Threads;
 use system::System;
 use update::{
     Folders, HasMirrors, HasWorld, Host, Locking, Opened, Settings, Start, begin, keep_state,
+    why_lines,
 };
 
 /// A number of files whose verdicts are cached from cycle to cycle.
@@ -91,9 +91,9 @@ pub fn replay<
         start: &start,
         wanted: cycles.wanted.as_slice(),
     };
-    let outcomes = outcomes(threading, &begun, opened, &mut host.folders, &mut keeper)?;
+    let all = all_told(threading, &begun, opened, &mut host.folders, &mut keeper)?;
     keep_state(alloc, &mut host.system, start.state, keeper.trusted())?;
-    tell_cycles(alloc, outcomes.as_slice(), begun.wanted, &mut host.out)
+    tell_cycles(alloc, all.as_slice(), begun.wanted, &mut host.out)
 }
 
 /// Opens all repositories, in order.
@@ -150,19 +150,19 @@ struct Begun<'a> {
     wanted: &'a [String],
 }
 
-/// Returns the outcomes of all cycles of a keeper of the start's state, with the number of workers
+/// Returns what is told of all cycles of a keeper of the start's state, with the number of workers
 /// that the start names.
-fn outcomes<R: Threads + Wait + Sync, N: Gate + Watch + Sync, M: Folder, T: Folder + Sync>(
+fn all_told<R: Threads + Wait + Sync, N: Gate + Watch + Sync, M: Folder, T: Folder + Sync>(
     threading: &Threading<'_, R, N>,
     begun: &Begun<'_>,
     opened: Vec<Opened>,
     folders: &mut Vec<Folders<M, T>>,
     keeper: &mut Keeper,
-) -> Result<Vec<Outcome>, Failure>
+) -> Result<Vec<Told>, Failure>
     requires state { keeper.old ≡ begun.now.start.now.trusted }
     requires opened { AllZip IsOpened
         (⟦<Vec<Folders<M, T>> as HasMirrors>⟧.mirrors folders.old) opened.items }
-    ensures outcomes { IfOk result (λ all. AreOutcomesOn
+    ensures told { IfOk result (λ all. AreToldOn begun.now.start.now.detail
         (⟦<Vec<Folders<M, T>> as HasMirrors>⟧.mirrors folders.old)
         (first_of begun.now.start.now begun.now.wanted.now) all.items) }
     ensures state { IfOk result (λ all. keeper.new
@@ -174,25 +174,25 @@ fn outcomes<R: Threads + Wait + Sync, N: Gate + Watch + Sync, M: Folder, T: Fold
     let mut all = Vec::new(begun.start.alloc);
     for one in opened {
         let here = &mut folders[all.len()];
-        all.push(outcome(threading, begun, one, here, keeper)?)?;
+        all.push(told(threading, begun, one, here, keeper)?)?;
     }
     Ok(all)
 }
 
-/// Returns the outcome of one cycle from the keeper's state, which is then the outcome's.
-fn outcome<R: Threads + Wait + Sync, N: Gate + Watch + Sync, M: Folder, T: Folder + Sync>(
+/// Returns what is told of one cycle from the keeper's state, which is then the outcome's.
+fn told<R: Threads + Wait + Sync, N: Gate + Watch + Sync, M: Folder, T: Folder + Sync>(
     threading: &Threading<'_, R, N>,
     begun: &Begun<'_>,
     one: Opened,
     here: &mut Folders<M, T>,
     keeper: &mut Keeper,
-) -> Result<Outcome, Failure>
+) -> Result<Told, Failure>
     requires metadata { IsPart (M.gives here.old.metadata) one.metadata }
     requires names { (T.gives here.old.targets).lists (map string_bytes one.names.items) ≡ true }
-    ensures outcome { IfOk result (IsOutcomeOn (mirror_of (M.gives here.old.metadata)
-        (T.gives here.old.targets))
+    ensures told { IfOk result (IsToldOn begun.now.start.now.detail
+        (mirror_of (M.gives here.old.metadata) (T.gives here.old.targets))
         (from_state (first_of begun.now.start.now begun.now.wanted.now) keeper.old)) }
-    ensures state { IfOk result (λ o. keeper.new ≡ o.trusted) }
+    ensures state { IfOk result (λ t. keeper.new ≡ t.outcome.trusted) }
     ensures same { AllZip IsSame (⟦<Folders<M, T> as HasMirrors>⟧.mirrors here.old)
         (⟦<Folders<M, T> as HasMirrors>⟧.mirrors here.new) }
     ensures cause { IfErr result (IsCauseToRead
@@ -206,11 +206,13 @@ fn outcome<R: Threads + Wait + Sync, N: Gate + Watch + Sync, M: Folder, T: Folde
     let start = begun.start;
     let course = course(threading, begun, &mut metadata, &mut here.metadata, keeper)?;
     keeper.trust(&course)?;
+    let why = why_lines(start, &metadata.repo.metadata, &course)?;
     let readers = Readers {
         rt: threading.rt,
         threads: start.threads(),
     };
-    Ok(close(&readers, start.alloc, course, &mut here.targets, names)?)
+    let outcome = close(&readers, start.alloc, course, &mut here.targets, names)?;
+    Ok(Told { outcome, why })
 }
 
 /// Returns the course from the keeper's state, for which metadata files are read when they are
@@ -223,8 +225,10 @@ fn course<R: Threads + Wait + Sync, N: Gate + Watch + Sync, M: Folder>(
     keeper: &mut Keeper,
 ) -> Result<Course, Failure>
     requires part { IsPart (M.gives folder.old) metadata.old }
-    ensures course { IfOk result (IsCourseOn (M.gives folder.old)
-        (from_state (first_of begun.now.start.now begun.now.wanted.now) keeper.old)) }
+    ensures part { OnOk result (IsPart (M.gives folder.old) metadata.new) }
+    ensures settled { IfOk result (IsSettledOn
+        (from_state (first_of begun.now.start.now begun.now.wanted.now) keeper.old)
+        metadata.new) }
     ensures state { keeper.new ≡ keeper.old }
     ensures same { IsSameFolder (M.gives folder.old) (M.gives folder.new) }
     ensures cause { IfErr result (IsCauseToEnd (M.gives folder.old) (M.gives folder.new)) }

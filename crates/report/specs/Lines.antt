@@ -1,7 +1,7 @@
 -- The lines that a run prints, and its exit status.
 use Rattle.std.specs.List.{enumerate_from, list_all, slice_get}
 use Rattle.std.specs.Option.{option_map_or}
-use Rattle.std.specs.Prelude.{ℕ, ◌≤◌, Bool, ◌&&◌, List, [], ◌∷◌, ◌++◌, if◌then◌else◌, flat_map, zip, codes, decimal, ◌-◌, true, false, length}
+use Rattle.std.specs.Prelude.{ℕ, ◌≤◌, Bool, ◌&&◌, List, [], ◌∷◌, ◌++◌, if◌then◌else◌, flat_map, zip, codes, decimal, ◌-◌, true, false, length, string_bytes}
 use Rattle.meta.specs.declared.fault.Fault.TheVariants.{NotListed, TooLong, LengthWrong, HashWrong, NoKnownHash, Malformed, Unsigned, VersionWrong, Rollback, Expired, Missing}
 pub use Rattle.rolechain.specs.declared.end.Step.TheVariants.{Root, Timestamp, Snapshot, Targets}
 use Rattle.rolechain.specs.declared.end.Step.{Step}
@@ -9,6 +9,7 @@ use Rattle.cycle.specs.Workflow.{Fault, End, Ready, Stopped, Accepted, Outcome}
 use Rattle.cycle.specs.declared.verdict.Verdict.TheVariants.{Good, NotFound, LimitReached, RoleRefused, FileRefused, NotSearched}
 use Rattle.cycle.specs.declared.verdict.Verdict.{Verdict}
 use Rattle.failure.specs.Failures.{line}
+use Rattle.report.specs.declared.told.Told.{Told}
 pub use Rattle.inout.specs.Quoted.{quoted_text}
 
 -- # The lines.
@@ -77,27 +78,29 @@ abbrev pub stored_texts : List (List ℕ) → List Verdict → List Bool → Lis
 stored_texts wanted verdicts stored =
     flat_map (λ p. stored_text p.0.0 p.0.1 p.1) (zip (zip wanted verdicts) stored)
 
--- the trusted root, how the cycle ended, the roles that were accepted, all in order, and then the
--- lines of the wanted paths
-abbrev pub outcome_with : Outcome → List ℕ → List ℕ
-outcome_with o lines = root_text o.trusted.root.reading.header.version
-    ++ (end_text o.end ++ (flat_map role_text o.accepted ++ lines))
+-- the trusted root, how the cycle ended and the lines that say why, the roles that were accepted,
+-- all in order, and then the lines of the wanted paths
+abbrev pub outcome_with : Outcome → List ℕ → List ℕ → List ℕ
+outcome_with o why lines = root_text o.trusted.root.reading.header.version
+    ++ (end_text o.end ++ (why ++ (flat_map role_text o.accepted ++ lines)))
 
 -- an outcome without copies
-abbrev pub outcome_text : Outcome → List (List ℕ) → List ℕ
-outcome_text o wanted = outcome_with o (verdict_texts wanted o.verdicts)
+abbrev pub outcome_text : Outcome → List ℕ → List (List ℕ) → List ℕ
+outcome_text o why wanted = outcome_with o why (verdict_texts wanted o.verdicts)
 
 -- an outcome with copies, of which these were stored
-abbrev pub stored_outcome_text : Outcome → List (List ℕ) → List Bool → List ℕ
-stored_outcome_text o wanted stored = outcome_with o (stored_texts wanted o.verdicts stored)
+abbrev pub stored_outcome_text : Outcome → List ℕ → List (List ℕ) → List Bool → List ℕ
+stored_outcome_text o why wanted stored =
+    outcome_with o why (stored_texts wanted o.verdicts stored)
 
 -- `cycle K`, and then the outcome's lines
-abbrev pub cycle_text : List (List ℕ) → ℕ × Outcome → List ℕ
-cycle_text wanted (number, o) = line (codes "cycle" ∷ decimal number ∷ []) ++ outcome_text o wanted
+abbrev pub cycle_text : List (List ℕ) → ℕ × Told → List ℕ
+cycle_text wanted (number, t) = line (codes "cycle" ∷ decimal number ∷ [])
+    ++ outcome_text t.outcome (string_bytes t.why) wanted
 
 -- one cycle after another, numbered from 1
-abbrev pub cycles_text : List (List ℕ) → List Outcome → List ℕ
-cycles_text wanted os = flat_map (cycle_text wanted) (enumerate_from 1 os)
+abbrev pub cycles_text : List (List ℕ) → List Told → List ℕ
+cycles_text wanted all = flat_map (cycle_text wanted) (enumerate_from 1 all)
 
 -- # The exit status of a whole run.
 
@@ -125,5 +128,6 @@ stored_outcome_status o stored =
     status_of o.end (list_all is_good o.verdicts && list_all (λ is_stored. is_stored) stored)
 
 -- the status of the last outcome, or 0 if there is none
-abbrev pub last_status : List Outcome → ℕ
-last_status os = option_map_or outcome_status (slice_get os (length os - 1)) 0
+abbrev pub last_status : List Told → ℕ
+last_status all =
+    option_map_or (λ t. outcome_status t.outcome) (slice_get all (length all - 1)) 0

@@ -9,54 +9,58 @@ ghost use Rattle.report.specs.Lines as spec;
 ghost use Rattle.std.specs.List.{list_all};
 ghost use Rattle.report.specs.Lines.{IsStatus};
 
+use crate::told::Told;
 use cycle::{Accepted, End, Fault, Outcome, Step, Verdict};
 use failure::Failure;
 use inout::{put, quote_name};
 use std::alloc::{AllocError, Global};
 use std::io::Write;
 
-/// Prints all lines of an outcome and returns the exit status: 2 if the update stopped, else 1 if
+/// Prints all lines of what is told and returns the exit status: 2 if the update stopped, else 1 if
 /// some target isn't accepted, else 0. If the contract tracks the content of `out`, these lines and
 /// nothing else were printed; it doesn't for a stream of the system. Fails with `Memory` or
 /// `Output`.
 pub fn tell<W: Write>(
     alloc: Global,
-    outcome: &Outcome,
+    told: &Told,
     wanted: &[String],
     out: &mut W,
 ) -> Result<u8, Failure>
     ensures written { OnOk result (Appends (W.contents out.old) (W.contents out.new)
-        (spec.outcome_text outcome.now (map string_bytes wanted.now))) }
-    ensures status { IfOk result (λ status. status ≡ spec.outcome_status outcome.now) }
+        (spec.outcome_text told.now.outcome (string_bytes told.now.why)
+        (map string_bytes wanted.now))) }
+    ensures status { IfOk result (λ status. status ≡ spec.outcome_status told.now.outcome) }
     ensures known { IfOk result IsStatus }
     ensures refused { IfErr result IsLate }
 {
     let mut text = String::new(alloc);
-    push_outcome(alloc, &mut text, outcome, wanted)?;
+    push_outcome(alloc, &mut text, told, wanted)?;
     put(out, text.as_str())?;
-    Ok(outcome_status(outcome))
+    Ok(outcome_status(&told.outcome))
 }
 
-/// Prints all lines of an outcome with copies, as [`tell`] does, and returns the exit status. For
+/// Prints all lines of what is told with copies, as [`tell`] does, and returns the exit status. For
 /// each wanted path, `stored` has by position whether its copy was stored: an accepted path without
 /// one has the line `no PATH NoPlace`, and isn't accepted for the status. Fails with `Memory` or
 /// `Output`.
 pub fn tell_stored<W: Write>(
     alloc: Global,
-    outcome: &Outcome,
+    told: &Told,
     wanted: &[String],
     stored: &[bool],
     out: &mut W,
 ) -> Result<u8, Failure>
     ensures written { OnOk result (Appends (W.contents out.old) (W.contents out.new)
-        (spec.stored_outcome_text outcome.now (map string_bytes wanted.now) stored.now)) }
+        (spec.stored_outcome_text told.now.outcome (string_bytes told.now.why)
+        (map string_bytes wanted.now) stored.now)) }
     ensures status { IfOk result
-        (λ status. status ≡ spec.stored_outcome_status outcome.now stored.now) }
+        (λ status. status ≡ spec.stored_outcome_status told.now.outcome stored.now) }
     ensures known { IfOk result IsStatus }
     ensures refused { IfErr result IsLate }
 {
+    let outcome = &told.outcome;
     let mut text = String::new(alloc);
-    push_head(alloc, &mut text, outcome)?;
+    push_head(alloc, &mut text, told)?;
     push_stored(alloc, &mut text, wanted, outcome.verdicts(), stored)?;
     put(out, text.as_str())?;
     let are_good = all_good(outcome.verdicts());
@@ -103,28 +107,32 @@ fn accepts(verdict: &Verdict) -> bool
     matches!(verdict, Verdict::Good { .. })
 }
 
-/// Adds all lines of an outcome without copies: the root, the end, the accepted roles, and each
-/// wanted path in order.
+/// Adds all lines of what is told without copies: the root, the end and why, the accepted roles,
+/// and each wanted path in order.
 pub(crate) fn push_outcome(
     alloc: Global,
     text: &mut String,
-    outcome: &Outcome,
+    told: &Told,
     wanted: &[String],
 ) -> Result<(), AllocError>
     ensures lines { OnOk result (string_bytes text.new ≡ string_bytes text.old
-        ++ spec.outcome_text outcome.now (map string_bytes wanted.now)) }
+        ++ spec.outcome_text told.now.outcome (string_bytes told.now.why)
+        (map string_bytes wanted.now)) }
 {
-    push_head(alloc, text, outcome)?;
-    push_verdicts(alloc, text, wanted, outcome.verdicts())
+    push_head(alloc, text, told)?;
+    push_verdicts(alloc, text, wanted, told.outcome.verdicts())
 }
 
-/// Adds the lines of an outcome before those of the wanted paths.
-fn push_head(alloc: Global, text: &mut String, outcome: &Outcome) -> Result<(), AllocError>
+/// Adds the lines before those of the wanted paths.
+fn push_head(alloc: Global, text: &mut String, told: &Told) -> Result<(), AllocError>
     ensures lines { OnOk result ((lines : List ℕ) → string_bytes text.new ++ lines
-        ≡ string_bytes text.old ++ spec.outcome_with outcome.now lines) }
+        ≡ string_bytes text.old
+        ++ spec.outcome_with told.now.outcome (string_bytes told.now.why) lines) }
 {
+    let outcome = &told.outcome;
     text.push_str(root_line(alloc, outcome.trusted().root_version())?.as_str())?;
     push_end(text, outcome.end())?;
+    text.push_str(told.why.as_str())?;
     push_roles(alloc, text, outcome.accepted())
 }
 

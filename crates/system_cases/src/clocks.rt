@@ -16,7 +16,7 @@ use std::thread::Threads;
 use std::time::Duration;
 use std::{fs, io};
 use system::{Machine, System, Temporary, whole_seconds};
-use update::{Folders, Host, Start, Wanted, Workers, moment};
+use update::{Detail, Folders, Host, Start, Wanted, Workers, moment};
 
 /// The files of a session beside a clock that shows one time since 1970, or that can't be read.
 #[derive(Drop)]
@@ -192,6 +192,7 @@ pub fn failing<T: Threads + Wait + Sync>(shell: &Shell<'_, T>, step: &Step) -> R
         limits: Limits::new(32, 4096).context("no limits")?,
         workers: Workers::new(2).context("no workers")?,
         state: step.word(2)?,
+        detail: Detail::Faults,
     };
     let mut paths = Vec::new(shell.alloc);
     push_words(&mut paths, step.words_behind(3))?;

@@ -9,7 +9,7 @@ use crate::runs::{limits_of, moment};
 use crate::shell::Shell;
 use anyhow::{Context, Result};
 use cycle::{Keeper, Outcome, Round, Stats};
-use report::tell_cycles;
+use report::{Told, tell_cycles};
 use sessions::{Output, Step};
 use std::alloc::Global;
 use std::io::Write;
@@ -24,8 +24,18 @@ pub fn cycles<T: Threads + Wait + Sync>(shell: &Shell<'_, T>, step: &Step) -> Re
     let (all, _) = outcomes(shell, step)?;
     let mut output = Output::nothing(shell.alloc);
     let wanted = step.words_behind(5);
-    output.status = tell_cycles(shell.alloc, all.as_slice(), wanted, &mut output.out)?;
+    let told = all_told(shell.alloc, all)?;
+    output.status = tell_cycles(shell.alloc, told.as_slice(), wanted, &mut output.out)?;
     Ok(output)
+}
+
+/// Returns what is told of the outcomes, without lines that say why.
+fn all_told(alloc: Global, outcomes: Vec<Outcome>) -> Result<Vec<Told>> {
+    let mut all = Vec::new(alloc);
+    for outcome in outcomes {
+        all.push(Told::plain(alloc, outcome))?;
+    }
+    Ok(all)
 }
 
 /// Returns the counts of each of a keeper's cycles over repositories, and how many waits of the

@@ -7,7 +7,7 @@ use crate::repositories::{Made, read};
 use crate::shell::Shell;
 use anyhow::{Context, Result};
 use cycle::{Cycle, InMemory, Limits, Moment, Outcome, Round, follow_alone, run, run_alone};
-use report::tell;
+use report::{Told, tell};
 use sessions::{Output, Step};
 use std::alloc::Global;
 use std::sync::Wait;
@@ -16,7 +16,7 @@ use std::thread::Threads;
 /// Returns the lines and the status of a run with workers.
 pub fn lines<T: Threads + Wait + Sync>(shell: &Shell<'_, T>, step: &Step) -> Result<Output> {
     let (outcome, _) = ran_as(shell, step)?;
-    output(shell.alloc, &outcome, step.words_behind(4))
+    output(shell.alloc, outcome, step.words_behind(4))
 }
 
 /// Returns the lines and the status of a cycle on one thread.
@@ -31,7 +31,7 @@ pub fn course(rt: &HostRuntime, alloc: Global, step: &Step) -> Result<Output> {
     let made = read(rt, alloc, step.word(0)?)?;
     let wanted = step.words_behind(1);
     let outcome = followed(alloc, &made, wanted)?;
-    output(alloc, &outcome, wanted)
+    output(alloc, outcome, wanted)
 }
 
 /// Returns the counts of a run, and how many waits of its gate met their limit.
@@ -70,7 +70,7 @@ pub fn prints_the_same<T: Threads + Wait + Sync>(
     alone: &Output,
 ) -> Result<(bool, Schedule)> {
     let (outcome, gate) = ran(shell, made, wanted, parameters)?;
-    let output = output(shell.alloc, &outcome, wanted)?;
+    let output = output(shell.alloc, outcome, wanted)?;
     Ok((output.is(alone), gate))
 }
 
@@ -78,12 +78,12 @@ pub fn prints_the_same<T: Threads + Wait + Sync>(
 pub fn lines_alone(alloc: Global, made: &Made, wanted: &[String]) -> Result<Output> {
     let (trusted, repo) = (&made.trusted, &made.repo);
     let outcome = run_alone(alloc, trusted, repo, moment()?, wanted, &limits_of(0)?)?;
-    output(alloc, &outcome, wanted)
+    output(alloc, outcome, wanted)
 }
 
-fn output(alloc: Global, outcome: &Outcome, wanted: &[String]) -> Result<Output> {
+fn output(alloc: Global, outcome: Outcome, wanted: &[String]) -> Result<Output> {
     let mut output = Output::nothing(alloc);
-    output.status = tell(alloc, outcome, wanted, &mut output.out)?;
+    output.status = tell(alloc, &Told::plain(alloc, outcome), wanted, &mut output.out)?;
     Ok(output)
 }
 

@@ -9,7 +9,7 @@ use crate::shell::Shell;
 use crate::stress::drawn;
 use anyhow::{Context, Result};
 use cycle::{Keeper, Outcome, Repo, run_alone};
-use report::tell;
+use report::{Told, tell};
 use sessions::{Output, Step};
 use std::alloc::Global;
 use std::sync::Wait;
@@ -81,13 +81,13 @@ fn agrees<T: Threads + Wait + Sync>(
     let alone = run_alone(alloc, keeper.trusted(), repo, now, wanted, &limits)?;
     let gate = Schedule::new(parameters.rule);
     let kept = keeper.cycle(rt, repo, now, wanted, &limits, parameters.workers, &gate)?;
-    Ok(all_of(alloc, &alone, wanted)? == all_of(alloc, &kept, wanted)?)
+    Ok(all_of(alloc, alone, wanted)? == all_of(alloc, kept, wanted)?)
 }
 
 /// Returns the text of the outcome's state, followed by its lines. The status is a function of
 /// these.
-fn all_of(alloc: Global, outcome: &Outcome, wanted: &[String]) -> Result<Vec<u8>> {
+fn all_of(alloc: Global, outcome: Outcome, wanted: &[String]) -> Result<Vec<u8>> {
     let mut all = outcome.trusted().to_text(alloc)?;
-    tell(alloc, outcome, wanted, &mut all)?;
+    tell(alloc, &Told::plain(alloc, outcome), wanted, &mut all)?;
     Ok(all)
 }

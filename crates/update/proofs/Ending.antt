@@ -16,10 +16,10 @@ use Rattle.folder.proofs.Sameness.{same_trans}
 use Rattle.lookups.specs.Lookups.{Grows, IsPart, IsSettledOn, files_read}
 use Rattle.lookups.specs.declared.metadata.Metadata.{Metadata}
 use Rattle.lookups.proofs.Reading.{part_before}
-use Rattle.lookups.proofs.Settling.{course_on, stays}
+use Rattle.lookups.proofs.Settling.{course_on, read_files, stays}
 use Rattle.paths.specs.Names.{ArePathsOf}
 use Rattle.update.specs.Opened.{AreListed, IsFollowedOn, paths_from, paths_of}
-use Rattle.update.specs.Runs.{AreWanted, IsStored, IsStoredOn, IsPrinted, IsPrintedOf, Request, State, start_of, state_text}
+use Rattle.update.specs.Runs.{AreWanted, IsStored, IsStoredOn, IsPrinted, IsPrintedOf, Request, State, start_of, state_text, why_of, why_text}
 use Rattle.update.specs.Same.{IsSame}
 use Rattle.update.specs.Stored.{AreCopiesOf, AreInstalled, AreSomeInstalled, Lookup}
 use Rattle.update.specs.World.{Mirror, OthersKept}
@@ -52,8 +52,9 @@ still_stored mid after place text same kept = same text ∙ kept
 
 pub followed : (m : Mirror) (a b : Giving) (s : program.Start) (wanted : Wanted) (o : Opened) (later : Metadata) (f : Followed) (r : Request) (p : List (String Global))
     → IsSameFolder m.metadata a → IsSameFolder a b → m.targets.lists (map string_bytes o.names.items) ≡ true → f.names ≡ o.names → p ≡ paths_from wanted f.listed.items
-    → r ≡ start_of s (map string_bytes p) → IsPart b later → Grows o.metadata later → IsSettledOn r later f.course → AreListed a s wanted o f.listed.items → IsFollowedOn m s wanted f
-followed m a b s wanted o later f r p first second names same is requested part grows settled are =
+    → r ≡ start_of s (map string_bytes p) → IsPart b later → Grows o.metadata later → IsSettledOn r later f.course → AreListed a s wanted o f.listed.items
+    → string_bytes f.why ≡ why_text s.detail (file_in later.repo.metadata) s.moment f.course.trusted f.course.end → IsFollowedOn m s wanted f
+followed m a b s wanted o later f r p first second names same is requested part grows settled are why =
     let paths = paths_of wanted f in
     let there : IsSettledOn (start_of s paths) later f.course =
     subst (λ (l : List (String Global)). IsSettledOn (start_of s (map string_bytes l)) later f.course) is (subst (λ q. IsSettledOn q later f.course) requested settled) in
@@ -65,6 +66,7 @@ followed m a b s wanted o later f r p first second names same is requested part 
           (subst (λ l. AreWanted wanted (course (start_of s paths) (file_in later.repo.metadata)).trusted.root.reading.consistent (list l) paths) (sym same)
           (are later (part_before a b later second part) grows));
       of_request = course_on m.metadata later here (start_of s paths) f.course there;
+      why = subst (λ (l : Files). string_bytes f.why ≡ why_text s.detail l s.moment f.course.trusted f.course.end) (read_files m.metadata later here) why;
     }
 
 -- the paths of names, by a course that more files don't change
@@ -100,10 +102,16 @@ module _ (m n : Mirror) (s : program.Start) (wanted : Wanted) (f : Followed) (o 
         then = then;
       }
 
+  -- what says why it stopped is what was told of its course
+  why_told : string_bytes f.why ≡ why_of s.detail (start_of s (paths_of wanted f)) (files_read d.of_request.seen) o
+  why_told = subst (λ (x : Outcome). string_bytes f.why ≡ why_text s.detail (files_read d.of_request.seen) s.moment x.trusted x.end)
+      (sym (closed.outcome closed.files closed.are_seen)) d.why
+
   -- and its lines were printed
   pub stored_printed : {E : Type 0} (old new : Option (List ℕ)) (p : List (String Global)) (r : Result ℕ E) → p ≡ paths_from wanted f.listed.items
-      → IfOk r (λ status. IsPrinted o (map string_bytes p) status old new) → IfOk r (λ status. IsStoredOn m s wanted keeps (IsPrintedOf old new status))
-  stored_printed old new p (Ok status) is lines = stored (IsPrintedOf old new status) (subst (λ (l : List (String Global)). IsPrinted o (map string_bytes l) status old new) is lines)
+      → IfOk r (λ status. IsPrinted o (string_bytes f.why) (map string_bytes p) status old new) → IfOk r (λ status. IsStoredOn m s wanted keeps (IsPrintedOf s.detail old new status))
+  stored_printed old new p (Ok status) is lines = stored (IsPrintedOf s.detail old new status)
+      (subst (λ w. IsPrinted o w (paths_of wanted f) status old new) why_told (subst (λ (l : List (String Global)). IsPrinted o (string_bytes f.why) (map string_bytes l) status old new) is lines))
   stored_printed old new p (Err e) is lines = tt
 
   -- ---- and copies were stored, of the paths by another name
@@ -140,14 +148,15 @@ module _ (m n : Mirror) (s : program.Start) (wanted : Wanted) (f : Followed) (o 
 
     pub stored_into : {E : Type 0} (old new : Option (List ℕ)) (r : Result ℕ E) (stored told : List Bool) → told ≡ stored → length stored ≡ length l
         → AreInstalled took lent given (map string_bytes l) verdicts mid after stored
-        → IfOk r (λ status. IsPrintedWith o (map string_bytes l) told status old new)
-        → IfOk r (λ status. IsStoredOn m s wanted keeps (IsPrintedInto p old new before after status))
-    stored_into old new (Ok status) list told same count copied lines = stored (IsPrintedInto p old new before after status) (record {
+        → IfOk r (λ status. IsPrintedWith o (string_bytes f.why) (map string_bytes l) told status old new)
+        → IfOk r (λ status. IsStoredOn m s wanted keeps (IsPrintedInto s.detail p old new before after status))
+    stored_into old new (Ok status) list told same count copied lines = stored (IsPrintedInto s.detail p old new before after status) (record {
       stored = list;
       by_position = count ∙ sym (length-map l string_bytes) ∙ ap (λ (q : List (String Global)). length (map string_bytes q)) paths;
       are_stored = all_stored list copied;
-      is_printed = subst (λ q. IsPrintedWith o q list status old new) (ap (map string_bytes) paths)
-          (subst (λ t. IsPrintedWith o (map string_bytes l) t status old new) same lines);
+      is_printed = subst (λ w. IsPrintedWith o w (paths_of wanted f) list status old new) why_told
+          (subst (λ q. IsPrintedWith o (string_bytes f.why) q list status old new) (ap (map string_bytes) paths)
+          (subst (λ t. IsPrintedWith o (string_bytes f.why) (map string_bytes l) t status old new) same lines));
     })
     stored_into old new (Err e) list told same count copied lines = tt
 

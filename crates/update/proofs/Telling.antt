@@ -6,15 +6,15 @@ use Rattle.update.specs.Copies.{IsPrintedWith}
 use Rattle.update.specs.Runs.{IsPrinted, Outcome}
 
 -- the lines and the status of an answer
-pub printed : {E : Type 0} (o : Outcome) (wanted : List (List ℕ)) (old new : Option (List ℕ)) (r : Result ℕ E)
-    → OnOk r (Appends old new (outcome_text o wanted)) → IfOk r (λ status. status ≡ outcome_status o)
-    → IfOk r (λ status. IsPrinted o wanted status old new)
-printed o wanted old new (Ok status) lines answered = record { lines = lines; answered = answered }
-printed o wanted old new (Err e) lines answered = tt
+pub printed : {E : Type 0} (o : Outcome) (why : List ℕ) (wanted : List (List ℕ)) (old new : Option (List ℕ)) (r : Result ℕ E)
+    → OnOk r (Appends old new (outcome_text o why wanted)) → IfOk r (λ status. status ≡ outcome_status o)
+    → IfOk r (λ status. IsPrinted o why wanted status old new)
+printed o why wanted old new (Ok status) lines answered = record { lines = lines; answered = answered }
+printed o why wanted old new (Err e) lines answered = tt
 
 -- the same with copies
-pub printed_with : {E : Type 0} (o : Outcome) (wanted : List (List ℕ)) (stored : List Bool) (old new : Option (List ℕ)) (r : Result ℕ E)
-    → OnOk r (Appends old new (stored_outcome_text o wanted stored)) → IfOk r (λ status. status ≡ stored_outcome_status o stored)
-    → IfOk r (λ status. IsPrintedWith o wanted stored status old new)
-printed_with o wanted stored old new (Ok status) lines answered = record { lines = lines; answered = answered }
-printed_with o wanted stored old new (Err e) lines answered = tt
+pub printed_with : {E : Type 0} (o : Outcome) (why : List ℕ) (wanted : List (List ℕ)) (stored : List Bool) (old new : Option (List ℕ)) (r : Result ℕ E)
+    → OnOk r (Appends old new (stored_outcome_text o why wanted stored)) → IfOk r (λ status. status ≡ stored_outcome_status o stored)
+    → IfOk r (λ status. IsPrintedWith o why wanted stored status old new)
+printed_with o why wanted stored old new (Ok status) lines answered = record { lines = lines; answered = answered }
+printed_with o why wanted stored old new (Err e) lines answered = tt

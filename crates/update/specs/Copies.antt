@@ -14,7 +14,8 @@ use Rattle.measured.specs.Copied.{IsContentOf}
 use Rattle.report.specs.Lines.{is_good, stored_outcome_status, stored_outcome_text}
 use Rattle.system.specs.Blocked.{Obstacles}
 use Rattle.update.specs.Causes.{IsCauseBy, IsCauseOf, IsCauseToRead, Mirror}
-use Rattle.update.specs.Runs.{Files, IsUntouched, Outcome, Request, Stores, StoresFrom, World, course}
+use Rattle.update.specs.Runs.{Files, IsUntouched, Outcome, Request, Stores, StoresFrom, World, course, why_of}
+use Rattle.update.specs.declared.start.Detail.{Detail}
 use Rattle.update.specs.declared.start.Start as program
 use Rattle.update.specs.declared.start.Terms.{Terms}
 use Rattle.update.specs.declared.start.Wanted.{Wanted}
@@ -129,20 +130,22 @@ OutsideKept into state old new = (place : List ℕ) → place ≢ state
 
 -- # What a verification stores and prints.
 
--- the lines of an outcome of which these copies were stored were printed, and this is its status
-pub record IsPrintedWith (o : Outcome) (wanted : List (List ℕ)) (stored : List Bool) (status : ℕ)
-    (old new : Option (List ℕ)) : Type 0 where
-  pub lines : Appends old new (stored_outcome_text o wanted stored)
+-- the lines of an outcome of which these copies were stored were printed, with these of why it
+-- stopped, and this is its status
+pub record IsPrintedWith (o : Outcome) (why : List ℕ) (wanted : List (List ℕ))
+    (stored : List Bool) (status : ℕ) (old new : Option (List ℕ)) : Type 0 where
+  pub lines : Appends old new (stored_outcome_text o why wanted stored)
   pub answered : status ≡ stored_outcome_status o stored
 
 -- for each wanted path it was decided whether its copy is stored, and that was printed
-pub record IsPrintedInto (p : Placing) (old new : Option (List ℕ)) (before after : Kept)
-    (status : ℕ) (start : Request) (metadata : Files) (o : Outcome) : Type 0 where
+pub record IsPrintedInto (d : Detail) (p : Placing) (old new : Option (List ℕ))
+    (before after : Kept) (status : ℕ) (start : Request) (metadata : Files) (o : Outcome)
+    : Type 0 where
   pub stored : List Bool
   pub by_position : length stored ≡ length start.wanted
   pub are_stored : AreStored p (target_for start metadata) start.wanted o.verdicts stored before
       after
-  pub is_printed : IsPrintedWith o start.wanted stored status old new
+  pub is_printed : IsPrintedWith o (why_of d start metadata o) start.wanted stored status old new
 
 -- copies of some of the first wanted paths were stored
 abbrev pub AreBegun : Placing → Kept → Kept → Request → Files → Outcome → Type 0
@@ -159,8 +162,8 @@ placing site old state = record { site = site; obstacles = old.obstacles; state 
 
 abbrev pub IsVerifiedIntoFrom : program.Start → Wanted → Site → World → World → ℕ → Type 0
 IsVerifiedIntoFrom s wanted site old new status = StoresFrom s wanted old new
-    (IsPrintedInto (placing site old s.state.now) old.printed new.printed old.keeps new.keeps
-    status)
+    (IsPrintedInto s.detail (placing site old s.state.now) old.printed new.printed old.keeps
+    new.keeps status)
 
 -- nothing was stored, copied or printed, or the new state was stored, and the copies of some of the
 -- first wanted paths
@@ -172,8 +175,8 @@ IsUntouchedOrBegunFrom s wanted site old new = IsUntouched old new
 
 abbrev pub IsVerifiedInto : Terms → Site → World → World → ℕ → Type 0
 IsVerifiedInto terms site old new status = Stores terms old new
-    (IsPrintedInto (placing site old terms.settings.out.now) old.printed new.printed old.keeps
-    new.keeps status)
+    (IsPrintedInto terms.settings.detail (placing site old terms.settings.out.now) old.printed
+    new.printed old.keeps new.keeps status)
 
 abbrev pub IsUntouchedOrBegun : Terms → Site → World → World → Type 0
 IsUntouchedOrBegun terms site old new = IsUntouched old new

@@ -2,11 +2,11 @@
 use Rattle.std.specs.Prelude.{◌≡◌, ℕ, List, String, true, map, string_bytes, [], ◌∷◌}
 use Rattle.std.specs.declared.alloc.Global.{Global}
 use Rattle.examine.specs.Checks.{file_in}
-use Rattle.lookups.specs.Lookups.{Grows, IsCourseOn, IsPart}
+use Rattle.lookups.specs.Lookups.{Grows, IsCourseOn, IsPart, files_read}
 use Rattle.lookups.specs.declared.metadata.Metadata.{Metadata}
 use Rattle.folder.specs.Folders.{Giving}
 use Rattle.rolechain.specs.Advance.{advanced}
-use Rattle.update.specs.Runs.{AreWanted, start_of}
+use Rattle.update.specs.Runs.{AreWanted, start_of, why_text}
 use Rattle.update.specs.World.{Mirror}
 use Rattle.update.specs.declared.following.Followed.{Followed}
 use Rattle.update.specs.declared.start.Opened.{Opened}
@@ -36,14 +36,16 @@ AreListed g s wanted o listed = (later : Metadata) → IsPart g later → Grows 
 abbrev pub paths_of : Wanted → Followed → List (List ℕ)
 paths_of wanted f = map string_bytes (paths_from wanted f.listed.items)
 
--- the course of the wanted paths on the metadata folder, and the names of a list that the other one
--- may give
+-- the course of the wanted paths on the metadata folder, the names of a list that the other one may
+-- give, and the lines of why the course stopped
 pub record IsFollowedOn (mirror : Mirror) (s : program.Start) (wanted : Wanted) (f : Followed)
     : Type 0 where
   pub names : mirror.targets.lists (map string_bytes f.names.items) ≡ true
   pub are_wanted : AreWanted wanted f.course.trusted.root.reading.consistent
       (map string_bytes f.names.items) (paths_of wanted f)
   pub of_request : IsCourseOn mirror.metadata (start_of s (paths_of wanted f)) f.course
+  pub why : string_bytes f.why ≡ why_text s.detail (files_read of_request.seen) s.moment
+      f.course.trusted f.course.end
 
 -- the same on the only repository
 abbrev pub IsFollowed : List Mirror → program.Start → Wanted → Followed → Type 0

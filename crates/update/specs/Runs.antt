@@ -5,14 +5,19 @@ use Rattle.std.specs.Prelude.{IfSome, ◌≡◌, ◌⊎◌, ℕ, List, Bool, tru
 use Rattle.rolechain.specs.Text.{state_of}
 use Rattle.rolechain.specs.Kept.{kept_of, kept_text}
 pub use Rattle.rolechain.specs.Advance.{State}
+pub use Rattle.rolechain.specs.declared.end.End.{End}
+use Rattle.rolechain.specs.declared.end.End.TheVariants.{Ready, Stopped}
 pub use Rattle.cycle.specs.Workflow.{Files, Outcome, Repository, Request, course, request, workflow}
 use Rattle.lookups.specs.Lookups.{IsLookedUp, files_read}
 use Rattle.measured.specs.Closed.{is_found}
 use Rattle.paths.specs.Names.{ArePathsOf}
 use Rattle.report.specs.Lines.{outcome_status, outcome_text}
+use Rattle.whys.specs.Whys.{stop_text}
 pub use Rattle.folder.specs.Seen.{Seen, AreSeen, MayBeSeen}
 pub use Rattle.update.specs.Moments.{IsMomentOf, Moment}
 pub use Rattle.update.specs.World.{Mirror, World, IsUntouched}
+use Rattle.update.specs.declared.start.Detail.{Detail}
+use Rattle.update.specs.declared.start.Detail.TheVariants.{Faults, Reasons}
 use Rattle.update.specs.declared.start.Locking.{Locking}
 use Rattle.update.specs.declared.start.Locking.TheVariants.{Needed, Without}
 use Rattle.update.specs.declared.start.Settings.{Settings}
@@ -46,6 +51,7 @@ pub record IsStart (settings : Settings) (gives : List ℕ → List ℕ → Bool
   pub limits : s.limits ≡ settings.limits
   pub workers : s.workers ≡ settings.workers
   pub place : s.state.now ≡ settings.out.now
+  pub detail : s.detail ≡ settings.detail
 
 -- what a file may give, while it is locked if it has to be
 abbrev pub given_by : Locking → (List ℕ → List ℕ → Bool) → (List ℕ → List ℕ → Bool)
@@ -123,15 +129,27 @@ abbrev pub IsStored : List Mirror → program.Start → Wanted → (List ℕ →
 IsStored (m ∷ []) s wanted keeps follows = IsStoredOn m s wanted keeps follows
 IsStored _ s wanted keeps follows = ⊥
 
--- the outcome's lines were printed, and the status is its own
-pub record IsPrinted (o : Outcome) (wanted : List (List ℕ)) (status : ℕ)
+-- the lines that say why a cycle stopped that left this state, if they are asked for
+abbrev pub why_text : Detail → Files → Moment → State → End → List ℕ
+why_text Reasons metadata now s (Stopped step fault) = stop_text metadata now s step fault
+why_text Reasons metadata now s Ready = []
+why_text Faults metadata now s end = []
+
+-- the outcome's lines were printed, with these of why it stopped, and the status is its own
+pub record IsPrinted (o : Outcome) (why : List ℕ) (wanted : List (List ℕ)) (status : ℕ)
     (old new : Option (List ℕ)) : Type 0 where
-  pub lines : Appends old new (outcome_text o wanted)
+  pub lines : Appends old new (outcome_text o why wanted)
   pub answered : status ≡ outcome_status o
 
+-- what says why it stopped, by the metadata files that were read
+abbrev pub why_of : Detail → Request → Files → Outcome → List ℕ
+why_of d r metadata o = why_text d metadata r.moment o.trusted o.end
+
 -- the same of the paths of the request
-abbrev pub IsPrintedOf : Option (List ℕ) → Option (List ℕ) → ℕ → Request → Files → Outcome → Type 0
-IsPrintedOf old new status r metadata o = IsPrinted o r.wanted status old new
+abbrev pub IsPrintedOf : Detail → Option (List ℕ) → Option (List ℕ) → ℕ
+    → Request → Files → Outcome → Type 0
+IsPrintedOf d old new status r metadata o =
+    IsPrinted o (why_of d r metadata o) r.wanted status old new
 
 -- # A verification of the only repository.
 
@@ -145,7 +163,7 @@ StoresFrom s wanted old new = IsStored old.mirrors s wanted (new.keeps s.state.n
 -- its lines were printed too, and this is its status
 abbrev pub IsVerifiedFrom : program.Start → Wanted → World → World → ℕ → Type 0
 IsVerifiedFrom s wanted old new status =
-    StoresFrom s wanted old new (IsPrintedOf old.printed new.printed status)
+    StoresFrom s wanted old new (IsPrintedOf s.detail old.printed new.printed status)
 
 -- nothing was stored or printed, or the new state was stored
 abbrev pub IsUntouchedOrStoredFrom : program.Start → Wanted → World → World → Type 0
@@ -160,7 +178,7 @@ Stores terms old new follows =
 
 abbrev pub IsVerified : Terms → World → World → ℕ → Type 0
 IsVerified terms old new status =
-    Stores terms old new (IsPrintedOf old.printed new.printed status)
+    Stores terms old new (IsPrintedOf terms.settings.detail old.printed new.printed status)
 
 abbrev pub IsUntouchedOrStored : Terms → World → World → Type 0
 IsUntouchedOrStored terms old new = IsUntouched old new ⊎ Stores terms old new (λ _ _ _. ⊤)

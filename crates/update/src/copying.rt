@@ -20,6 +20,7 @@ use cycle::{Gate, Threading, Watch};
 use failure::{Failure, of_io};
 use folder::Folder;
 use measured::{Copied, close_into};
+use report::Told;
 use std::alloc::Global;
 use std::io::Write;
 use std::sync::Wait;
@@ -107,6 +108,7 @@ impl<S: System, M: Folder, T: Folder, W: Write> Host<S, Folders<M, T>, W> {
             course,
             names,
             listed,
+            why,
         } = followed;
         let copied = close_into(alloc, course, &mut self.folders.targets, names, to)?;
         let Copied { outcome, copies } = copied;
@@ -120,7 +122,8 @@ impl<S: System, M: Folder, T: Folder, W: Write> Host<S, Folders<M, T>, W> {
         };
         let stored = store_copies(&places, paths, verdicts, copies, &mut self.system)?;
         flush(alloc, paths, stored.as_slice(), to)?;
-        tell_copied(alloc, &outcome, paths, stored.as_slice(), &mut self.out)
+        let told = Told { outcome, why };
+        tell_copied(alloc, &told, paths, stored.as_slice(), &mut self.out)
     }
 }
 

@@ -11,6 +11,7 @@ ghost use Rattle.update.specs.Same.{IsCauseToEnd, IsSame};
 
 use crate::host::{Folders, HasMirrors};
 use crate::start::{Opened, Start, Wanted};
+use crate::stopped::why_lines;
 use cycle::{Course, Gate, Keeper, Threading, Watch};
 use failure::Failure;
 use folder::Folder;
@@ -24,12 +25,13 @@ use std::thread::Threads;
 pub(crate) const CACHED: usize = 64;
 
 /// A course, and the names of the target files; with the paths of these names, if every file is
-/// wanted.
+/// wanted, and the lines that say why the course stopped, if they are.
 #[derive(Drop)]
 pub struct Followed {
     pub(crate) course: Course,
     pub(crate) names: Vec<String>,
     pub(crate) listed: Vec<String>,
+    pub(crate) why: String,
 }
 
 /// What was seen of the folders so far, and the keeper of the state that a course begins with.
@@ -66,11 +68,13 @@ impl<M: Folder, T: Folder> Folders<M, T> {
             mut keeper,
         } = begun;
         let course = (opened.metadata).follow(folder, threading, &mut keeper, &asked)?;
+        let why = why_lines(start, &opened.metadata.repo.metadata, &course)?;
         let Opened { names, .. } = opened;
         Ok(Followed {
             course,
             names,
             listed,
+            why,
         })
     }
 }

@@ -34,9 +34,18 @@ pub enum Locking {
     Without,
 }
 
+/// What is printed of a cycle that stopped.
+#[derive(Clone, Copy, Debug, PartialEq, Eq)]
+pub enum Detail {
+    /// The step and its fault.
+    Faults,
+    /// What the check compared that failed, too.
+    Reasons,
+}
+
 /// What the arguments of a run name: the path of the file with the trusted state, whether that is
-/// locked, the text of the moment, the limits, the number of workers, and the path of the file for
-/// the new state.
+/// locked, the text of the moment, the limits, the number of workers, the path of the file for the
+/// new state, and what is printed of a stop.
 #[derive(Clone, Copy)]
 pub struct Settings<'a> {
     pub state: &'a str,
@@ -45,6 +54,7 @@ pub struct Settings<'a> {
     pub limits: Limits,
     pub workers: Workers,
     pub out: &'a str,
+    pub detail: Detail,
 }
 
 /// The paths that a verification wants.
@@ -87,7 +97,7 @@ pub struct Terms<'a> {
 }
 
 /// What a verification begins with: the allocator, the trusted state, the moment, the limits, the
-/// number of workers, and the path of the file for the new state.
+/// number of workers, the path of the file for the new state, and what is printed of a stop.
 #[derive(Drop)]
 pub struct Start<'a> {
     pub alloc: Global,
@@ -96,6 +106,7 @@ pub struct Start<'a> {
     pub limits: Limits,
     pub workers: Workers,
     pub state: &'a str,
+    pub detail: Detail,
 }
 
 impl Start<'_> {
@@ -133,6 +144,7 @@ pub fn begin<'a, S: System>(
         limits: settings.limits,
         workers: settings.workers,
         state: settings.out,
+        detail: settings.detail,
     })
 }
 

@@ -17,6 +17,7 @@ use cycle::{Gate, Threading, Watch};
 use failure::Failure;
 use folder::Folder;
 use measured::{Readers, close};
+use report::Told;
 use std::alloc::Global;
 use std::io::Write;
 use std::sync::Wait;
@@ -96,6 +97,7 @@ impl<S: System, M: Folder, T: Folder + Sync, W: Write> Host<S, Folders<M, T>, W>
             course,
             names,
             listed,
+            why,
         } = followed;
         let readers = Readers {
             rt: threading.rt,
@@ -104,6 +106,6 @@ impl<S: System, M: Folder, T: Folder + Sync, W: Write> Host<S, Folders<M, T>, W>
         let outcome = close(&readers, alloc, course, &mut self.folders.targets, names)?;
         let paths = wanted.paths(listed.as_slice());
         keep_state(alloc, &mut self.system, start.state, outcome.trusted())?;
-        tell_outcome(alloc, &outcome, paths, &mut self.out)
+        tell_outcome(alloc, &Told { outcome, why }, paths, &mut self.out)
     }
 }

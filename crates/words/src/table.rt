@@ -29,6 +29,7 @@ pub const VERIFY: &[Argument] = &[
     NULL,
     EVERY,
     INTO,
+    WHY,
     PROGRESS,
     Argument {
         name: "out",
@@ -48,6 +49,7 @@ pub const REPLAY: &[Argument] = &[
     KEEP,
     PATHS_FROM,
     NULL,
+    WHY,
     PROGRESS,
     Argument {
         name: "out",
@@ -252,6 +254,15 @@ const INTO: Argument = Argument {
     name: "into",
     form: Form::Value("DIR"),
     help: "The folder below which each accepted target is copied, under its path",
+};
+
+const WHY: Argument = Argument {
+    name: "why",
+    form: Form::Switch {
+        needs: &[],
+        conflicts: &[],
+    },
+    help: "Print why an update stopped: the file, and what was compared",
 };
 
 const PROGRESS: Argument = Argument {

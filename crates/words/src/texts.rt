@@ -58,6 +58,8 @@ The trusted state is locked until the run has ended; another run with it waits. 
 locked is an error, unless there is --unlocked.
 Workers check signatures in advance, and then digest the target files. For them at most 4 MB of
 metadata are read twice. Lines, state and status are the same for any number of workers.
+With --why a line `end STEP FAULT` is followed by lines that begin with `why`: the file that was
+refused, and what the check compared that it failed. Nothing else changes.
 With --progress it also prints to standard error, at most once a second,
   tufcheck: N files read, N signatures checked, N of N bytes digested
 
@@ -82,7 +84,8 @@ is verified in order, from the state of the one before and at one moment. It wri
 even if an update stopped, and then prints for each DIR, from 1,
   cycle K
 and the lines of `verify`. What it caches changes no line. The paths of --paths-from come after
-PATH, as for `verify`. --progress prints the lines of `verify` --progress, for all DIR together.
+PATH, and --why prints its lines, as for `verify`. --progress prints the lines of `verify`
+--progress, for all DIR together.
 
 EXAMPLES:
   tufcheck replay --state state --out state abc.txt monday tuesday wednesday
