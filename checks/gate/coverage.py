@@ -136,7 +136,7 @@ def main():
     every, missing, page = "--all" in sys.argv[1:], [], PAGE.read_text()
     for line in (TOP / "crates.txt").read_text().split("\n"):
         name = re.match(r"\w*", line)[0]
-        if not name or not (TOP / "checks" / "bodies" / name).is_dir():
+        if not name:
             continue
         crate = Crate(TOP / "crates" / name)
         gate = list(crate.edits(crate.folder / "must-fail"))
