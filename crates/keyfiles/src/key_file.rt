@@ -1,6 +1,7 @@
 //! Key files.
 
-ghost use Rattle.std.specs.Prelude.{◌≡◌, ◌++◌, List, ℕ, IfOk, IfSome};
+ghost use Rattle.std.specs.Prelude.{◌≡◌, ◌↔◌, ◌++◌, List, ℕ, IfOk, IfSome, IsSome, length, take};
+ghost use Rattle.lms.specs.Lms.{IsPublic};
 
 use crate::paths::KeyPaths;
 use crate::plain::{open_plain, read_file};
@@ -29,9 +30,11 @@ pub fn secret_text(alloc: Global, secret: &SecretFile) -> Result<Vec<u8>, AllocE
     Ok(text)
 }
 
-/// Returns what the key file with these 88 bytes has, or None if it isn't one.
+/// Returns what the key file with these bytes has: a public key of a supported kind, and the
+/// secret. Returns None if they aren't 88, or don't begin with such a key.
 pub fn read_secret(bytes: &[u8]) -> Option<SecretFile>
     ensures text { IfSome result (λ s. bytes.now ≡ s.public ++ s.seed) }
+    ensures form { IsSome result ↔ ((length bytes.now ≡ 88) × IsPublic (take 56 bytes.now)) }
 {
     if bytes.len() != 88 {
         return None;

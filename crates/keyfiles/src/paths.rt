@@ -1,5 +1,8 @@
 //! Where the files of a key are.
 
+ghost use Rattle.std.specs.Prelude.{◌≡◌, ◌++◌, IfOk, codes, string_bytes};
+ghost use Rattle.keyfiles.specs.Folders.{IsFolderOf};
+
 use std::alloc::{AllocError, Global};
 
 /// Where the files of a key are: all of them beside the key file.
@@ -21,23 +24,33 @@ pub struct KeyPaths {
 
 impl KeyPaths {
     /// Returns the paths of the key whose key file has that path. Fails only if out of memory.
-    pub fn of(alloc: Global, key: &str) -> Result<KeyPaths, AllocError> {
+    pub fn of(alloc: Global, key: &str) -> Result<KeyPaths, AllocError>
+        ensures key { IfOk result (λ p. string_bytes p.key ≡ key.now) }
+        ensures leaves { IfOk result (λ p. string_bytes p.leaves ≡ key.now ++ codes ".leaves") }
+        ensures new { IfOk result (λ p. string_bytes p.new ≡ key.now ++ codes ".leaves.new") }
+        ensures tree { IfOk result (λ p. string_bytes p.tree ≡ key.now ++ codes ".tree") }
+        ensures object { IfOk result (λ p. string_bytes p.object ≡ key.now ++ codes ".json") }
+        ensures folder { IfOk result (λ p. IsFolderOf key.now (string_bytes p.folder)) }
+    {
         Ok(KeyPaths {
             key: String::from_str(alloc, key)?,
             leaves: format!(in alloc; "{key}.leaves")?,
             new: format!(in alloc; "{key}.leaves.new")?,
             tree: format!(in alloc; "{key}.tree")?,
             object: format!(in alloc; "{key}.json")?,
-            folder: folder_of(alloc, key)?,
+            folder: String::from_str(alloc, folder_of(key))?,
         })
     }
 }
 
 /// Returns the folder that has the file.
-fn folder_of(alloc: Global, path: &str) -> Result<String, AllocError> {
+#[tactic(auto, using(crate::proofs::Slashes::in_current))]
+fn folder_of(path: &str) -> &str
+    ensures folder { IsFolderOf path.now result.now }
+{
     match path.rsplit_once('/') {
-        Some(("", _)) => String::from_str(alloc, "/"),
-        Some((folder, _)) => String::from_str(alloc, folder),
-        None => String::from_str(alloc, "."),
+        Some((folder, _)) if folder.is_empty() => "/",
+        Some((folder, _)) => folder,
+        None => ".",
     }
 }

@@ -1,6 +1,6 @@
 //! The leaves' values of a tree, kept in a file.
 
-ghost use Rattle.std.specs.Prelude.{◌≡◌, IfOk};
+ghost use Rattle.std.specs.Prelude.{◌≡◌, IfOk, flat_map};
 
 use crate::key_file::SecretFile;
 use crate::paths::KeyPaths;
@@ -13,12 +13,10 @@ use std::io;
 const VALUES_MOST: u64 = 1_048_576;
 
 /// Returns the values one after the other. Fails only if out of memory.
-pub fn values_text(alloc: Global, values: &[[u8; 32]]) -> Result<Vec<u8>, AllocError> {
-    let mut text = Vec::new(alloc);
-    for value in values {
-        text.extend_from_slice(value)?;
-    }
-    Ok(text)
+pub fn values_text(alloc: Global, values: &[[u8; 32]]) -> Result<Vec<u8>, AllocError>
+    ensures text { IfOk result (λ text. text.items ≡ flat_map (λ v. v) values.now) }
+{
+    Vec::from_slice(alloc, values.as_flattened())
 }
 
 /// Returns the values in a file. What is left of it behind the last is ignored.
@@ -41,6 +39,7 @@ pub fn stored_secret(
     secret: &SecretFile,
 ) -> io::Result<Result<StoredSecret, StoredFault>>
     ensures key { IfOk result (λ made. IfOk made (λ k. k.public ≡ secret.now.public)) }
+    ensures unused { IfOk result (λ made. IfOk made (λ k. k.used ≡ 0)) }
 {
     let text = read_plain(rt, alloc, paths.tree.as_str(), VALUES_MOST)?;
     let values = values_of(alloc, &text)?;
