@@ -44,6 +44,8 @@ impl<'a> Calls for KeyDisk<'a> {
 
     ghost records = { λ _ _. true };
 
+    ghost gives = { λ _ _. true };
+
     fn read(&mut self, alloc: Global) -> io::Result<Option<Vec<u8>>> {
         match read_plain(self.rt, alloc, self.paths.leaves.as_str(), RECORD) {
             Ok(text) => Ok(Some(text)),

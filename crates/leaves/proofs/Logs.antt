@@ -1,13 +1,13 @@
 -- Logs, one event more.
-use Rattle.std.proofs.Common.{◌≡◌, ◌∙◌, ℕ, ◌+◌, ◌≤◌, List, [], ◌∷◌, ◌++◌, length, take, Option, Some, None, true, subst, ap, inl, inr, refl, arith}
-use Rattle.std.specs.Prelude.{Vec}
+use Rattle.std.proofs.Common.{◌≡◌, ◌∙◌, ℕ, ◌+◌, ◌≤◌, List, [], ◌∷◌, ◌++◌, length, take, Option, Some, None, true, subst, sym, ap, inl, inr, refl, arith}
+use Rattle.std.specs.Prelude.{Vec, Result, Ok, Err, OnErr}
 use Rattle.std.specs.declared.alloc.Global.{Global}
-use Rattle.std.proofs.lemmas.Bool.{or_cases, cases_lt}
+use Rattle.std.proofs.lemmas.Bool.{or_cases, or_left, cases_lt}
 use Rattle.std.proofs.lemmas.List.{take_all, take-append-le, length-append}
 use Rattle.std.proofs.lemmas.List.Sums.{fold-append}
 use Rattle.std.proofs.lemmas.Slice.Eq.{bytes_eq-Decides}
-use Rattle.leaves.specs.Disk.{Left, Passes, IsStoring, LeavesOnly}
-use Rattle.leaves.specs.Log.{after, happens, is_possible}
+use Rattle.leaves.specs.Disk.{Left, Passes, HasNoMore, IsStoring, LeavesOnly}
+use Rattle.leaves.specs.Log.{after, after_all, happens, is_possible}
 use Rattle.leaves.specs.declared.log.Event.{Event}
 use Rattle.leaves.specs.declared.log.Event.TheVariants.{Storing, Stored}
 use Rattle.leaves.proofs.Passing.{goes_on}
@@ -86,3 +86,15 @@ pub only_stored : (text : List ℕ) (mid new : List Event) (w : Vec ℕ Global) 
 only_stored text mid new w is f file may =
     let end : after (take (length new) new) ≡ happens (after mid) (Stored w) = at_length new ∙ ap after f ∙ after_more mid (Stored w) in
     is_of w.items file (subst (λ a. a.may_leave file ≡ true) end may) ∙ ap Some is
+
+-- what was possible is, once a text is noted
+pub still_possible : (log new : List Event) (v : Vec ℕ Global) → new ≡ log ++ Storing v ∷ [] → HasNoMore (after_all new) (after_all log)
+still_possible log new v is file may =
+    let end : after_all new ≡ happens (after log) (Storing v) = at_length new ∙ ap after is ∙ after_more log (Storing v) in
+    let was : (after log).may_leave file ≡ true = subst (λ a. a.may_leave file ≡ true) (at_length log) may in
+    subst (λ a. a.may_leave file ≡ true) (sym end) (or_left ((after log).may_leave file) (is_possible v.items file) was)
+
+-- what holds in any case holds after an error
+pub on_err : {T E P : Type 0} (r : Result T E) → P → OnErr r P
+on_err (Ok x) holds = tt
+on_err (Err e) holds = holds

@@ -1,5 +1,5 @@
 -- What a crash leaves after some events.
-use Rattle.std.specs.Prelude.{◌≡◌, ◌||◌, ◌++◌, List, [], ◌∷◌, ℕ, Option, Some, None, Vec, Bool, true, false, bytes_eq, fold}
+use Rattle.std.specs.Prelude.{◌≡◌, ◌||◌, ◌++◌, List, [], ◌∷◌, ℕ, Option, Some, None, Vec, Bool, true, false, bytes_eq, fold, length, take}
 use Rattle.std.specs.declared.alloc.Global.{Global}
 use Rattle.leaves.specs.Disk.{Left}
 use Rattle.leaves.specs.declared.log.Event.{Event}
@@ -22,6 +22,13 @@ happens a (Handing sig) = record { may_leave = a.may_leave; given = a.given ++ s
 -- before them any file is possible, and none may be there
 abbrev pub after : List Event → Left
 after events = fold happens (record { may_leave = λ file. true; given = [] }) events
+
+-- the first t of them, and all
+abbrev pub after_first : List Event → ℕ → Left
+after_first events t = after (take t events)
+
+abbrev pub after_all : List Event → Left
+after_all events = after_first events (length events)
 
 -- # What is noted.
 

@@ -1,5 +1,5 @@
 -- Leaves while they are reserved and used.
-use Rattle.std.specs.Prelude.{◌≡◌, ◌≢◌, ◌+◌, ◌<◌, ◌≤◌, ◌++◌, ℕ, List, Option, Some, None, Vec, IsTrue, true, All, map}
+use Rattle.std.specs.Prelude.{◌≡◌, ◌≢◌, ◌+◌, ◌<◌, ◌≤◌, ◌++◌, ◌⊎◌, ℕ, List, Option, Some, None, Vec, IsTrue, true, All, map}
 use Rattle.std.specs.List.{AllZip}
 use Rattle.std.specs.declared.alloc.Global.{Global}
 use Rattle.lms.specs.Lms.{is_valid}
@@ -32,6 +32,11 @@ pub record Reserves (public : List ℕ) (leaves n : ℕ) (a b : Left) : Type 0 w
 -- a file that may be there isn't one of the key
 abbrev pub MayBeForeign : List ℕ → Left → Type 0
 MayBeForeign public a = (text : List ℕ) × (a.may_leave (Some text) ≡ true) × (reserved_of public text ≡ None)
+
+-- the file may be missing, or one of the key
+abbrev pub MayBeOwn : List ℕ → Left → Type 0
+MayBeOwn public a = (a.may_leave None ≡ true)
+    ⊎ ((text : List ℕ) × (n : ℕ) × (a.may_leave (Some text) ≡ true) × (reserved_of public text ≡ Some n))
 
 -- a file that may be there leaves fewer than n of the key's leaves
 abbrev pub MayHaveFewer : List ℕ → ℕ → ℕ → Left → Type 0

@@ -2,7 +2,9 @@
 
 ghost use Rattle.std.specs.Prelude.{◌≡◌, [], ◌∷◌, ◌++◌, List, ℕ, Bool, true, length, take};
 ghost use Rattle.std.specs.Prelude.{OnErr, OnOk, option_map};
-ghost use Rattle.leaves.specs.Log.{after, is_possible, EndsHanding, EndsStoring, Notes};
+ghost use Rattle.leaves.specs.Disk.{HasNoMore, IsHanding, IsStoring, LeavesOnly, Passes};
+ghost use Rattle.leaves.specs.Log.{after, after_all, after_first, is_possible};
+ghost use Rattle.leaves.specs.Log.{EndsHanding, EndsStoring, Notes};
 ghost use Rattle.leaves.specs.declared.log.Event.TheVariants as event;
 
 use crate::disk::Disk;
@@ -26,6 +28,9 @@ pub trait Calls {
 
     /// Whether the log on another device, if there is one, has the text.
     ghost records: { Self → List ℕ → Bool };
+
+    /// Whether the signature was handed out, whole.
+    ghost gives: { Self → List ℕ → Bool };
 
     /// Reads the leaves file, or returns None if it is missing.
     fn read(&mut self, alloc: Global) -> io::Result<Option<Vec<u8>>>;
@@ -59,7 +64,8 @@ pub trait Calls {
 
     /// Hands out a signature. That was noted before.
     fn hand(&mut self, sig: &[u8], noted: &[Event]) -> io::Result<()>
-        requires noted { EndsHanding sig.now noted.now };
+        requires noted { EndsHanding sig.now noted.now }
+        ensures given { OnOk result (gives self.new sig.now ≡ true) };
 }
 
 /// What a crash may leave from now on.
@@ -156,7 +162,16 @@ impl<C: Calls> Disk for Logged<C> {
         Ok(file)
     }
 
-    fn store(&mut self, text: &[u8]) -> io::Result<()> {
+    fn store(&mut self, text: &[u8]) -> io::Result<()>
+        ensures stored { OnOk result (LeavesOnly (after_all self.new.log.items) text.now) }
+        ensures time { Passes (length self.old.log.items) (length self.new.log.items)
+            (after_first self.old.log.items) (after_first self.new.log.items)
+            (IsStoring text.now) }
+        ensures kept { OnOk result (C.keeps self.new.calls text.now ≡ true) }
+        ensures recorded { OnOk result (C.records self.new.calls text.now ≡ true) }
+        ensures unsure { OnErr result
+            (HasNoMore (after_all self.new.log.items) (after_all self.old.log.items)) }
+    {
         self.calls.write_new(text)?;
         self.calls.flush_new()?;
         self.log.push(Event::Storing(text.to_vec(self.alloc)?))?;
@@ -166,7 +181,14 @@ impl<C: Calls> Disk for Logged<C> {
         Ok(note_stored(self.alloc, &mut self.log, &self.calls, text)?)
     }
 
-    fn hand(&mut self, sig: &[u8]) -> io::Result<()> {
+    fn hand(&mut self, sig: &[u8]) -> io::Result<()>
+        ensures handed { OnOk result ((after_all self.new.log.items).given
+            ≡ (after_all self.old.log.items).given ++ sig.now ∷ []) }
+        ensures time { Passes (length self.old.log.items) (length self.new.log.items)
+            (after_first self.old.log.items) (after_first self.new.log.items)
+            (IsHanding sig.now) }
+        ensures given { OnOk result (C.gives self.new.calls sig.now ≡ true) }
+    {
         self.log.push(Event::Handing(sig.to_vec(self.alloc)?))?;
         self.calls.hand(sig, &self.log)
     }

@@ -3,7 +3,8 @@
 ghost use Rattle.std.specs.Prelude.{◌≡◌, ◌+◌, ◌<◌, ◌≤◌, ℕ, List, Some, None, true, IfOk, OnOk};
 ghost use Rattle.leaves.specs.Disk.{IsQuiet, Passes};
 ghost use Rattle.leaves.specs.Runs.{IsReserved, IsRun};
-ghost use Rattle.leaves.specs.Reserved.{HasReserved, IsReserving, MayBeForeign, MayHaveFewer};
+ghost use Rattle.leaves.specs.Reserved.{HasReserved, IsReserving};
+ghost use Rattle.leaves.specs.Reserved.{MayBeForeign, MayBeOwn, MayHaveFewer};
 
 use crate::disk::Disk;
 use crate::fault::LeavesFault;
@@ -82,6 +83,7 @@ fn bound<D: Disk>(alloc: Global, disk: &mut D, public: &Public) -> Result<u32, L
         (D.left_at disk.new) IsQuiet }
     ensures bound { IfOk result (λ n. (q : ℕ)
         → IsReserved public.now (D.left_at disk.old (D.moment disk.old)) q → q < n) }
+    ensures own { OnOk result (MayBeOwn public.now (D.left_at disk.old (D.moment disk.old))) }
     ensures foreign { result ≡ Err LeavesFault.Foreign
         → MayBeForeign public.now (D.left_at disk.old (D.moment disk.old)) }
 {
@@ -114,6 +116,7 @@ pub fn restore<D: Disk>(
     ensures known { IfOk result (λ n. known + gap ≤ n) }
     ensures file { IfOk result (λ n. (q : ℕ)
         → IsReserved public.now (D.left_at disk.old (D.moment disk.old)) q → q + gap < n) }
+    ensures own { OnOk result (MayBeOwn public.now (D.left_at disk.old (D.moment disk.old))) }
     ensures foreign { result ≡ Err LeavesFault.Foreign
         → MayBeForeign public.now (D.left_at disk.old (D.moment disk.old)) }
 {

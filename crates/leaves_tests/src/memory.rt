@@ -75,6 +75,8 @@ impl Calls for Memory {
 
     ghost records = { λ _ _. true };
 
+    ghost gives = { λ _ _. true };
+
     fn read(&mut self, alloc: Global) -> io::Result<Option<Vec<u8>>> {
         self.count().1?;
         match &self.file {
