@@ -1,6 +1,9 @@
 //! Why a run ends early.
 
-ghost use Rattle.std.specs.Prelude.{◌≡◌, ◌⊎◌};
+ghost use Rattle.std.specs.Prelude.{◌≡◌, ◌≢◌, ◌↔◌, ◌⊎◌, true};
+ghost use Rattle.std.specs.IoError.{error_kind};
+ghost use Rattle.lmskey.specs.Statuses.{is_callers, is_leaves, is_of_leaves};
+ghost use Rattle.lmskey.specs.declared.fault.RunFault.TheVariants as run;
 
 use leaves::LeavesFault;
 use std::alloc::{AllocError, AllocFailed};
@@ -46,6 +49,8 @@ impl RunFault {
     /// Returns the exit status: 1 if the leaves file keeps the key from signing, 3 for a usage
     /// error, 4 for a system error.
     pub fn status(self) -> u8
+        ensures leaves { (result ≡ 1) ↔ (is_leaves self ≡ true) }
+        ensures caller { (result ≡ 3) ↔ (is_callers self ≡ true) }
         ensures known { (result ≡ 1) ⊎ ((result ≡ 3) ⊎ (result ≡ 4)) }
     {
         match self {
@@ -58,7 +63,9 @@ impl RunFault {
 }
 
 fn status_of(fault: LeavesFault) -> u8
-    ensures { (result ≡ 1) ⊎ ((result ≡ 3) ⊎ (result ≡ 4)) }
+    ensures leaves { (result ≡ 1) ↔ (is_of_leaves fault ≡ true) }
+    ensures caller { (result ≡ 3) ↔ (fault ≡ LeavesFault.Key) }
+    ensures known { (result ≡ 1) ⊎ ((result ≡ 3) ⊎ (result ≡ 4)) }
 {
     match fault {
         LeavesFault::Missing | LeavesFault::Exists => 1,
@@ -69,25 +76,34 @@ fn status_of(fault: LeavesFault) -> u8
 }
 
 impl From<AllocError> for RunFault {
+    ghost from_gives = { λ _ f. f ≡ run.Memory };
+
     fn from(_refused: AllocError) -> RunFault {
         RunFault::Memory
     }
 }
 
 impl<T: Drop> From<AllocFailed<T>> for RunFault {
+    ghost from_gives = { λ _ f. f ≡ run.Memory };
+
     fn from(_refused: AllocFailed<T>) -> RunFault {
         RunFault::Memory
     }
 }
 
 impl From<LeavesFault> for RunFault {
+    ghost from_gives = { λ e f. f ≡ run.Leaves e };
+
     fn from(fault: LeavesFault) -> RunFault {
         RunFault::Leaves(fault)
     }
 }
 
 /// Returns the fault for an error of a file: `Memory` if it was out of memory, else `other`.
-pub fn of_io(error: &io::Error, other: RunFault) -> RunFault {
+pub fn of_io(error: &io::Error, other: RunFault) -> RunFault
+    ensures memory { error_kind error.now ≡ ErrorKind.OutOfMemory → result ≡ RunFault.Memory }
+    ensures other { error_kind error.now ≢ ErrorKind.OutOfMemory → result ≡ other }
+{
     if error.kind() == ErrorKind::OutOfMemory {
         RunFault::Memory
     } else {

@@ -1,5 +1,8 @@
 //! Leaves files that are made again from a log.
 
+ghost use Rattle.std.specs.Prelude.{IfNone, IfSome};
+ghost use Rattle.lmskey.specs.Records.{AreWithin, HasOther, count_of};
+
 use crate::fault::{RunFault, of_io};
 use crate::printing::put;
 use crate::run::{Run, public_of};
@@ -37,10 +40,13 @@ fn last_in_log(run: &Run<'_>, public: &Public) -> Result<u32, RunFault> {
 
 /// Returns the greatest number of the records, of 60 bytes each, or None if one isn't of this key.
 /// What is left at the end is no record.
-fn greatest(log: &[u8], public: &Public) -> Option<u32> {
+fn greatest(log: &[u8], public: &Public) -> Option<u32>
+    ensures most { IfSome result (λ n. AreWithin public.now log.now n (count_of log.now)) }
+    ensures other { IfNone result (HasOther public.now log.now) }
+{
     let mut greatest = 0u32;
-    for record in log.chunks_exact(60) {
-        greatest = greatest.max(reserved_of(record, public)?);
+    'records: for k in 0..log.len() / 60 {
+        greatest = greatest.max(reserved_of(&log[60 * k..60 * k + 60], public)?);
     }
     Some(greatest)
 }
