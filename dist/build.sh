@@ -6,7 +6,7 @@
 #   dist/build.sh [FOLDER]      dist/out/build unless given
 #
 # Each build is `rt run` in crates/tufcheck and crates/lmskey and `rt lib` in crates/tufcheck_c, so each is proved, in a copy
-# of the files that git knows. Unless one of them differs from the commit, `--version` names it. In the second copy the number
+# of the files that git knows, on all processors. Unless one of them differs from the commit, `--version` names it. In the second copy the number
 # of lanes is 8, and what the first one kept is there: so only what that number changes is proved. With nothing kept it takes
 # as long as the gate's proofs. FOLDER then has `tufcheck`, the release's program; each build alone, `tufcheck-v2` and
 # `tufcheck-v3`, and `tufcheck-own`, which Rattle's own compiler made of the second, for dist/halves.sh; `lmskey`; and the
@@ -17,12 +17,13 @@ export LC_ALL=C
 top=$(cd "$(dirname "$0")/.." && pwd)
 out=$(realpath -m "${1:-$top/dist/out/build}")
 kit=$(dirname "$(rt doc)")
+jobs=$(nproc)
 work=$(mktemp -d)
 trap 'rm -rf "$work"' EXIT
 
 # made CRATE RT..: runs rt in a crate's folder
 made() {
-    (cd "$1" && shift && rt "$@" > "$work/lines" 2>&1) || { tail -5 "$work/lines" >&2; return 1; }
+    (cd "$1" && shift && rt "$@" --jobs "$jobs" > "$work/lines" 2>&1) || { tail -5 "$work/lines" >&2; return 1; }
 }
 
 # built ROOT NAME FLAG..: builds the library and the program of the files below ROOT, and takes the program's object with
