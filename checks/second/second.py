@@ -110,6 +110,11 @@ class History:
             ids = self.draw.choice([[*MANY, *ids], [*ids, *MANY]])
         return {"keyids": ids, "threshold": self.draw.randint(1, most)}
 
+    def as_before(self, name):
+        """A role as the root before has it, or with its ids in another order."""
+        role = self.last["roles"][name]
+        return {**role, "keyids": role["keyids"][::-1]} if self.chance(0.3) else role
+
     def ring(self, *many):
         ring = {key.id: key.object for keys in many for key in keys}
         return {**ring, **STRANGE} if self.chance(0.8) else ring
@@ -272,9 +277,10 @@ class History:
         roles = {}
         for name in reading.KINDS:
             keys = self.keys[name] if self.last and self.chance(0.6) else self.some_keys()
-            roles[name] = keys, self.role(keys) if not self.last or self.chance(0.7) else self.last["roles"][name]
+            roles[name] = keys, self.role(keys) if not self.last or self.chance(0.7) else self.as_before(name)
         keys = {name: it[0] for name, it in roles.items()}
-        part = {**self.part("root", "root"), "version": number, "roles": {name: it[1] for name, it in roles.items()},
+        version = number + 1 if self.chance(0.03) else number
+        part = {**self.part("root", "root"), "version": version, "roles": {name: it[1] for name, it in roles.items()},
                 "keys": self.ring(*keys.values()), "consistent_snapshot": self.chance(0.5)}
         for name, it in roles.items():
             if not {*it[1]["keyids"]} <= {*part["keys"], *STRANGE, *UNKNOWN, *MANY}:
