@@ -428,7 +428,7 @@ for name, change in CHANGES.items():
 
 def copies_left_alone(room):
     """A second run over an unchanged mirror writes, flushes and renames no copy, and keeps its mode. What a killed run left
-    is removed."""
+    is removed, and the folders of copies are flushed then, but not in a third run."""
     if not shutil.which("strace"):
         raise NotTried("strace is missing")
     room.make("repo", PIECES)
@@ -444,6 +444,9 @@ def copies_left_alone(room):
         raise NotTried(ran.error.strip())
     need(ran.status == 0 and ran.lines.count("ok ") == len(PIECES), ran)
     out = re.escape(os.path.realpath(room.at("out")))
+    folders = re.compile(rf"f\w*sync\(\d+<({out}(?:/d|/d/e)?)>")
+    flushed = lambda: set(folders.findall(room.read("trace").decode()))
+    need(len(flushed()) == 3, f"a killed run may have moved copies, and these folders alone were flushed: {flushed()}")
     files = "|".join(map(re.escape, PIECES))
     touched = re.compile(rf"(?:write|f\w*sync)\(\d+<{out}/(?:{files})>|rename.*\bout/|O_(?:WRONLY|RDWR|CREAT|TRUNC).*\bout/(?:{files})")
     made = [line for line in room.read("trace").decode().splitlines() if touched.search(line)]
@@ -453,6 +456,8 @@ def copies_left_alone(room):
         need((now.st_ino, now.st_mtime_ns, now.st_mode) == (was.st_ino, was.st_mtime_ns, was.st_mode), f"{path} was written")
         need(room.read(f"out/{path}") == PIECES[path], f"{path} has other bytes")
     need(not left(room), f"{left(room)} is left")
+    ran = Ran(traced, room.path, ASAN_OPTIONS="detect_leaks=0")
+    need(ran.status == 0 and not flushed(), f"folders in which all copies stayed were flushed: {flushed()}, {ran}")
 
 
 attack("folder/unchanged-copies-written")(copies_left_alone)

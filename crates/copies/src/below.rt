@@ -1,13 +1,13 @@
 //! A folder of the file system for copies.
 
-ghost use Rattle.std.specs.Prelude.{◌≡◌, false, is_none, is_some, string_bytes, true};
+ghost use Rattle.std.specs.Prelude.{◌≡◌, [], IfOk, false, is_none, is_some, string_bytes, true};
 ghost use Rattle.std.specs.Option.{option_map_or};
 ghost use Rattle.copies.specs.Open as spec;
 
 use crate::destination::Destination;
-use crate::standing::{Compared, open_plain};
+use crate::standing::Compared;
 use crate::temporary::{Own, own_folder, remove_leftovers};
-use folder::{Sink, path_below};
+use folder::{Sink, open_plain, path_below};
 use std::alloc::{AllocError, Global};
 use std::collections::BTreeSet;
 use std::fs::{self, OpenOptions};
@@ -28,10 +28,16 @@ pub struct Below<'a, R: Files> {
     own: Option<Own<R::File>>,
     /// How many temporary files were made.
     count: u64,
+    /// The folders in which a copy may be moved: those of the paths whose copy isn't known to stay,
+    /// and if there were other runs, those of all paths.
+    changed: Option<BTreeSet<String>>,
     /// Whether the folders of the copies are flushed.
     is_flushed: bool,
     /// Whether the folders that ended runs have left were removed.
     is_cleared: bool,
+    /// Whether there were other runs, which may have moved copies and not flushed their folders, or
+    /// a folder couldn't be noted.
+    had_others: bool,
 }
 
 /// An open file: one that is written, or one that is there and is compared.
@@ -92,28 +98,138 @@ impl<'a, R: Files> Below<'a, R> {
             top: None,
             own: None,
             count: 0,
+            changed: None,
             is_flushed: false,
             is_cleared: false,
+            had_others: false,
+        }
+    }
+
+    /// Returns the lowest folder of the path that was there before this run.
+    fn top(&self) -> &str {
+        let folder = self.folder.as_str();
+        self.top.as_ref().map_or(folder, |top| top.as_str())
+    }
+
+    /// Returns whether a copy may be moved in the folder.
+    fn may_change(&self, folder: &str) -> bool {
+        match &self.changed {
+            Some(changed) => self.had_others || changed.contains(folder),
+            None => self.had_others,
+        }
+    }
+
+    /// Notes that a copy may be moved to the place.
+    fn note(&mut self, alloc: Global, place: &str) -> Result<(), AllocError>
+        ensures folder { self.new.folder ≡ self.old.folder }
+    {
+        let folder = folder_of(place);
+        let mut changed = match self.changed.take() {
+            Some(changed) => changed,
+            None => BTreeSet::new(alloc),
+        };
+        let noted = add_folder(alloc, &mut changed, folder);
+        self.changed = Some(changed);
+        noted
+    }
+
+    /// Returns the folders of the stored copies in which a copy may be moved, and those above them
+    /// up to the lowest one that was there before.
+    fn folders_of(
+        &self,
+        alloc: Global,
+        paths: &[String],
+        stored: &[bool],
+    ) -> Result<BTreeSet<String>, AllocError> {
+        let mut folders = BTreeSet::new(alloc);
+        for (path, is_stored) in paths.iter().zip(stored.iter()) {
+            if *is_stored {
+                let place = path_below(alloc, self.folder.as_str(), path.as_str())?;
+                let folder = folder_of(place.as_str());
+                if self.may_change(folder) {
+                    add_folders(alloc, &mut folders, folder, self.top())?;
+                }
+            }
+        }
+        Ok(folders)
+    }
+
+    /// Returns the folders in which a copy may be moved, and those above them up to the lowest one
+    /// that was there before.
+    fn begun_folders(&self, alloc: Global) -> Result<BTreeSet<String>, AllocError> {
+        let mut folders = BTreeSet::new(alloc);
+        let Some(changed) = &self.changed else {
+            return Ok(folders);
+        };
+        for folder in changed {
+            add_folders(alloc, &mut folders, folder.as_str(), self.top())?;
+        }
+        Ok(folders)
+    }
+
+    /// Flushes the folders in which a copy may have been moved before the run failed: the next run
+    /// finds the copy there, and doesn't flush its folder. Does no more if out of memory.
+    fn flush_begun(&self, alloc: Global) {
+        let Ok(folders) = self.begun_folders(alloc) else {
+            return;
+        };
+        for folder in &folders {
+            let _ = flush_folder(self.rt, folder.as_str());
         }
     }
 }
 
-/// Returns the folders of the stored copies, and those above them up to `top`.
-fn folders_of(
-    alloc: Global,
-    folder: &str,
-    top: &str,
-    paths: &[String],
-    stored: &[bool],
-) -> Result<BTreeSet<String>, AllocError> {
-    let mut folders = BTreeSet::new(alloc);
-    for (path, is_stored) in paths.iter().zip(stored.iter()) {
-        if *is_stored {
-            let place = path_below(alloc, folder, path.as_str())?;
-            add_folders(alloc, &mut folders, folder_of(place.as_str()), top)?;
+impl<'a, R: Files> Below<'a, R>
+where
+    R::File: OwnFile + Compared,
+{
+    /// Removes the folders that ended runs have left, unless that was done.
+    fn clear_leftovers(&mut self, alloc: Global) -> io::Result<()>
+        ensures folder { self.new.folder ≡ self.old.folder }
+    {
+        if self.is_cleared {
+            return Ok(());
+        }
+        self.had_others = remove_leftovers(self.rt, alloc, self.folder.as_str())?;
+        self.is_cleared = true;
+        Ok(())
+    }
+
+    /// Opens the copy at the place, if it is a plain file of that length with this name alone.
+    fn open_there(
+        &self,
+        alloc: Global,
+        place: String,
+        length: u64,
+    ) -> Result<NewFile<R::File>, String>
+        ensures empty { IfOk result (λ file. option_map_or
+            (λ o. spec.took R.File.has R.File.began o []) file.file true ≡ true) }
+    {
+        let mut options = OpenOptions::new();
+        options.read(true);
+        let Ok(mut file) = open_plain(self.rt, place.as_str(), &options) else {
+            return Err(place);
+        };
+        if !matches!(file.may_be(length), Ok(true)) {
+            return Err(place);
+        }
+        Ok(NewFile {
+            alloc,
+            path: place,
+            file: Some(Open::Compared(file)),
+            closed: None,
+            whole: None,
+        })
+    }
+
+    /// Notes that another file may be moved to the place of the copy.
+    fn note_other(&mut self, file: &NewFile<R::File>)
+        ensures folder { self.new.folder ≡ self.old.folder }
+    {
+        if self.note(file.alloc, file.path.as_str()).is_err() {
+            self.had_others = true;
         }
     }
-    Ok(folders)
 }
 
 /// Adds the folder, and those above it up to `top`.
@@ -128,11 +244,23 @@ fn add_folders(
         if folders.contains(folder) {
             return Ok(());
         }
-        folders.insert(String::from_str(alloc, folder)?)?;
+        add_folder(alloc, folders, folder)?;
         if folder == top {
             return Ok(());
         }
         folder = folder_of(folder);
+    }
+    Ok(())
+}
+
+/// Adds the folder, unless it is there.
+fn add_folder(
+    alloc: Global,
+    folders: &mut BTreeSet<String>,
+    folder: &str,
+) -> Result<(), AllocError> {
+    if !folders.contains(folder) {
+        folders.insert(String::from_str(alloc, folder)?)?;
     }
     Ok(())
 }
@@ -167,6 +295,7 @@ where
 
     fn begin(&mut self, alloc: Global) -> io::Result<NewFile<R::File>> {
         if self.own.is_none() {
+            self.clear_leftovers(alloc)?;
             let folder = self.folder.as_str();
             self.top = Some(lowest_there(self.rt, alloc, folder)?);
             self.own = Some(own_folder(self.rt, alloc, folder)?);
@@ -196,24 +325,18 @@ where
         path: &str,
         length: u64,
     ) -> io::Result<Option<NewFile<R::File>>> {
-        if !self.is_cleared {
-            remove_leftovers(self.rt, alloc, self.folder.as_str())?;
-            self.is_cleared = true;
-        }
+        self.clear_leftovers(alloc)?;
         let path = path_below(alloc, self.folder.as_str(), path)?;
-        let Ok(mut file) = open_plain(self.rt, path.as_str()) else {
-            return Ok(None);
-        };
-        if !matches!(file.may_be(length), Ok(true)) {
-            return Ok(None);
+        if self.had_others {
+            self.note(alloc, path.as_str())?;
         }
-        Ok(Some(NewFile {
-            alloc,
-            path,
-            file: Some(Open::Compared(file)),
-            closed: None,
-            whole: None,
-        }))
+        match self.open_there(alloc, path, length) {
+            Ok(file) => Ok(Some(file)),
+            Err(path) => {
+                self.note(alloc, path.as_str())?;
+                Ok(None)
+            }
+        }
     }
 
     fn finish(&mut self, file: &mut NewFile<R::File>) -> io::Result<()> {
@@ -226,9 +349,11 @@ where
 
     fn is_same(&mut self, file: &mut NewFile<R::File>) -> bool {
         let Some(Open::Compared(there)) = file.file.take() else {
+            self.note_other(file);
             return false;
         };
         let Ok(Some(whole)) = there.whole() else {
+            self.note_other(file);
             return false;
         };
         file.closed = None;
@@ -238,14 +363,16 @@ where
 
     fn place_for(&self, alloc: Global, path: &str) -> io::Result<String> {
         let place = path_below(alloc, self.folder.as_str(), path)?;
-        fs::create_dir_all(self.rt, folder_of(place.as_str()))?;
+        let folder = folder_of(place.as_str());
+        // A folder in which all copies stay is there.
+        if self.may_change(folder) {
+            fs::create_dir_all(self.rt, folder)?;
+        }
         Ok(place)
     }
 
     fn flush(&mut self, alloc: Global, paths: &[String], stored: &[bool]) -> io::Result<()> {
-        let folder = self.folder.as_str();
-        let top = self.top.as_ref().map_or(folder, |top| top.as_str());
-        let folders = folders_of(alloc, folder, top, paths, stored)?;
+        let folders = self.folders_of(alloc, paths, stored)?;
         for folder in &folders {
             flush_folder(self.rt, folder.as_str())?;
         }
@@ -258,6 +385,9 @@ where
     }
 
     fn clear(&mut self, alloc: Global) {
+        if !self.is_flushed {
+            self.flush_begun(alloc);
+        }
         if let Some(folder) = self.own.take() {
             folder.remove(self.rt, alloc);
         }

@@ -79,8 +79,8 @@ pub trait Destination {
             → (site self.now).fails ≡ true) };
 
     /// Flushes the folders of the paths whose copy was stored to the device, and those above them
-    /// up to this one; if this one was made, also the one that it is in. `stored` has by position
-    /// whether the copy was.
+    /// up to this one; if this one was made, also the one that it is in. Leaves out those in which
+    /// all copies stayed. `stored` has by position whether the copy was stored.
     fn flush(&mut self, alloc: Global, paths: &[String], stored: &[bool]) -> io::Result<()>
         ensures flushed { OnOk result (is_flushed self.new ≡ true) }
         ensures failed { IfErr result (λ e. error_kind e ≢ ErrorKind.OutOfMemory

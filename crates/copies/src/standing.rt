@@ -4,10 +4,9 @@ ghost use Rattle.std.specs.Prelude.{◌≡◌, ◌++◌, List, [], ℕ, Bool, If
 ghost use Rattle.std.specs.Io.KnownBytes.{Consumes, IsAtEnd};
 
 use std::alloc::Global;
-use std::fs::{self, File, OpenFile};
-use std::io::{self, ErrorKind, Read};
+use std::fs::File;
+use std::io::{self, Read};
 use std::os::unix::fs::MetadataExt;
-use std::rt::Files;
 use system::Closed;
 
 /// An open file that is compared with bytes, one piece after another.
@@ -82,20 +81,4 @@ fn is_at_end<R: Read>(reader: &mut R) -> io::Result<bool>
 {
     let mut room = [0u8; 1];
     Ok(reader.read(&mut room)? == 0)
-}
-
-/// Opens the plain file of that path for reading. Fails if there is a link or no plain file, also
-/// if it took the place of one only just now.
-pub(crate) fn open_plain<R: Files>(rt: &R, path: &str) -> io::Result<R::File> {
-    let there = fs::symlink_metadata(rt, path)?;
-    if !there.is_file() {
-        return Err(io::Error::from(ErrorKind::InvalidInput));
-    }
-    let file = fs::open(rt, path)?;
-    let open = file.metadata()?;
-    if open.dev() == there.dev() && open.ino() == there.ino() {
-        Ok(file)
-    } else {
-        Err(io::Error::from(ErrorKind::InvalidInput))
-    }
 }

@@ -41,14 +41,12 @@ impl<F: Drop> Own<F> {
     }
 }
 
-/// Makes and locks the folder, under the first name below `folder` that is free. Removes those that
-/// ended runs have left.
+/// Makes and locks the folder, under the first name below `folder` that is free.
 pub(crate) fn own_folder<R: Files>(rt: &R, alloc: Global, folder: &str) -> io::Result<Own<R::File>>
 where
     R::File: OwnFile,
 {
     fs::create_dir_all(rt, folder)?;
-    remove_leftovers(rt, alloc, folder)?;
     for number in 1..=NAMES {
         let path = path_of(alloc, folder, number)?;
         match DirBuilder::new().mode(OWNERS).create(rt, path.as_str()) {
@@ -102,24 +100,24 @@ where
     Ok(Some(file))
 }
 
-/// Removes the folders of runs that have ended.
-pub(crate) fn remove_leftovers<R: Files>(rt: &R, alloc: Global, folder: &str) -> io::Result<()>
+/// Removes the folders of runs that have ended. Returns whether there was one, or one of a run that
+/// lasts, or anything else that has the name of one.
+pub(crate) fn remove_leftovers<R: Files>(rt: &R, alloc: Global, folder: &str) -> io::Result<bool>
 where
     R::File: OwnFile,
 {
     let mut free = 0u32;
+    let mut found = false;
     for number in 1..=NAMES {
         if free >= FREE {
-            return Ok(());
+            return Ok(found);
         }
         let path = path_of(alloc, folder, number)?;
-        free = if remove_left(rt, alloc, path.as_str()) {
-            free.saturating_add(1)
-        } else {
-            0
-        };
+        let is_free = remove_left(rt, alloc, path.as_str());
+        found = found || !is_free;
+        free = if is_free { free.saturating_add(1) } else { 0 };
     }
-    Ok(())
+    Ok(found)
 }
 
 /// Removes the folder of that path, if it is one of a run that has ended. Returns whether the path

@@ -10,15 +10,15 @@ ghost use Rattle.folder.specs.Passing.{IsPassedOn};
 use crate::files::{Folder, LoadFault};
 use crate::job::{Done, Job};
 use crate::measure::{Measure, Need};
+use crate::plain::{PlainFile, open_to_read};
 use crate::sink::{Sink, measure_and_pass};
 use crate::start::start_of_reader;
 use crate::stream::Opener;
 use crate::together::measure_jobs;
 use std::alloc::{AllocError, Global};
-use std::fs::{self, OpenFile};
+use std::fs;
 use std::io::{self, ErrorKind};
 use std::marker::Model;
-use std::os::unix::fs::MetadataExt;
 use std::rt::Files;
 
 /// Whether the folders below a folder are read too.
@@ -140,29 +140,13 @@ impl<'a, R: Files + AllocGlobal + Clone + Drop> Folder for Disk<'a, R> {
 }
 
 impl<'a, R: Files> Opener for Disk<'a, R> {
-    type File = R::File;
+    type File = PlainFile<R::File>;
 
     ghost content = { λ _ _. None };
 
-    fn open(&self, alloc: Global, name: &str) -> io::Result<R::File> {
+    fn open(&self, alloc: Global, name: &str) -> io::Result<PlainFile<R::File>> {
         let path = path_below(alloc, self.path.as_str(), name)?;
-        open_plain(self.rt, path.as_str())
-    }
-}
-
-/// Opens the plain file of that path for reading. Fails if there is a link or no plain file, also
-/// if it took the place of one only just now.
-fn open_plain<R: Files>(rt: &R, path: &str) -> io::Result<R::File> {
-    let there = fs::symlink_metadata(rt, path)?;
-    if !there.is_file() {
-        return Err(io::Error::from(ErrorKind::InvalidInput));
-    }
-    let file = fs::open(rt, path)?;
-    let open = file.metadata()?;
-    if open.dev() == there.dev() && open.ino() == there.ino() {
-        Ok(file)
-    } else {
-        Err(io::Error::from(ErrorKind::InvalidInput))
+        open_to_read(self.rt, path.as_str())
     }
 }
 
@@ -170,7 +154,7 @@ fn open_plain<R: Files>(rt: &R, path: &str) -> io::Result<R::File> {
 fn start_of_file<R: Files>(rt: &R, alloc: Global, path: &str, up_to: u64) -> io::Result<Vec<u8>>
     ensures { IfOk result (λ start. length start.items ≤ up_to) }
 {
-    let mut file = open_plain(rt, path)?;
+    let mut file = open_to_read(rt, path)?;
     start_of_reader(alloc, &mut file, up_to)
 }
 
@@ -178,7 +162,7 @@ fn start_of_file<R: Files>(rt: &R, alloc: Global, path: &str, up_to: u64) -> io:
 fn measure_file<R: Files>(rt: &R, alloc: Global, path: &str, need: Need) -> io::Result<Measure>
     ensures { IfOk result (IsMeasure need) }
 {
-    let mut file = open_plain(rt, path)?;
+    let mut file = open_to_read(rt, path)?;
     Measure::of_reader(alloc, need, &mut file)
 }
 
@@ -193,7 +177,7 @@ fn pass_file<R: Files, K: Sink>(
     ensures passed { IfOk result
         (IsPassedOn need (λ _. true) (K.took sink.old) (K.took sink.new)) }
 {
-    let mut file = open_plain(rt, path)?;
+    let mut file = open_to_read(rt, path)?;
     measure_and_pass(alloc, need, &mut file, sink)
 }
 

@@ -9,8 +9,8 @@ use sha2::{Digest, Sha256, Sha512};
 use std::alloc::Global;
 use std::io::{self, ErrorKind, Read};
 
-/// Number of bytes that are read at once.
-pub(crate) const CHUNK: usize = 65_536;
+/// Maximum number of bytes that are read at once.
+const CHUNK: u64 = 65_536;
 
 /// What is wanted of a file.
 #[derive(Clone, Copy, Debug, PartialEq, Eq)]
@@ -53,9 +53,16 @@ impl Measure {
         ensures lost { OnOk result
             (LosesStart need.up_to (R.remaining reader.old) (R.remaining reader.new)) }
     {
-        let mut chunk = Vec::from_elem(alloc, 0u8, CHUNK)?;
+        let mut chunk = Vec::from_elem(alloc, 0u8, piece_for(need))?;
         measure_by(need, reader, chunk.as_mut_slice())
     }
+}
+
+/// Returns how many bytes of a file are read at once: no more than are wanted, but at least one.
+pub(crate) fn piece_for(need: Need) -> usize
+    ensures { 0 < result }
+{
+    need.up_to.min(CHUNK).max(1) as usize
 }
 
 /// Measures what the reader has left, by pieces that fit in `room`.

@@ -3,7 +3,7 @@
 ghost use Rattle.std.specs.Prelude.{◌≡◌, ◌<◌, ◌++◌, List, ℕ, Bool, true, IfOk, OnOk, length};
 ghost use Rattle.folder.specs.Passing.{IsPassedOn, PassesOn};
 
-use crate::measure::{CHUNK, Measure, Measuring, Need};
+use crate::measure::{Measure, Measuring, Need, piece_for};
 use std::alloc::Global;
 use std::io::{self, ErrorKind, Read};
 
@@ -30,7 +30,7 @@ pub(crate) fn measure_and_pass<R: Read, K: Sink>(
     ensures passed { IfOk result
         (IsPassedOn need (λ _. true) (K.took sink.old) (K.took sink.new)) }
 {
-    let mut chunk = Vec::from_elem(alloc, 0u8, CHUNK)?;
+    let mut chunk = Vec::from_elem(alloc, 0u8, piece_for(need))?;
     pass_by(need, reader, chunk.as_mut_slice(), sink)
 }
 
