@@ -1,5 +1,10 @@
 //! What is printed.
 
+ghost use Rattle.std.specs.Prelude.{◌≡◌, ◌++◌, ◌^◌, ℕ, List, OnOk};
+ghost use Rattle.std.specs.Io.KnownBytes.{Appends};
+ghost use Rattle.lms.specs.Lms.{codes, levels};
+ghost use Rattle.lms.specs.declared.kind.Kind.{Kind};
+
 use crate::fault::{RunFault, of_io};
 use lms::Public;
 use signing::{NewKey, make_key};
@@ -7,7 +12,9 @@ use std::alloc::Global;
 use std::io::Write;
 
 /// Writes the whole text. Fails with `Output` or `Memory`.
-pub fn put<W: Write>(out: &mut W, text: &str) -> Result<(), RunFault> {
+pub fn put<W: Write>(out: &mut W, text: &str) -> Result<(), RunFault>
+    ensures written { OnOk result (Appends (W.contents out.old) (W.contents out.new) text.now) }
+{
     match out.write_all(text.as_bytes()) {
         Ok(()) => out.flush().map_err(|error| of_io(&error, RunFault::Output)),
         Err(error) => Err(of_io(&error, RunFault::Output)),
@@ -23,7 +30,11 @@ pub fn object_of(alloc: Global, public: &Public) -> Result<NewKey, RunFault> {
 }
 
 /// Returns how many leaves the key has, by the first type code (RFC 8554 section 5.1).
-pub fn leaf_count(public: &Public) -> u32 {
+#[tactic(auto, using(crate::proofs::Size::h5, crate::proofs::Size::h10, crate::proofs::Size::h15))]
+pub fn leaf_count(public: &Public) -> u32
+    ensures count { (kind : Kind) (rest : List ℕ) → public.now ≡ codes kind ++ rest
+        → result ≡ 2 ^ levels kind.height }
+{
     match public.bytes()[3] {
         5 => 32,
         6 => 1024,
