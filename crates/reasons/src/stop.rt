@@ -4,7 +4,6 @@ ghost use Rattle.std.specs.Prelude.{◌≡◌, ◌+◌, ◌-◌, ◌^◌, ◌<�
 ghost use Rattle.cjson.specs.Tree.{view};
 ghost use Rattle.examine.specs.Checks.{file_in};
 ghost use Rattle.rolechain.specs.Advance as advance;
-ghost use Rattle.rolechain.specs.declared.end.End.TheVariants as end;
 ghost use Rattle.reasons.specs.Reasons.{Explains, fault_of, reason_in};
 ghost use Rattle.reasons.specs.Stops as spec;
 
@@ -34,7 +33,7 @@ pub fn why_stopped(
     // Whatever state such a cycle began with, there is a reason, and it is of this fault.
     ensures reason { (from : advance.State)
         → advance.advanced (file_in context.now.files.now) context.now.moment from
-        ≡ record { state = trusted.now; end = end.Stopped step fault }
+        ≡ advance.stops trusted.now step fault
         → IfOk result (λ o. option_map fault_of o ≡ Some fault) }
 {
     reason_of(stop(context, trusted, step, fault))

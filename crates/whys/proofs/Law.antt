@@ -2,9 +2,14 @@
 use Rattle.std.proofs.Common.{◌≡◌, ◌∙◌, ℕ, List, [], Option, Some, None, option_map, Result, Ok, Err, IfOk, String, string_bytes, ap, sym}
 use Rattle.std.proofs.lemmas.Option.{none-some, same_Some}
 use Rattle.meta.specs.declared.fault.Fault.{Fault}
+use Rattle.moment.specs.Moment.{Moment}
+use Rattle.examine.specs.Checks.{Files}
+use Rattle.rolechain.specs.Advance.{State, advanced, stops}
+use Rattle.rolechain.specs.declared.end.Step.{Step}
 use Rattle.reasons.specs.Reasons.{fault_of}
 use Rattle.reasons.specs.declared.reason.Reason.{Reason}
-use Rattle.whys.specs.Whys.{IsWhy, IsWhyIf, lines_of}
+use Rattle.whys.specs.Places.{stop_place}
+use Rattle.whys.specs.Whys.{IsStopWhy, IsWhy, IsWhyIf, lines_of}
 use Rattle.whys.specs.declared.place.Place.{Place}
 
 pub why_of : (p : Place) (o : Option Reason) (f : Fault) (text : List ℕ) → option_map fault_of o ≡ Some f → text ≡ lines_of p o → IsWhy p f text
@@ -27,3 +32,10 @@ pub why_told_if : {Y E : Type 0} (r : Result (String Y) E) (p q : Place) (o : Op
     → option_map fault_of o ≡ f → IfOk r (λ text. IsWhyIf q f (string_bytes text))
 why_told_if (Ok s) p q o f h same told = why_if q o f (string_bytes s) told (h ∙ ap (λ p. lines_of p o) same)
 why_told_if (Err e) p q o f h same told = tt
+
+-- of each state that such a cycle may have begun with
+pub stop_why : {Y E : Type 0} (r : Result (String Y) E) (files : Files) (now : Moment) (s : State) (at : Step) (f : Fault)
+    → ((from : State) → advanced files now from ≡ stops s at f → IfOk r (λ text. IsWhy (stop_place files s at) f (string_bytes text)))
+    → IfOk r (λ text. IsStopWhy files now s at f (string_bytes text))
+stop_why (Ok text) files now s at f told = told
+stop_why (Err e) files now s at f told = tt

@@ -6,15 +6,15 @@ use Rattle.moment.specs.Moment.{Moment}
 use Rattle.meta.specs.Content.{hashed_name}
 use Rattle.meta.specs.Metadata.{Root, Snapshot}
 use Rattle.meta.specs.declared.targets.Target.{Target}
-use Rattle.examine.specs.Checks.{Files}
-use Rattle.rolechain.specs.Advance.{State}
+use Rattle.examine.specs.Checks.{Files, targets_part}
+use Rattle.rolechain.specs.Advance.{State, advanced, due_targets, stops}
 use Rattle.rolechain.specs.declared.end.Step.{Step}
 use Rattle.meta.specs.declared.fault.Fault.{Fault}
 use Rattle.failure.specs.Failures.{line}
 use Rattle.inout.specs.Moments.{moment_text}
 use Rattle.inout.specs.Quoted.{cut_text}
 use Rattle.folder.specs.declared.measure.Measure.{Measure}
-use Rattle.reasons.specs.Reasons.{By, fault_of, reason_in}
+use Rattle.reasons.specs.Reasons.{By, fault_in, fault_of, reason_in}
 use Rattle.reasons.specs.Stops.{role_stop, stop}
 use Rattle.reasons.specs.Targets.{measure_check}
 use Rattle.reasons.specs.declared.reason.Below.{Below}
@@ -181,3 +181,14 @@ pub record IsWhy (p : Place) (f : Fault) (text : List ℕ) : Type 0 where
 abbrev pub IsWhyIf : Place → Option Fault → List ℕ → Type 0
 IsWhyIf p None text = text ≡ []
 IsWhyIf p (Some f) text = IsWhy p f text
+
+-- the text is that of a reason of the stop, whatever state such a cycle began with
+abbrev pub IsStopWhy : Files → Moment → State → Step → Fault → List ℕ → Type 0
+IsStopWhy files now s at fault text = (from : State)
+    → advanced files now from ≡ stops s at fault → IsWhy (stop_place files s at) fault text
+
+-- it is that of a reason of the fault of a role's file, if there is one
+abbrev pub IsRoleWhy : Files → Moment → Root → Snapshot → List ℕ → By → List ℕ → List ℕ → Type 0
+IsRoleWhy files now top snap name by file text =
+    IsWhyIf (role_place files top snap name by file)
+    (fault_in (targets_part (due_targets top snap name by.ring by.role) files now)) text

@@ -1,9 +1,8 @@
 //! The lines of why the file of a role is refused.
 
 ghost use Rattle.std.specs.Prelude.{◌≡◌, IfOk, string_bytes};
-ghost use Rattle.examine.specs.Checks.{file_in, targets_part};
-ghost use Rattle.rolechain.specs.Advance.{due_targets};
-ghost use Rattle.reasons.specs.Reasons.{by, fault_in};
+ghost use Rattle.examine.specs.Checks.{file_in};
+ghost use Rattle.reasons.specs.Reasons.{by};
 ghost use Rattle.whys.specs.Places.{role_place};
 ghost use Rattle.whys.specs.Whys as spec;
 
@@ -39,11 +38,9 @@ pub fn role_lines(
         name.now (by d.by) d.file.now) }
 
     // They are those of a reason of the workflow's fault, if there is one.
-    ensures fault { let d = delegator.now in IfOk result (λ text. spec.IsWhyIf
-        (role_place (file_in context.now.files.now) root.now snapshot.now name.now (by d.by)
-        d.file.now) (fault_in (targets_part
-        (due_targets root.now snapshot.now name.now d.by.ring.now d.by.role.now)
-        (file_in context.now.files.now) context.now.moment)) (string_bytes text)) }
+    ensures fault { let d = delegator.now in IfOk result (λ text. spec.IsRoleWhy
+        (file_in context.now.files.now) context.now.moment root.now snapshot.now name.now
+        (by d.by) d.file.now (string_bytes text)) }
 {
     let reason = why_role_refused(context, root, snapshot, name, &delegator.by)?;
     let place = role_place(context, root, snapshot, name, delegator)?;

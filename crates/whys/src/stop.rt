@@ -2,8 +2,6 @@
 
 ghost use Rattle.std.specs.Prelude.{◌≡◌, Some, IfOk, string_bytes};
 ghost use Rattle.examine.specs.Checks.{file_in};
-ghost use Rattle.rolechain.specs.Advance as advance;
-ghost use Rattle.rolechain.specs.declared.end.End.TheVariants as end;
 ghost use Rattle.whys.specs.Places.{stop_place};
 ghost use Rattle.whys.specs.Whys as spec;
 
@@ -26,12 +24,9 @@ pub fn stop_lines(
     ensures lines { IfOk result (λ text. string_bytes text ≡ spec.stop_text
         (file_in context.now.files.now) context.now.moment trusted.now step fault) }
 
-    // Whatever state such a cycle began with, they are those of a reason of this fault.
-    ensures reason { (from : advance.State)
-        → advance.advanced (file_in context.now.files.now) context.now.moment from
-        ≡ record { state = trusted.now; end = end.Stopped step fault }
-        → IfOk result (λ text. spec.IsWhy
-        (stop_place (file_in context.now.files.now) trusted.now step) fault (string_bytes text)) }
+    // They are those of a reason of this fault.
+    ensures reason { IfOk result (λ text. spec.IsStopWhy (file_in context.now.files.now)
+        context.now.moment trusted.now step fault (string_bytes text)) }
 {
     let reason = why_stopped(context, trusted, step, fault)?;
     let place = stop_place(context, trusted, step)?;
