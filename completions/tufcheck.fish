@@ -29,7 +29,7 @@ complete -c tufcheck -n '__fish_seen_subcommand_from verify replay next' -l path
 complete -c tufcheck -n '__fish_seen_subcommand_from verify replay next' -l null -d 'Each path of that file ends with NUL'
 complete -c tufcheck -n '__fish_seen_subcommand_from verify' -l every -d 'Each file of the targets folder is wanted'
 complete -c tufcheck -n '__fish_seen_subcommand_from verify' -l into -x -a '(__fish_complete_directories)' -d 'The folder for copies of accepted targets'
-complete -c tufcheck -n '__fish_seen_subcommand_from verify replay' -l why -d 'Print why an update stopped'
+complete -c tufcheck -n '__fish_seen_subcommand_from verify replay' -l why -d 'Print why files are refused'
 complete -c tufcheck -n '__fish_seen_subcommand_from verify replay next' -l progress -d 'Print what was done so far to standard error'
 complete -c tufcheck -n '__fish_seen_subcommand_from next' -l only -x -a 'metadata targets' -d 'The only folder whose files are printed'
 complete -c tufcheck -n '__fish_seen_subcommand_from show' -l before -x -d 'The moment before which no file should expire'

@@ -399,8 +399,8 @@ class Cycle:
     def __init__(self, state, files, targets, now, limit):
         self.state, self.files, self.targets, self.now, self.limit = dict(state), files, targets, now, limit
         self.accepted = {}
-        # The name of the file that is examined, or none if that is a trusted one
-        self.name = None
+        # The name of the file that is examined, none if it is absent or a trusted one, and how many of its bytes are read
+        self.name, self.length = None, 0
 
     def trust(self, kind, file):
         self.state[kind] = file
@@ -415,7 +415,7 @@ class Cycle:
         self.expires(file, "trusted ")
 
     def fetched(self, name, kind):
-        self.name = name
+        self.name, self.length = (name, min(len(self.files[name]), READ)) if name in self.files else (None, 0)
         return fetched(self.files, name, kind)
 
     def by_root(self, kind):
@@ -487,13 +487,13 @@ class Cycle:
             try:
                 step()
             except Refused as fault:
-                return f"{name} {fault}", [*self.file(), *(f"why {line}" for line in fault.why)]
+                return f"{name} {fault}", self.why(fault)
         return None, []
 
-    def file(self):
-        """The line of the file that is examined, if it is there."""
-        there = self.name in self.files
-        return [f"why file {cut(self.name)} {min(len(self.files[self.name]), READ)}"] if there else []
+    def why(self, fault):
+        """The lines of a refusal. The first is that of the file that is examined, if it is there."""
+        file = [f"file {cut(self.name)} {self.length}"] if self.name is not None else []
+        return [f"why {line}" for line in [*file, *fault.why]]
 
     # ---- the search for a path (TUF section 5.6.7)
 
@@ -524,34 +524,48 @@ class Cycle:
         return visit("targets", self.state["targets"]) or "NotFound"
 
     def target(self, path, listed):
-        """The target's bytes."""
+        """The target's bytes. Of a file that is longer than listed one byte more is read, since no other path has it."""
         folder, slash, base = path.rpartition("/")
         known = [listed["hashes"][it] for it in LENGTHS if it in listed["hashes"]]
         names = [f"{folder}{slash}{it}.{base}" for it in known] if self.state["root"]["consistent"] else [path]
-        name = next((it for it in names if it in self.targets), None)
-        ask(name is not None, "Missing")
-        check_content(self.targets[name], listed)
-        return self.targets[name]
+        self.name = next((it for it in names if it in self.targets), None)
+        ask(self.name is not None, "Missing", *(f"absent {cut(it)}" for it in names))
+        content = self.targets[self.name][: listed["length"] + 1]
+        self.length = len(content)
+        check_content(content, listed)
+        return content
 
     def verdict(self, path):
+        """The line of a wanted path, and those that say why its target's file is refused."""
         found = self.search(path)
         if isinstance(found, str):
-            return f"no {quoted(path)} {found}"
+            return f"no {quoted(path)} {found}", []
         try:
-            return f"ok {quoted(path)} {len(self.target(path, found[1]))} {quoted(found[0])}"
+            return f"ok {quoted(path)} {len(self.target(path, found[1]))} {quoted(found[0])}", []
         except Refused as fault:
-            return f"no {quoted(path)} {fault}"
+            return f"no {quoted(path)} {fault}", self.why(fault)
 
 
 def verified(state, files, targets, now, limit, wanted, is_told=False):
     """The new state, the lines, with those of `--why` or without, and the status of a run."""
     cycle = Cycle(state, files, targets, moment(now), limit)
     end, why = cycle.steps()
-    verdicts = [f"no {quoted(path)} NotSearched" if end else cycle.verdict(path) for path in wanted]
+    verdicts = [(f"no {quoted(path)} NotSearched", []) if end else cycle.verdict(path) for path in wanted]
     roles = [f"role {quoted(name)} {cycle.accepted[name]}" for name in sorted(cycle.accepted, key=str.encode)]
-    lines = [f"root {cycle.state['root']['version']}", f"end {end or 'ready'}", *(why if is_told else []), *roles, *verdicts]
-    status = 2 if end else 1 if any(it.startswith("no ") for it in verdicts) else 0
+    told = lambda line, why: [line, *(why if is_told else [])]
+    lines = [f"root {cycle.state['root']['version']}", *told(f"end {end or 'ready'}", why), *roles]
+    lines += [line for verdict in verdicts for line in told(*verdict)]
+    status = 2 if end else 1 if any(line.startswith("no ") for line, _ in verdicts) else 0
     return cycle.state, "".join(f"{line}\n" for line in lines), status
+
+
+def replayed(state, files, targets, now, limit, wanted, times):
+    """The new state, the lines with those of `--why`, and the status of a repository that is replayed several times."""
+    lines = ""
+    for number in range(times):
+        state, more, status = verified(state, files, targets, now, limit, wanted, is_told=True)
+        lines += f"cycle {number + 1}\n{more}"
+    return state, lines, status
 
 
 def spelled(state):

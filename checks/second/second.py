@@ -7,11 +7,12 @@ A history is a first root and then three states of one repository: roots that ro
 by patterns, prefixes and bins that meet and lead round, thresholds, keys of both widths, one public value under two ids,
 keys that count for nothing, ids of no key and many of them. In most states up to two files are damaged: in their contents,
 in their signatures, in their bytes, in how they are listed. Each is verified from the trusted state of the one before, by
-`tufcheck verify` with 0 or 4 workers, with and without `--why`, and by reading.py beside this script, which was written from
-the pages of docs and shares no code with the crates. The lines, the status and the bytes of the new state must be the same;
-those of the run without `--why` must be those of the other without the lines that begin with `why`. The last lines count
-each end, each verdict and each form of such a line. A history that differs is left in a folder, whose name is printed, and
-the status is then 1; so it is if 1,000 histories or more lack a form of REASONS.
+`tufcheck verify` with 0 or 4 workers, with and without `--why`, then the last one twice more by `tufcheck replay --why`, and
+by reading.py beside this script, which was written from the pages of docs and shares no code with the crates. The lines, the
+status and the bytes of the new state must be the same; those of the run without `--why` must be those of the other without
+the lines that begin with `why`. The last lines count each end, each verdict, each form of such a line behind an end, and
+what those behind a verdict say together. A history that differs is left in a folder, whose name is printed, and the status
+is then 1; so it is if 1,000 histories or more lack a form of REASONS.
 
 Where Debian's python3-securesystemslib is installed, which is the canonical JSON of TUF's reference implementation, each
 text that is signed must also be what that makes of it. `rt run` in crates/tufcheck proves and builds the program.
@@ -42,7 +43,8 @@ except ImportError:
 LATER = "2030-01-01T00:00:00Z"
 SOON = "2026-01-01T00:00:01Z"
 TIMES = [LATER, NOW, "2025-12-31T23:59:59Z", SOON, "0000-02-29T00:00:00Z"]
-PATHS = ["a", "b", "ab", "d/a", "d/b", "d/e/a", "\u00e9", 'd/"\u00e9*']
+# The last one has 257 bytes, and is cut within a letter
+PATHS = ["a", "b", "ab", "d/a", "d/b", "d/e/a", "\u00e9", 'd/"\u00e9*', 2 * f"{126 * 'd'}/" + "x\u00e9"]
 PATTERNS = ["*", "a*", "?", "d/*", "d/?", "*/*", "d/e/*", "ab", "\u00e9", "nobody", "*a*b*", "d/??*", ""]
 ROLES = ["r", "s", "t", "u", "bin-0", "bin-1", "bin-2", "bin-3", 'v/"w']
 ODD = [None, True, False, 0, 1, -1, 2**63 - 1, 2**63, 2**64, 1.5, "", "1.1", "x", [], ["x"], {}, {"x": 1}]
@@ -59,13 +61,18 @@ STRANGE = {
 UNKNOWN = ["unknown", "", 'an "\u00e9" id', "\u00e9" * 129]
 MANY = [f"id {number}" for number in range(70)]
 POOL = []
-# The forms of the lines of `--why`, without names and numbers
+# The forms of the lines of `--why`, without names and numbers, and with `target` those of a target's file together
 REASONS = """
 absent; expires moment; file; form; json; object; float; signatures; length listed; length most; more; name gone;
 name trusted; sha256 listed; sha512 listed; snapshot names; snapshot trusted; trusted expires moment; version expected;
 version trusted; keys threshold signed; key absent; key again; key invalid hexadecimal; key invalid kind;
 key invalid leaf; key invalid length; key invalid root; key signed; key unsigned; key unusable id; key unusable kind;
-key unusable type
+key unusable type; target; target absent path; target absent sha256; target absent sha512;
+target absent sha256 absent sha512; target absent cut; target file path; target file path longer; target file path shorter;
+target file path sha256; target file path sha512; target file path sha256 sha512; target file sha256 longer;
+target file sha256 shorter; target file sha256 sha256; target file sha256 sha512; target file sha256 sha256 sha512;
+target file sha512 longer; target file sha512 shorter; target file sha512 sha512; target file cut longer;
+target file cut shorter
 """
 
 
@@ -149,11 +156,19 @@ class History:
     def target(self, path):
         content = f"{path} {self.versions['timestamp'] // 2}".encode()
         listed = {"length": len(content), "hashes": {"sha256": digest_of(content)}, **self.listing(path, content)}
+        if self.chance(0.3):
+            right = {it: hashlib.new(it, content).hexdigest() for it in reading.LENGTHS}
+            wrong = self.draw.choice([[], ["sha256"], ["sha512"], ["sha256", "sha512"]])
+            both = {it: value[::-1] if it in wrong else value for it, value in right.items()}
+            listed["hashes"] = self.draw.choice([both, both, both, {"sha512": both["sha512"]}, {}, {"md4": "x"}])
         folder, slash, base = path.rpartition("/")
         names = [f"{folder}{slash}{value.lower()}.{base}" for value in listed["hashes"].values()]
-        names = names if self.consistent() else [path]
-        if not self.chance(0.1):
-            self.targets[self.draw.choice(names or [path])] = content + (b"x" if self.chance(0.05) else b"")
+        names = names if self.consistent() and names else [path]
+        near = self.draw.choice([content + b"x", content + 99 * b"x", content[:-1], content[:-1] + b"?", b""])
+        if not self.chance(0.15):
+            self.targets[self.draw.choice(names)] = near if self.chance(0.2) else content
+        if self.chance(0.1):
+            self.targets[self.draw.choice(names)] = near
         return listed
 
     def delegations(self):
@@ -301,7 +316,7 @@ class History:
             self.root()
         listed = {}
         for name in ["targets", *ROLES]:
-            listed_here = self.draw.sample(PATHS, self.draw.randint(0, 3))
+            listed_here = self.draw.sample(PATHS, self.draw.randint(0, 4))
             part = self.part("targets", name, targets={it: self.target(it) for it in listed_here})
             if self.chance(0.8):
                 part["delegations"] = self.delegations()
@@ -372,6 +387,33 @@ def form_of(line):
     return " ".join(words[: {"why": len(words), "end": 3, "no": 2}.get(words[0], 1)])
 
 
+def kind_of(name, path):
+    """Whether a name is cut or the path, or by which digest it is."""
+    if name.endswith("..") or name == path:
+        return "path" if name == path else "cut"
+    found = len(name.rpartition("/")[2].strip('"').partition(".")[0])
+    return next((algorithm for algorithm, length in reading.LENGTHS.items() if length == found), "odd")
+
+
+def target_form(path, why):
+    """What the lines say of why the file of a target is refused."""
+    form = ["why", "target"]
+    for _, what, first, *others in map(str.split, why):
+        if what == "length":
+            form.append("longer" if int(first) > int(others[-1]) else "shorter")
+        else:
+            form += [what, kind_of(first, path)] if what in ("absent", "file") else [what]
+    return " ".join(form)
+
+
+def forms_of(lines):
+    """The form of each line, and one of all that say why the file of a target is refused."""
+    for line, why in re.findall("(.*)\n((?:why .*\n)*)", lines):
+        yield form_of(line)
+        target = re.fullmatch('no ("[^"]*") (Missing|LengthWrong|HashWrong|NoKnownHash)', line)
+        yield from [target_form(target[1], why.splitlines())] if target else map(form_of, why.splitlines())
+
+
 def lived(seed):
     """Draws a history and verifies its states; the first words of each line, or what differs and where."""
     history, counts = History(seed), collections.Counter()
@@ -386,7 +428,7 @@ def lived(seed):
     for number in range(3):
         history.go_on()
         limit, workers = history.draw.choice([1, 2, 3, 32, 32, 32]), history.draw.choice([["0", "4"], ["4", "0"]])
-        wanted, now = history.draw.sample(PATHS, 4) + ["none"], history.draw.choice([NOW, NOW, NOW, NOW, SOON])
+        wanted, now = history.draw.sample(PATHS, 6) + ["none"], history.draw.choice([NOW, NOW, NOW, NOW, SOON])
         write(f"{room}/metadata", history.metadata)
         write(f"{room}/targets", history.targets)
         words = "--limit", str(limit), "--", *wanted
@@ -400,7 +442,12 @@ def lived(seed):
             return counts, f"{where}\nsaid {said}\ntold {told}\nread {read}"
         os.replace(f"{room}/new", f"{room}/state")
         os.remove(f"{room}/told")
-        counts.update(form_of(line) for line in told[0].splitlines())
+        counts.update(forms_of(told[0]))
+    words = "--why", "--now", now, "--limit", str(limit), "--workers", workers[1], "--state", "state", "--out", "new"
+    said = run(room, "replay", *words, "--", wanted[0], ".", ".")
+    state, *read = reading.replayed(state, direct, history.targets, now, limit, wanted[:1], 2)
+    if said != tuple(read) or common.read(f"{room}/new") != reading.spelled(state):
+        return counts, f"{room}: replay, limit {limit}, now {now}, {wanted[0]}\nsaid {said}\nread {read}"
     shutil.rmtree(room)
     return counts, None
 

@@ -1,6 +1,7 @@
 -- What is printed of an outcome of the workflow.
-use Rattle.std.proofs.Common.{◌≡◌, Result, Ok, Err, IfOk, List, [], ℕ, Option, string_bytes, subst}
+use Rattle.std.proofs.Common.{◌≡◌, Result, Ok, Err, IfOk, List, ℕ, Option, subst}
 use Rattle.cycle.specs.Workflow.{Repository, Request, workflow}
+use Rattle.report.specs.Lines.{nothing}
 use Rattle.report.specs.declared.told.Told.{Told}
 use Rattle.update.specs.Runs.{IsPrinted}
 use Rattle.command.specs.Sampled.{IsSampled}
@@ -9,14 +10,14 @@ use Rattle.command.specs.Sampled.{IsSampled}
 pub sampled : {E : Type 0} (r : Request) (repo : Repository) (t : Told) (wanted : List (List ℕ)) (old new : Option (List ℕ)) (status : Result ℕ E)
     → r.wanted ≡ wanted
     → t.outcome ≡ workflow r repo
-    → string_bytes t.why ≡ []
-    → IfOk status (λ status. IsPrinted t.outcome (string_bytes t.why) wanted status old new)
+    → t.why ≡ nothing
+    → IfOk status (λ status. IsPrinted t.outcome t.why wanted status old new)
     → IfOk status (λ status. IsSampled wanted status old new)
 sampled r repo t wanted old new (Ok status) paths is none lines = record {
   request = r;
   repo = repo;
   of_paths = paths;
-  printed = subst (λ w. IsPrinted (workflow r repo) w wanted status old new) none (subst (λ o. IsPrinted o (string_bytes t.why) wanted status old new) is lines);
+  printed = subst (λ w. IsPrinted (workflow r repo) w wanted status old new) none (subst (λ o. IsPrinted o t.why wanted status old new) is lines);
 }
 sampled r repo t wanted old new (Err e) paths is none lines = tt
 

@@ -3,19 +3,23 @@
 use crate::found::{LINES, PLAIN, course, wanted};
 use crate::repositories::made;
 use copies::CopyFault;
+use cycle::Outcome;
 use file_tests::{Kept, Memory, Piece};
 use folder::Folder;
-use measured::{Copied, close_into};
+use measured::{Copied, close, measure_into};
 use report::{Told, tell};
 use std::process::Abort;
 
+/// An outcome, and the copies by position.
+#[derive(Drop)]
+struct Ended {
+    outcome: Outcome,
+    copies: Vec<Option<Piece>>,
+}
+
 /// Ends the course of the wanted paths `a`, `b`, `a` and `d`, with copies. The file `b` has that
 /// text.
-fn copied<R: Abort + AllocGlobal>(
-    rt: &R,
-    b: &str,
-    to: &mut Kept,
-) -> Result<Copied<Piece>, CopyFault> {
+fn copied<R: Abort + AllocGlobal>(rt: &R, b: &str, to: &mut Kept) -> Result<Ended, CopyFault> {
     let files = [("a", "a"), ("b", b), ("c", "ccc")];
     let mut targets = Memory::of(rt.alloc(), &files, u64::MAX).expect(rt, "memory");
     closed(rt, &mut targets, to)
@@ -26,14 +30,17 @@ fn closed<R: Abort + AllocGlobal, F: Folder>(
     rt: &R,
     targets: &mut F,
     to: &mut Kept,
-) -> Result<Copied<Piece>, CopyFault> {
+) -> Result<Ended, CopyFault> {
     let course = course(rt, &made(rt, PLAIN), &wanted(rt));
     let names = targets.names(rt.alloc()).expect(rt, "names");
-    close_into(rt.alloc(), course, targets, names, to)
+    let copied = measure_into(rt.alloc(), &course, targets, names, to)?;
+    let Copied { known, copies } = copied;
+    let outcome = close(rt.alloc(), course, &known).expect(rt, "memory");
+    Ok(Ended { outcome, copies })
 }
 
 /// Returns the bytes of the copy at that place, if there is one.
-fn copy_at(copied: &Copied<Piece>, place: usize) -> Option<&[u8]> {
+fn copy_at(copied: &Ended, place: usize) -> Option<&[u8]> {
     Some(copied.copies.get(place)?.as_ref()?.bytes())
 }
 
@@ -46,7 +53,7 @@ fn each_found_file_is_copied_once(rt: HostRuntime) {
     assert!(rt; copy_at(&copied, 1) == Some(b"bb".as_slice()));
     assert!(rt; copy_at(&copied, 2).is_none() && copy_at(&copied, 3).is_none());
     assert!(rt; to.made() == 2 && to.left() == 2);
-    let Copied { outcome, copies } = copied;
+    let Ended { outcome, copies } = copied;
     drop(copies);
     let told = Told::plain(rt.alloc(), outcome);
     let mut lines = Vec::new(rt.alloc());

@@ -7,7 +7,7 @@ ghost use Rattle.folder.specs.Measures.{IsMeasure};
 use crate::repositories::{first_state, limits_of, made, metadata, moment, string};
 use cycle::{Course, Cycle, Repo, Round, Trusted, follow_alone};
 use folder::{Folder, LoadFault, Measure, Need};
-use measured::{Readers, close};
+use measured::{Readers, close, measure};
 use report::{Told, tell};
 use std::alloc::{AllocError, Global};
 use std::collections::BTreeMap;
@@ -194,7 +194,8 @@ fn closed<R: Abort + AllocGlobal + Threads + Sync>(
     let course = course(rt, repo, &wanted);
     let names = targets.names(alloc).expect(rt, "names");
     let readers = Readers { rt, threads };
-    let outcome = close(&readers, alloc, course, targets, names).expect(rt, "an outcome");
+    let known = measure(&readers, alloc, &course, targets, names).expect(rt, "files");
+    let outcome = close(alloc, course, &known).expect(rt, "memory");
     let mut lines = Vec::new(alloc);
     tell(alloc, &Told::plain(alloc, outcome), &wanted, &mut lines).expect(rt, "memory");
     lines

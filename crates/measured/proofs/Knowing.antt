@@ -8,7 +8,9 @@ use Rattle.std.proofs.lemmas.List.{get_or-set_same, get_or-set_other, map-append
 use Rattle.std.proofs.lemmas.List.Folds.{list_any-append}
 use Rattle.folder.specs.Measures.{IsMeasureOf}
 use Rattle.folder.specs.declared.job.Done.{Done}
-use Rattle.measured.specs.Known.{AreDone, IsKnown, IsSame, IsWanted, Puts}
+use Rattle.deleg.specs.declared.accepted.Search.{Search}
+use Rattle.measured.specs.Closed.{is_found}
+use Rattle.measured.specs.Known.{AreDone, IsKnown, IsSame, IsWanted, Puts, StaysKnown}
 use Rattle.measured.specs.declared.early.Share.{Share}
 use Rattle.measured.specs.declared.known.Known.{Known}
 use Rattle.measured.specs.declared.known.Wanted.{Wanted}
@@ -117,3 +119,18 @@ pub kept : {A E : Type 0} (names : List (List ℕ)) (holds : List ℕ → List �
 kept names holds found name was w old new (Ok x) is good puts same known =
     wanted_more names holds found name w old new known puts (ap is_some is) (record { is_found = was_found names holds found old name was known is; measure = good })
 kept names holds found name was w old new (Err e) is good puts same known = same_known names holds found old new known same
+
+-- ---- a course whose files are copied
+
+-- what the steps leave known, with the values of the course by their names
+pub copied_known : (names : List (List ℕ)) (holds later : List ℕ → List ℕ → Bool) (b consistent : Bool) (s searches : List (Option Search)) (begun noted copied read : Known)
+    → b ≡ consistent → s ≡ searches → later ≡ holds → IsKnown names holds (is_found b s) begun → StaysKnown names holds (is_found b s) begun noted
+    → StaysKnown names holds (is_found consistent searches) noted copied → StaysKnown names later (is_found b s) copied read → IsKnown names holds (is_found consistent searches) read
+copied_known names holds later b consistent s searches begun noted copied read same_names same_searches same_holds first note copy last =
+    subst (λ h. IsKnown names h (is_found consistent searches) read) same_holds
+    (subst (λ f. IsKnown names later f read) same
+    (last (subst (λ f. IsKnown names later f copied) (sym same) (subst (λ h. IsKnown names h (is_found consistent searches) copied) (sym same_holds)
+    (copy (subst (λ f. IsKnown names holds f noted) same (note first)))))))
+  where
+    same : is_found b s ≡ is_found consistent searches
+    same = ap (λ k. is_found k s) same_names ∙ ap (is_found consistent) same_searches

@@ -1,33 +1,23 @@
 -- What is known of a folder's files at last, as what was seen of them.
-use Rattle.std.proofs.Common.{◌≡◌, ℕ, List, Bool, true, Option, None, Some, is_some, IfSome, option_map, if◌then◌else◌, length, take, refl, sym, ◌∙◌, ap}
+use Rattle.std.proofs.Common.{◌≡◌, ℕ, List, All, Bool, true, Option, None, Some, is_some, IfSome, option_map, take, Result, Ok, Err, IfOk, refl, sym, ◌∙◌, ap, subst}
 use Rattle.std.specs.BTreeMap.{get_by_text}
-use Rattle.sha2.specs.Sha256.{sha256}
-use Rattle.sha2.specs.Sha512.{sha512}
 use Rattle.cycle.specs.Workflow.{Checks, Course, Files, Outcome, closed_by, target_checked}
 use Rattle.folder.specs.Seen.{AreSeen, IsStartOf, MayBeSeen, Seen, Start}
 use Rattle.folder.proofs.SeenFiles.{some_are_seen}
 use Rattle.folder.specs.Measures.{IsMeasureOf, measure_of}
 use Rattle.folder.specs.declared.measure.Measure.{Measure}
 use Rattle.folder.specs.declared.measure.Need.{Need}
-use Rattle.measured.specs.Closed.{IsClosed, is_found}
-use Rattle.measured.specs.Known.{IsKnown, IsWanted, MayBe, MayGive}
+use Rattle.measured.specs.Closed.{IsClosed, IsKnownOf, IsMeasured, IsOfStart, is_found, measure_with}
+use Rattle.measured.specs.Known.{IsCovered, IsKnown, IsWanted, MayBe, MayGive}
 use Rattle.measured.specs.declared.known.Known.{Known}
 use Rattle.measured.specs.declared.known.Wanted.{Wanted}
 
--- a measure by the start of a file
-of_start : Need → List ℕ → Measure
-of_start need start = record {
-  length = length start;
-  sha256 = if need.sha256 then Some (sha256 start) else None;
-  sha512 = if need.sha512 then Some (sha512 start) else None;
-}
-
 -- a file that begins with what was read has the measure
-same_measure : (need : Need) (m : Measure) (whole : List ℕ) (file : Option (List ℕ)) → m ≡ measure_of need whole
-    → option_map (take need.up_to) file ≡ Some (take need.up_to whole) → option_map (measure_of need) file ≡ Some m
-unfolding of_start
-same_measure need m whole None is begins = absurd (cc)
-same_measure need m whole (Some bytes) is begins = ap (option_map (of_start need)) begins ∙ ap Some (sym is)
+same_measure : (need : Need) (m : Measure) (read : Start) (file : Option (List ℕ)) → read.up_to ≡ need.up_to → m ≡ measure_with need.sha256 need.sha512 read.bytes
+    → option_map (take read.up_to) file ≡ Some read.bytes → option_map (measure_of need) file ≡ Some m
+same_measure need m read None far is begins = absurd (cc)
+same_measure need m read (Some bytes) far is begins =
+    ap (option_map (measure_with need.sha256 need.sha512)) (subst (λ n. option_map (take n) (Some bytes) ≡ Some read.bytes) far begins) ∙ ap Some (sym is)
 
 module _ (found : Bool) (test : List ℕ → Bool) where
   -- what was read for a measure
@@ -73,19 +63,16 @@ module _ (found : Bool) (test : List ℕ → Bool) where
   was_found (Some None) h = tt
   was_found (Some (Some w)) h = found_start w.need w.measure h.measure h.is_found
 
-  measured_start : (need : Need) (m : Option Measure) (h : IfSome m (IsMeasureOf need test)) (file : Option (List ℕ))
-      → IfSome (started need m h) (λ r. option_map (take r.up_to) file ≡ Some r.bytes) → IfSome m (λ m. option_map (measure_of need) file ≡ Some m)
+  known_start : (need : Need) (m : Option Measure) (h : IfSome m (IsMeasureOf need test)) → IfSome m (λ n. IsOfStart need n (started need m h))
   unfolding started
-  measured_start need None h file begins = tt
-  measured_start need (Some m) h file begins = same_measure need m h.0 file h.2 begins
+  known_start need None h = tt
+  known_start need (Some m) h = (refl, h.2)
 
-  measured : (o : Option (Option Wanted)) (h : IfSome o (λ v. IfSome v (IsWanted found test))) (file : Option (List ℕ))
-      → IfSome (start_of o h) (λ r. option_map (take r.up_to) file ≡ Some r.bytes)
-      → IfSome o (λ v. IfSome v (λ w. IfSome w.measure (λ m. option_map (measure_of w.need) file ≡ Some m)))
+  known : (o : Option (Option Wanted)) (h : IfSome o (λ v. IfSome v (IsWanted found test))) → IfSome o (λ v. IfSome v (λ w. IfSome w.measure (λ m. IsOfStart w.need m (start_of o h))))
   unfolding start_of
-  measured None h file begins = tt
-  measured (Some None) h file begins = tt
-  measured (Some (Some w)) h file begins = measured_start w.need w.measure h.measure file begins
+  known None h = tt
+  known (Some None) h = tt
+  known (Some (Some w)) h = known_start w.need w.measure h.measure
 
 seen_of : (names : List (List ℕ)) (holds : List ℕ → List ℕ → Bool) (found : List ℕ → Bool) (k : Known) → IsKnown names holds found k → Seen
 seen_of names holds found k known = record { names = names; read = λ name. start_of (found name) (holds name) (get_by_text k.files name) (known.wanted name) }
@@ -99,27 +86,58 @@ may_be_seen lists names holds found k known listed = record {
   held = λ name. held (found name) (holds name) (get_by_text k.files name) (known.wanted name);
 }
 
-may_be : (names : List (List ℕ)) (holds : List ℕ → List ℕ → Bool) (found : List ℕ → Bool) (k : Known) (known : IsKnown names holds found k) (files : Files)
-    → AreSeen (seen_of names holds found k known) files → MayBe k files
+known_of : (names : List (List ℕ)) (holds : List ℕ → List ℕ → Bool) (found : List ℕ → Bool) (k : Known) (is : IsKnown names holds found k) → IsKnownOf (seen_of names holds found k is) k
 unfolding seen_of
-may_be names holds found k known files are = record {
-  names = λ name. are.names name ∙ sym (known.named name);
-  measures = λ name. measured (found name) (holds name) (get_by_text k.files name) (known.wanted name) (files name) (are.bytes name);
-}
+known_of names holds found k is = record { names = is.named; measures = λ name. known (found name) (holds name) (get_by_text k.files name) (is.wanted name) }
 
-pub closed : (lists : List (List ℕ) → Bool) (holds : List ℕ → List ℕ → Bool) (names : List (List ℕ)) (k : Known) (course : Course) (o : Outcome)
-    → lists names ≡ true → IsKnown names holds (is_found course.trusted.root.reading.consistent course.searches) k
-    → ((checks : Checks) → MayGive k checks → o ≡ closed_by checks course) → IsClosed lists holds course o
+found_in : (names : List (List ℕ)) (holds : List ℕ → List ℕ → Bool) (found : List ℕ → Bool) (k : Known) (is : IsKnown names holds found k) (name : List ℕ)
+    → IfSome ((seen_of names holds found k is).read name) (λ _. found name ≡ true)
 unfolding seen_of
-closed lists holds names k course o listed known outcome =
+found_in names holds found k is name = was_found (found name) (holds name) (get_by_text k.files name) (is.wanted name)
+
+pub measured : (lists : List (List ℕ) → Bool) (holds : List ℕ → List ℕ → Bool) (names : List (List ℕ)) (k : Known) (course : Course)
+    → lists names ≡ true → IsKnown names holds (is_found course.trusted.root.reading.consistent course.searches) k
+    → All (IsCovered k course.trusted.root.reading.consistent) course.searches → IsMeasured lists holds course k
+measured lists holds names k course listed is covered =
     let found = is_found course.trusted.root.reading.consistent course.searches in
-    let may = may_be_seen lists names holds found k known listed in
+    let may = may_be_seen lists names holds found k is listed in
     let some = some_are_seen lists holds _ may in
     record {
-      seen = seen_of names holds found k known;
+      seen = seen_of names holds found k is;
       may_be_seen = may;
-      found = λ name. was_found (found name) (holds name) (get_by_text k.files name) (known.wanted name);
-      outcome = λ files are. outcome (target_checked files) (record { files = files; may_be = may_be names holds found k known files are; are = refl });
+      found = found_in names holds found k is;
+      known = known_of names holds found k is;
+      covered = covered;
       files = some.0;
       are_seen = some.1;
     }
+
+-- ---- files that are seen so have the measures
+
+as_read : (need : Need) (m : Option Measure) (read : Option Start) (file : Option (List ℕ)) → IfSome m (λ n. IsOfStart need n read)
+    → IfSome read (λ r. option_map (take r.up_to) file ≡ Some r.bytes) → IfSome m (λ n. option_map (measure_of need) file ≡ Some n)
+as_read need None read file h begins = tt
+as_read need (Some m) None file h begins = absurd h
+as_read need (Some m) (Some r) file h begins = same_measure need m r file h.0 h.1 begins
+
+all_as_read : (o : Option (Option Wanted)) (read : Option Start) (file : Option (List ℕ)) → IfSome o (λ v. IfSome v (λ w. IfSome w.measure (λ m. IsOfStart w.need m read)))
+    → IfSome read (λ r. option_map (take r.up_to) file ≡ Some r.bytes)
+    → IfSome o (λ v. IfSome v (λ w. IfSome w.measure (λ m. option_map (measure_of w.need) file ≡ Some m)))
+all_as_read None read file h begins = tt
+all_as_read (Some None) read file h begins = tt
+all_as_read (Some (Some w)) read file h begins = as_read w.need w.measure read file h begins
+
+may_be : (k : Known) (s : Seen) (files : Files) → IsKnownOf s k → AreSeen s files → MayBe k files
+may_be k s files known are = record {
+  names = λ name. are.names name ∙ sym (known.names name);
+  measures = λ name. all_as_read (get_by_text k.files name) (s.read name) (files name) (known.measures name) (are.bytes name);
+}
+
+closed : (course : Course) (k : Known) (o : Outcome) → ((checks : Checks) → MayGive k checks → o ≡ closed_by checks course) → IsClosed course k o
+closed course k o outcome s known files are = outcome (target_checked files) (record { files = files; may_be = may_be k s files known are; are = refl })
+
+-- of what a call returns
+pub closed_if : {E : Type 0} (course : Course) (k : Known) (r : Result Outcome E) → IfOk r (λ o. (checks : Checks) → MayGive k checks → o ≡ closed_by checks course)
+    → IfOk r (IsClosed course k)
+closed_if course k (Ok o) h = closed course k o h
+closed_if course k (Err e) h = tt

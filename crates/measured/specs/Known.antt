@@ -1,5 +1,5 @@
 -- What is known of the files of a folder, each of which is measured at most once.
-use Rattle.std.specs.Prelude.{ℕ, ◌+◌, ◌==◌, ⊤, Result, List, Bool, true, false, ◌&&◌, ◌||◌, not, max, nat_lt, ◌≡◌, Option, None, Some, IfSome, is_some, find, option_map, bytes_eq, string_bytes, All}
+use Rattle.std.specs.Prelude.{ℕ, ◌+◌, ◌==◌, ⊤, Result, List, Bool, true, false, ◌&&◌, ◌||◌, not, max, nat_lt, if◌then◌else◌, ◌≡◌, Option, None, Some, IfSome, is_some, find, option_map, bytes_eq, string_bytes, All}
 use Rattle.std.specs.BTreeMap.{get_by_text}
 use Rattle.std.specs.Option.{option_map_or}
 use Rattle.cjson.specs.Document.{◌>>=◌, refuse_if}
@@ -54,6 +54,14 @@ measured_content t m = do
   sized ← refuse_if (not (t.length == m.length)) LengthWrong
   hashed ← refuse_if (has_wrong_hash t.hashes m) HashWrong
   refuse_if (has_no_known_hash t.hashes) NoKnownHash
+
+-- the measure with those of its digests that the target lists
+abbrev pub listed_of : Target → Measure → Measure
+listed_of t m = record {
+  length = m.length;
+  sha256 = if is_some t.hashes.sha256 then m.sha256 else None;
+  sha512 = if is_some t.hashes.sha512 then m.sha512 else None;
+}
 
 -- # The names, and the measures so far.
 

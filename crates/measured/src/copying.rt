@@ -1,89 +1,52 @@
 //! The end of a course, with copies of the files that its searches found.
 
-ghost use Rattle.std.specs.Prelude.{◌≡◌, ◌≢◌, ◌≤◌, true, List, [], ℕ, Bool, All, Err, IfErr};
+ghost use Rattle.std.specs.Prelude.{◌≡◌, ◌≢◌, ◌≤◌, true, List, [], ℕ, Bool, Err, IfErr};
 ghost use Rattle.std.specs.Prelude.{IfOk, IfSome, OnOk, map, string_bytes};
 ghost use Rattle.folder.specs.Folders.{HasFailed, IsSameFolder};
 ghost use Rattle.copies.specs.declared.fault.CopyFault.TheVariants as fault;
-ghost use Rattle.measured.specs.Closed.{HasNamesOf, IsClosed, is_found};
+ghost use Rattle.measured.specs.Closed.{HasNamesOf, IsMeasured, is_found};
 ghost use Rattle.measured.specs.Copied.{AreCopiesFor, HasContentOf, IsCopyFor, IsMade};
 ghost use Rattle.measured.specs.Copied.{IsMeasuredInto};
-ghost use Rattle.measured.specs.Known.{IsCovered, IsKnown, IsThere, StaysKnown};
+ghost use Rattle.measured.specs.Known.{IsThere, StaysKnown};
 
 use crate::fitting::fits;
 use crate::known::{Known, There, Wanted, named, place, put};
 use crate::need::widened;
 use crate::reading::{is_measured, need_of, note_all, read_all, target_of};
-use crate::store::Measured;
-use cjson::NoMemory;
 use copies::{CopyFault, Destination, copy_fault, is_below};
-use cycle::{Course, Outcome, Search, Target};
+use cycle::{Course, Search, Target};
 use folder::{Folder, Measure, Need, Sink};
 use std::alloc::Global;
 
-/// An outcome, and for each wanted path, by position, a temporary file with the bytes of its
-/// target, or the copy that is there and has them. There is none if the target isn't good, or if an
-/// earlier path has it.
+/// What is known of the target files, and for each wanted path, by position, a temporary file with
+/// the bytes of its target, or the copy that is there and has them. There is none if the target
+/// isn't good, or if an earlier path has it.
 #[derive(Drop)]
 pub struct Copied<K> {
-    pub outcome: Outcome,
+    pub known: Known,
     pub copies: Vec<Option<K>>,
 }
 
-/// Ends a course as [`close`](crate::close) does, on one thread, and copies each file that a search
-/// found to a temporary file of `to` while it is read. A copy is left only if it has the length and
-/// the digests of the target that the search found. If the copy that is there has the same bytes,
-/// nothing is written: a file is read a second time only if its copy has the same length and other
-/// bytes.
+/// Measures files as [`measure`](crate::measure) does, on one thread, and copies each to a temporary
+/// file of `to` while it is read. A copy is left only if it has the length and the digests of the
+/// target that the search found. If the copy that is there has the same bytes, nothing is written:
+/// a file is read a second time only if its copy has the same length and other bytes.
 ///
 /// Fails with `Folder` if a call of the folder failed, with `Output` if a copy can't be written, or
 /// with `NoMemory`.
 #[tactic(auto, using(folder::proofs::Sameness::sameness))]
-pub fn close_into<F: Folder, D: Destination>(
-    alloc: Global,
-    course: Course,
-    folder: &mut F,
-    names: Vec<String>,
-    to: &mut D,
-) -> Result<Copied<D::Temporary>, CopyFault>
-    requires listed { (F.gives folder.old).lists (map string_bytes names.items) ≡ true }
-    ensures outcome { IfOk result
-        (λ c. IsClosed (F.gives folder.old).lists (F.gives folder.old).holds course c.outcome) }
-    ensures state { IfOk result (λ c. c.outcome.trusted ≡ course.trusted) }
-    ensures copies { IfOk result
-        (λ c. AreCopiesFor D.Temporary.wrote c.copies.items course.searches) }
-    ensures failed { IfErr result (λ e. e ≡ fault.Folder
-        → HasFailed (F.gives folder.old) (F.gives folder.new)) }
-    ensures output { IfErr result (λ e. e ≡ fault.Output → (D.site to.old).fails ≡ true) }
-    ensures same { IsSameFolder (F.gives folder.old) (F.gives folder.new) }
-    ensures same_site { D.site to.new ≡ D.site to.old }
-{
-    let (known, copies) = measured_into(alloc, &course, folder, names, to)?;
-    let store = Measured {
-        alloc,
-        known: &known,
-    };
-    match course.close(alloc, &store) {
-        Ok(outcome) => Ok(Copied { outcome, copies }),
-        Err(NoMemory) => Err(CopyFault::NoMemory),
-    }
-}
-
-/// Measures and copies the files that the searches of the course found.
-#[tactic(auto, using(folder::proofs::Sameness::sameness))]
-fn measured_into<F: Folder, D: Destination>(
+pub fn measure_into<F: Folder, D: Destination>(
     alloc: Global,
     course: &Course,
     folder: &mut F,
     names: Vec<String>,
     to: &mut D,
-) -> Result<(Known, Vec<Option<D::Temporary>>), CopyFault>
-    ensures known { IfOk result (λ x. IsKnown (map string_bytes names.items)
-        (F.gives folder.old).holds
-        (is_found course.now.trusted.root.reading.consistent course.now.searches) x.0) }
-    ensures covered { IfOk result (λ x. All
-        (IsCovered x.0 course.now.trusted.root.reading.consistent) course.now.searches) }
+) -> Result<Copied<D::Temporary>, CopyFault>
+    requires listed { (F.gives folder.old).lists (map string_bytes names.items) ≡ true }
+    ensures measured { IfOk result (λ c. IsMeasured (F.gives folder.old).lists
+        (F.gives folder.old).holds course.now c.known) }
     ensures copies { IfOk result
-        (λ x. AreCopiesFor D.Temporary.wrote x.1.items course.now.searches) }
+        (λ c. AreCopiesFor D.Temporary.wrote c.copies.items course.now.searches) }
     ensures failed { IfErr result (λ e. e ≡ fault.Folder
         → HasFailed (F.gives folder.old) (F.gives folder.new)) }
     ensures output { IfErr result (λ e. e ≡ fault.Output → (D.site to.old).fails ≡ true) }
@@ -97,7 +60,7 @@ fn measured_into<F: Folder, D: Destination>(
     let copies = copy_all(alloc, course, folder, &mut known, to)?;
     // What is needed was read by now.
     read_all(alloc, folder, searches, consistent, &mut known)?;
-    Ok((known, copies))
+    Ok(Copied { known, copies })
 }
 
 /// Reads each file that a search found, once, and copies it. Returns a copy for each search, by

@@ -1,9 +1,12 @@
 //! The names of a folder's files, and the measures taken so far.
 
-ghost use Rattle.std.specs.Prelude.{◌≡◌, ◌∷◌, [], ℕ, List, Bool, Some, IfOk, IfSome, OnOk, OnErr};
+ghost use Rattle.std.specs.Prelude.{◌≡◌, ◌∷◌, [], ℕ, List, Bool, true, Some, IfOk, IfSome, OnOk};
+ghost use Rattle.std.specs.Prelude.{OnErr};
 ghost use Rattle.std.specs.Prelude.{find, is_some, map, option_map, string_bytes};
 ghost use Rattle.std.specs.BTreeMap.{get_by_text};
 ghost use Rattle.meta.specs.Content.{hashed_name};
+ghost use Rattle.folder.specs.Seen.{Seen};
+ghost use Rattle.measured.specs.Closed.{IsKnownOf, seen_file, found_of};
 ghost use Rattle.measured.specs.Known as spec;
 ghost use Rattle.measured.specs.Known.{IsKnown, IsSame, Puts};
 
@@ -27,15 +30,66 @@ pub struct There {
     pub wanted: Option<Wanted>,
 }
 
-/// The names of the files, each with what is known of the file if it is wanted.
+/// The names of a folder's files, and the measures of those that were read.
 pub struct Known {
-    pub files: BTreeMap<String, Option<Wanted>>,
+    pub(crate) files: BTreeMap<String, Option<Wanted>>,
+}
+
+/// A target's file: its name in the folder, its length as far as it was read, and those of its
+/// digests that the target lists.
+#[derive(Drop)]
+pub struct Found {
+    pub name: String,
+    pub measure: Measure,
 }
 
 impl Drop for Known {
     fn drop(self) {
         let Known { files } = self;
     }
+}
+
+impl Known {
+    /// Returns the target's file, or None if it isn't there (TUF 1.0 section 5.7). `consistent` is
+    /// whether files have consistent names. Reads nothing. Fails only if out of memory.
+    pub fn found(
+        &self,
+        alloc: Global,
+        consistent: bool,
+        target: &Target,
+    ) -> Result<Option<Found>, AllocError>
+        requires known { spec.knows self.now consistent target.now ≡ true }
+        ensures found { IfOk result (λ o. (s : Seen) → IsKnownOf s self.now
+            → option_map found_of o ≡ seen_file s consistent target.now) }
+    {
+        let Some(there) = place(alloc, self, consistent, target)? else {
+            return Ok(None);
+        };
+        let Some(wanted) = there.wanted else {
+            unreachable!();
+        };
+        let Some(measure) = &wanted.measure else {
+            unreachable!();
+        };
+        Ok(Some(Found {
+            name: there.name,
+            measure: listed_of(target, measure),
+        }))
+    }
+}
+
+/// Returns the measure with those of its digests that the target lists.
+fn listed_of(target: &Target, measure: &Measure) -> Measure
+    ensures { result ≡ spec.listed_of target.now measure.now }
+{
+    let mut listed = *measure;
+    if target.hashes.sha256.is_none() {
+        listed.sha256 = None;
+    }
+    if target.hashes.sha512.is_none() {
+        listed.sha512 = None;
+    }
+    listed
 }
 
 /// Returns these names, with no file wanted yet. Fails only if out of memory.

@@ -18,7 +18,7 @@ use folder::{Folder, LoadFault, Need};
 use std::alloc::{AllocError, Global};
 
 /// Returns the target that the search found.
-pub(crate) fn target_of(search: &Option<Search>) -> Option<&Target>
+pub fn target_of(search: &Option<Search>) -> Option<&Target>
     ensures { option_map (λ t. t.now) result ≡ target_of search.now }
 {
     match &search.as_ref()?.found {

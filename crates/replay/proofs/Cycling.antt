@@ -4,20 +4,22 @@ use Rattle.std.specs.List.{AllZip}
 use Rattle.std.specs.Io.KnownBytes.{Appends}
 use Rattle.cycle.specs.Workflow.{Course, Files}
 use Rattle.examine.specs.Checks.{file_in}
-use Rattle.lookups.specs.Lookups.{IsCourseOn, IsPart, IsSettledOn, files_read}
+use Rattle.lookups.specs.Lookups.{IsCourseOn, IsPart, IsSettledOn}
 use Rattle.lookups.specs.declared.metadata.Metadata.{Metadata}
 use Rattle.lookups.proofs.Settling.{course_on, read_files}
-use Rattle.measured.specs.Closed.{IsClosed}
+use Rattle.measured.specs.Closed.{IsMeasured}
+use Rattle.measured.specs.declared.known.Known.{Known}
 use Rattle.report.specs.Lines.{cycles_text, last_status}
 use Rattle.report.specs.declared.told.Told.{Told}
 use Rattle.folder.specs.Folders.{Giving, IsSameFolder}
 use Rattle.replay.specs.Cycles.{AreStored, ArePrinted, AreToldOn, IsToldOn, after, first_of, from_state, last_state}
+use Rattle.update.specs.Opened.{IsToldBy}
 use Rattle.update.specs.Runs.{IsOutcomeOn, MayBeSeen, Outcome, Request, Seen, State, state_text, why_text}
 use Rattle.update.specs.Same.{IsSame}
 use Rattle.update.specs.World.{Mirror}
 use Rattle.update.specs.declared.start.Detail.{Detail}
 use Rattle.update.specs.declared.start.Start as program
-use Rattle.update.proofs.Storing.{closed_outcome}
+use Rattle.update.proofs.Storing.{closed_outcome, why_told}
 
 -- ---- one cycle more
 
@@ -102,12 +104,13 @@ printed_all ts wanted old new (Err e) lines answered = tt
 
 -- ---- what is told of a course that no other metadata files change
 
-pub told_on : (d : Detail) (m : Mirror) (later : Metadata) (r : Request) (c : Course) (t : Told) → IsPart m.metadata later → IsSettledOn r later c
-    → IsClosed m.targets.lists m.targets.holds c t.outcome → string_bytes t.why ≡ why_text d (file_in later.repo.metadata) r.moment c.trusted c.end → IsToldOn d m r t
-told_on d m later r c t part settled closed why =
+pub told_on : (d : Detail) (m : Mirror) (later : Metadata) (r : Request) (c : Course) (stop : List ℕ) (k : Known) (t : Told)
+    → IsPart m.metadata later → IsSettledOn r later c → IsMeasured m.targets.lists m.targets.holds c k
+    → stop ≡ why_text d (file_in later.repo.metadata) r.moment c.trusted c.end → IsToldBy d c stop k t → IsToldOn d m r t
+told_on d m later r c stop k t part settled measured is told =
     let on : IsCourseOn m.metadata r c = course_on m.metadata later part r c settled in
     record {
-      of_workflow = closed_outcome m m.targets r c t.outcome on refl refl closed;
-      why = subst (λ (o : Outcome). string_bytes t.why ≡ why_text d (files_read on.seen) r.moment o.trusted o.end) (sym (closed.outcome closed.files closed.are_seen))
-          (subst (λ (l : Files). string_bytes t.why ≡ why_text d l r.moment c.trusted c.end) (read_files m.metadata later part) why);
+      of_workflow = closed_outcome m m.targets r c k t.outcome on refl refl measured told.outcome;
+      why = why_told d m.metadata m.targets.lists m.targets.holds r c stop k t on measured told
+          (subst (λ (l : Files). stop ≡ why_text d l r.moment c.trusted c.end) (read_files m.metadata later part) is);
     }

@@ -37,11 +37,10 @@ last_state s (t ∷ ts) = last_state (after s t.outcome) ts
 abbrev pub mirror_of : Giving → Giving → Mirror
 mirror_of metadata targets = record { metadata = metadata; targets = targets }
 
--- an outcome on the folders of a repository, and the lines that say why it stopped, by the metadata
--- files that were read
+-- an outcome on the folders of a repository, and the lines that say why, by what was read of them
 pub record IsToldOn (d : Detail) (m : Mirror) (s : Request) (t : Told) : Type 0 where
   pub of_workflow : IsOutcomeOn m s t.outcome
-  pub why : string_bytes t.why ≡ why_of d s (files_read of_workflow.metadata) t.outcome
+  pub why : t.why ≡ why_of d s (files_read of_workflow.metadata) of_workflow.targets t.outcome
 
 -- what is told of the cycles, each on a repository of its own and from the state of the one before
 abbrev pub AreToldOn : Detail → List Mirror → Request → List Told → Type 0

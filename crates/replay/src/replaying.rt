@@ -6,8 +6,9 @@ ghost use Rattle.std.specs.List.{AllZip};
 ghost use Rattle.folder.specs.Folders.{IsSameFolder};
 ghost use Rattle.report.specs.Lines.{IsStatus};
 ghost use Rattle.update.specs.Causes.{IsCauseToRead};
-ghost use Rattle.replay.specs.Cycles.{AreToldOn, IsCause, IsReplayed, IsToldOn, IsUntouchedOrCycled};
-ghost use Rattle.replay.specs.Cycles.{first_of, from_state, last_state, mirror_of};
+ghost use Rattle.replay.specs.Cycles.{AreToldOn, IsCause, IsReplayed, IsToldOn};
+ghost use Rattle.replay.specs.Cycles.{IsUntouchedOrCycled, first_of, from_state, last_state};
+ghost use Rattle.replay.specs.Cycles.{mirror_of};
 ghost use Rattle.lookups.specs.Lookups.{IsPart, IsSettledOn};
 ghost use Rattle.update.specs.Opened.{IsOpened};
 ghost use Rattle.update.specs.Same.{IsCauseToEnd, IsSame};
@@ -19,7 +20,7 @@ use cycle::{Course, Gate, Keeper, Threading, Watch};
 use failure::Failure;
 use folder::Folder;
 use lookups::{Asked, Metadata};
-use measured::{Readers, close};
+use measured::{Readers, measure};
 use report::{Told, tell_cycles};
 use std::alloc::Global;
 use std::io::Write;
@@ -28,7 +29,7 @@ use std::thread::Threads;
 use system::System;
 use update::{
     Folders, HasMirrors, HasWorld, Host, Locking, Opened, Settings, Start, begin, keep_state,
-    why_lines,
+    told_of, why_lines,
 };
 
 /// A number of files whose verdicts are cached from cycle to cycle.
@@ -206,13 +207,14 @@ fn told<R: Threads + Wait + Sync, N: Gate + Watch + Sync, M: Folder, T: Folder +
     let start = begun.start;
     let course = course(threading, begun, &mut metadata, &mut here.metadata, keeper)?;
     keeper.trust(&course)?;
-    let why = why_lines(start, &metadata.repo.metadata, &course)?;
+    let stop = why_lines(start, &metadata.repo.metadata, &course)?;
     let readers = Readers {
         rt: threading.rt,
         threads: start.threads(),
     };
-    let outcome = close(&readers, start.alloc, course, &mut here.targets, names)?;
-    Ok(Told { outcome, why })
+    let known = measure(&readers, start.alloc, &course, &mut here.targets, names)?;
+    let told = told_of(start, course, stop, &known)?;
+    Ok(told)
 }
 
 /// Returns the course from the keeper's state, for which metadata files are read when they are

@@ -1,2 +1,3 @@
 mod Numbered
+mod Paths
 mod WorkedValues

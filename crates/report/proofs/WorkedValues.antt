@@ -1,12 +1,12 @@
 -- Worked values of the definitions.
-use Rattle.std.proofs.Common.{◌≡◌, [], ◌∷◌, ◌++◌, false, refl, codes}
+use Rattle.std.proofs.Common.{◌≡◌, [], ◌∷◌, ◌++◌, false, None, Some, refl, codes}
 use Rattle.std.specs.Fmt.{digits}
 use Rattle.hex.proofs.OnLiterals.{hex_on_literals}
 use Rattle.meta.specs.declared.fault.Fault.TheVariants as fault
 use Rattle.rolechain.specs.declared.end.Step.TheVariants as step
 use Rattle.rolechain.specs.declared.end.End.TheVariants.{Ready, Stopped}
-use Rattle.cycle.specs.declared.verdict.Verdict.TheVariants.{Good, NotFound, RoleRefused, NotSearched}
-use Rattle.report.specs.Lines.{root_text, end_text, role_text, stored_text, verdict_text, verdict_texts}
+use Rattle.cycle.specs.declared.verdict.Verdict.TheVariants.{FileRefused, Good, NotFound, RoleRefused, NotSearched}
+use Rattle.report.specs.Lines.{root_text, end_text, role_text, path_texts, stored_text, verdict_text}
 
 root-line : root_text 1 ≡ codes "root 1" ++ 10 ∷ []
 unfolding digits
@@ -40,6 +40,15 @@ unfolding hex_on_literals
 placeless-line = refl
 
 -- each path has its own verdict
-two-lines : verdict_texts (codes "a" ∷ codes "b" ∷ []) (NotFound ∷ NotSearched ∷ [])
+two-lines : path_texts (NotFound ∷ NotSearched ∷ []) [] None (codes "a" ∷ codes "b" ∷ [])
     ≡ codes "no \"a\" NotFound" ++ 10 ∷ codes "no \"b\" NotSearched" ++ 10 ∷ []
 two-lines = refl
+
+-- and is followed by why it is refused
+two-reasons : path_texts (FileRefused fault.Missing ∷ NotFound ∷ []) [] (Some (codes "why 1" ∷ [] ∷ [])) (codes "a" ∷ codes "b" ∷ [])
+    ≡ codes "no \"a\" Missing" ++ 10 ∷ codes "why 1" ++ codes "no \"b\" NotFound" ++ 10 ∷ []
+two-reasons = refl
+
+-- a path without a verdict has no line
+no-line : path_texts (NotFound ∷ []) [] None (codes "a" ∷ codes "b" ∷ []) ≡ codes "no \"a\" NotFound" ++ 10 ∷ []
+no-line = refl

@@ -1,3 +1,4 @@
 pub mod Lines
 pub mod Shown
+pub mod Whys
 pub mod Fetching

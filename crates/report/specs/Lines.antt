@@ -1,7 +1,7 @@
 -- The lines that a run prints, and its exit status.
 use Rattle.std.specs.List.{enumerate_from, list_all, slice_get}
 use Rattle.std.specs.Option.{option_map_or}
-use Rattle.std.specs.Prelude.{ℕ, ◌≤◌, Bool, ◌&&◌, List, [], ◌∷◌, ◌++◌, if◌then◌else◌, flat_map, zip, codes, decimal, ◌-◌, true, false, length, string_bytes}
+use Rattle.std.specs.Prelude.{ℕ, ◌≤◌, Bool, ◌&&◌, List, [], ◌∷◌, ◌++◌, if◌then◌else◌, flat_map, codes, decimal, ◌-◌, true, false, length, Option, unwrap_or}
 use Rattle.meta.specs.declared.fault.Fault.TheVariants.{NotListed, TooLong, LengthWrong, HashWrong, NoKnownHash, Malformed, Unsigned, VersionWrong, Rollback, Expired, Missing}
 pub use Rattle.rolechain.specs.declared.end.Step.TheVariants.{Root, Timestamp, Snapshot, Targets}
 use Rattle.rolechain.specs.declared.end.Step.{Step}
@@ -11,6 +11,7 @@ use Rattle.cycle.specs.declared.verdict.Verdict.{Verdict}
 use Rattle.failure.specs.Failures.{line}
 use Rattle.report.specs.declared.told.Told.{Told}
 pub use Rattle.inout.specs.Quoted.{quoted_text}
+pub use Rattle.report.specs.Whys.{Whys, nothing, why_at}
 
 -- # The lines.
 
@@ -69,34 +70,42 @@ stored_text path v is_stored = verdict_text path v
 
 -- ---- the whole
 
--- each path with its verdict
-abbrev pub verdict_texts : List (List ℕ) → List Verdict → List ℕ
-verdict_texts wanted verdicts = flat_map (λ p. verdict_text p.0 p.1) (zip wanted verdicts)
+-- whether the copy of the path at a position was stored; without a flag it needs none
+abbrev pub is_stored_at : List Bool → ℕ → Bool
+is_stored_at stored i = unwrap_or (slice_get stored i) true
 
--- each path with its verdict, and with whether its copy was stored
-abbrev pub stored_texts : List (List ℕ) → List Verdict → List Bool → List ℕ
-stored_texts wanted verdicts stored =
-    flat_map (λ p. stored_text p.0.0 p.0.1 p.1) (zip (zip wanted verdicts) stored)
+-- the line of the path at a position, if it has a verdict, and then why it is refused
+abbrev pub path_line : List Verdict → Option (List (List ℕ)) → ℕ → Bool → List ℕ → List ℕ
+path_line verdicts whys i is_stored path = option_map_or
+    (λ v. stored_text path v is_stored ++ why_at whys i) (slice_get verdicts i) []
+
+abbrev pub path_text : List Verdict → List Bool → Option (List (List ℕ)) → ℕ × List ℕ → List ℕ
+path_text verdicts stored whys (i, path) = path_line verdicts whys i (is_stored_at stored i) path
+
+-- those of all paths
+abbrev pub path_texts : List Verdict → List Bool → Option (List (List ℕ)) → List (List ℕ) → List ℕ
+path_texts verdicts stored whys wanted =
+    flat_map (path_text verdicts stored whys) (enumerate_from 0 wanted)
 
 -- the trusted root, how the cycle ended and the lines that say why, the roles that were accepted,
 -- all in order, and then the lines of the wanted paths
 abbrev pub outcome_with : Outcome → List ℕ → List ℕ → List ℕ
-outcome_with o why lines = root_text o.trusted.root.reading.header.version
-    ++ (end_text o.end ++ (why ++ (flat_map role_text o.accepted ++ lines)))
-
--- an outcome without copies
-abbrev pub outcome_text : Outcome → List ℕ → List (List ℕ) → List ℕ
-outcome_text o why wanted = outcome_with o why (verdict_texts wanted o.verdicts)
+outcome_with o stop lines = root_text o.trusted.root.reading.header.version
+    ++ (end_text o.end ++ (stop ++ (flat_map role_text o.accepted ++ lines)))
 
 -- an outcome with copies, of which these were stored
-abbrev pub stored_outcome_text : Outcome → List ℕ → List (List ℕ) → List Bool → List ℕ
+abbrev pub stored_outcome_text : Outcome → Whys → List (List ℕ) → List Bool → List ℕ
 stored_outcome_text o why wanted stored =
-    outcome_with o why (stored_texts wanted o.verdicts stored)
+    outcome_with o why.stop (path_texts o.verdicts stored why.paths wanted)
+
+-- an outcome without copies
+abbrev pub outcome_text : Outcome → Whys → List (List ℕ) → List ℕ
+outcome_text o why wanted = stored_outcome_text o why wanted []
 
 -- `cycle K`, and then the outcome's lines
 abbrev pub cycle_text : List (List ℕ) → ℕ × Told → List ℕ
 cycle_text wanted (number, t) = line (codes "cycle" ∷ decimal number ∷ [])
-    ++ outcome_text t.outcome (string_bytes t.why) wanted
+    ++ outcome_text t.outcome t.why wanted
 
 -- one cycle after another, numbered from 1
 abbrev pub cycles_text : List (List ℕ) → List Told → List ℕ

@@ -68,5 +68,5 @@ fn push_cycle(
         ++ spec.cycle_text (map string_bytes wanted.now) (number, told.now)) }
 {
     writeln!(text, "cycle {number}")?;
-    push_outcome(alloc, text, told, wanted)
+    push_outcome(alloc, text, told, wanted, &[])
 }

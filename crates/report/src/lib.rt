@@ -18,4 +18,4 @@ pub use cycles::tell_cycles;
 pub use fetching::tell_needs;
 pub use lines::{push_end, push_verdict, root_line, tell, tell_stored};
 pub use shown::show;
-pub use told::Told;
+pub use told::{Told, Why};

@@ -9,7 +9,7 @@ ghost use Rattle.report.specs.Lines as spec;
 ghost use Rattle.std.specs.List.{list_all};
 ghost use Rattle.report.specs.Lines.{IsStatus};
 
-use crate::told::Told;
+use crate::told::{Told, Why};
 use cycle::{Accepted, End, Fault, Outcome, Step, Verdict};
 use failure::Failure;
 use inout::{put, quote_name};
@@ -27,14 +27,13 @@ pub fn tell<W: Write>(
     out: &mut W,
 ) -> Result<u8, Failure>
     ensures written { OnOk result (Appends (W.contents out.old) (W.contents out.new)
-        (spec.outcome_text told.now.outcome (string_bytes told.now.why)
-        (map string_bytes wanted.now))) }
+        (spec.outcome_text told.now.outcome told.now.why (map string_bytes wanted.now))) }
     ensures status { IfOk result (λ status. status ≡ spec.outcome_status told.now.outcome) }
     ensures known { IfOk result IsStatus }
     ensures refused { IfErr result IsLate }
 {
     let mut text = String::new(alloc);
-    push_outcome(alloc, &mut text, told, wanted)?;
+    push_outcome(alloc, &mut text, told, wanted, &[])?;
     put(out, text.as_str())?;
     Ok(outcome_status(&told.outcome))
 }
@@ -51,8 +50,8 @@ pub fn tell_stored<W: Write>(
     out: &mut W,
 ) -> Result<u8, Failure>
     ensures written { OnOk result (Appends (W.contents out.old) (W.contents out.new)
-        (spec.stored_outcome_text told.now.outcome (string_bytes told.now.why)
-        (map string_bytes wanted.now) stored.now)) }
+        (spec.stored_outcome_text told.now.outcome told.now.why (map string_bytes wanted.now)
+        stored.now)) }
     ensures status { IfOk result
         (λ status. status ≡ spec.stored_outcome_status told.now.outcome stored.now) }
     ensures known { IfOk result IsStatus }
@@ -60,8 +59,7 @@ pub fn tell_stored<W: Write>(
 {
     let outcome = &told.outcome;
     let mut text = String::new(alloc);
-    push_head(alloc, &mut text, told)?;
-    push_stored(alloc, &mut text, wanted, outcome.verdicts(), stored)?;
+    push_outcome(alloc, &mut text, told, wanted, stored)?;
     put(out, text.as_str())?;
     let are_good = all_good(outcome.verdicts());
     Ok(status_of(outcome.end(), are_good && all_stored(stored)))
@@ -107,32 +105,33 @@ fn accepts(verdict: &Verdict) -> bool
     matches!(verdict, Verdict::Good { .. })
 }
 
-/// Adds all lines of what is told without copies: the root, the end and why, the accepted roles,
-/// and each wanted path in order.
+/// Adds all lines of what is told: the root, the end and why, the accepted roles, and each wanted
+/// path in order. `stored` has by position whether a path's copy was stored, if it needs one.
 pub(crate) fn push_outcome(
     alloc: Global,
     text: &mut String,
     told: &Told,
     wanted: &[String],
+    stored: &[bool],
 ) -> Result<(), AllocError>
     ensures lines { OnOk result (string_bytes text.new ≡ string_bytes text.old
-        ++ spec.outcome_text told.now.outcome (string_bytes told.now.why)
-        (map string_bytes wanted.now)) }
+        ++ spec.stored_outcome_text told.now.outcome told.now.why (map string_bytes wanted.now)
+        stored.now) }
 {
     push_head(alloc, text, told)?;
-    push_verdicts(alloc, text, wanted, told.outcome.verdicts())
+    push_paths(alloc, text, told, wanted, stored)
 }
 
 /// Adds the lines before those of the wanted paths.
 fn push_head(alloc: Global, text: &mut String, told: &Told) -> Result<(), AllocError>
     ensures lines { OnOk result ((lines : List ℕ) → string_bytes text.new ++ lines
         ≡ string_bytes text.old
-        ++ spec.outcome_with told.now.outcome (string_bytes told.now.why) lines) }
+        ++ spec.outcome_with told.now.outcome told.now.why.stop lines) }
 {
     let outcome = &told.outcome;
     text.push_str(root_line(alloc, outcome.trusted().root_version())?.as_str())?;
     push_end(text, outcome.end())?;
-    text.push_str(told.why.as_str())?;
+    text.push_str(told.why.stop.as_str())?;
     push_roles(alloc, text, outcome.accepted())
 }
 
@@ -180,36 +179,74 @@ fn push_role(alloc: Global, text: &mut String, accepted: &Accepted) -> Result<()
     writeln!(text, "role {role} {version}")
 }
 
-fn push_verdicts(
+/// Adds the lines of all wanted paths.
+fn push_paths(
     alloc: Global,
     text: &mut String,
+    told: &Told,
     wanted: &[String],
-    verdicts: &[Verdict],
+    stored: &[bool],
 ) -> Result<(), AllocError>
-    ensures lines { OnOk result (string_bytes text.new
-        ≡ string_bytes text.old
-        ++ spec.verdict_texts (map string_bytes wanted.now) verdicts.now) }
+    ensures lines { OnOk result (string_bytes text.new ≡ string_bytes text.old
+        ++ spec.path_texts told.now.outcome.verdicts stored.now told.now.why.paths
+        (map string_bytes wanted.now)) }
 {
-    for (path, verdict) in wanted.iter().zip(verdicts.iter()) {
-        push_verdict(alloc, text, path.as_str(), verdict)?;
+    for (place, path) in wanted.iter().enumerate() {
+        let is_stored = is_stored_at(stored, place);
+        let line = Line { place, is_stored };
+        push_path(alloc, text, told, path.as_str(), line)?;
     }
     Ok(())
 }
 
-fn push_stored(
+/// Returns whether the copy of the path at that position was stored; without a flag it needs none.
+fn is_stored_at(stored: &[bool], place: usize) -> bool
+    ensures test { result ≡ spec.is_stored_at stored.now place }
+{
+    match stored.get(place) {
+        Some(is_stored) => *is_stored,
+        None => true,
+    }
+}
+
+/// The position of a wanted path, and whether its copy was stored, if it needs one.
+#[derive(Clone, Copy)]
+struct Line {
+    place: usize,
+    is_stored: bool,
+}
+
+/// Adds the line of a wanted path, if it has a verdict, and those that say why it is refused.
+fn push_path(
     alloc: Global,
     text: &mut String,
-    wanted: &[String],
-    verdicts: &[Verdict],
-    stored: &[bool],
+    told: &Told,
+    path: &str,
+    line: Line,
 ) -> Result<(), AllocError>
     ensures lines { OnOk result (string_bytes text.new ≡ string_bytes text.old
-        ++ spec.stored_texts (map string_bytes wanted.now) verdicts.now stored.now) }
+        ++ spec.path_line told.now.outcome.verdicts told.now.why.paths line.place line.is_stored
+        path.now) }
 {
-    for ((path, verdict), is_stored) in wanted.iter().zip(verdicts.iter()).zip(stored.iter()) {
-        push_placed(alloc, text, path.as_str(), verdict, *is_stored)?;
-    }
-    Ok(())
+    let Some(verdict) = told.outcome.verdicts().get(line.place) else {
+        return Ok(());
+    };
+    push_placed(alloc, text, path, verdict, line.is_stored)?;
+    push_why(text, &told.why, line.place)
+}
+
+/// Adds the lines that say why the wanted path at that position is refused.
+fn push_why(text: &mut String, why: &Why, place: usize) -> Result<(), AllocError>
+    ensures lines { OnOk result (string_bytes text.new
+        ≡ string_bytes text.old ++ spec.why_at why.now.paths place) }
+{
+    let Some(texts) = &why.paths else {
+        return Ok(());
+    };
+    let Some(lines) = texts.get(place) else {
+        return Ok(());
+    };
+    text.push_str(lines.as_str())
 }
 
 /// Adds the line of a verdict, or `no PATH NoPlace` of an accepted path without a stored copy.

@@ -4,7 +4,9 @@ use Rattle.std.proofs.lemmas.List.{length-map}
 use Rattle.copies.specs.Paths.{IsSameAt, Site}
 use Rattle.cycle.specs.Workflow.{Course, Files, Outcome, course}
 use Rattle.examine.specs.Checks.{file_in}
-use Rattle.measured.specs.Closed.{IsClosed}
+use Rattle.measured.specs.Closed.{IsMeasured}
+use Rattle.measured.specs.declared.known.Known.{Known}
+use Rattle.report.specs.declared.told.Told.{Told}
 use Rattle.cycle.specs.declared.verdict.Verdict.{Verdict}
 use Rattle.measured.specs.Copied.{AreCopiesFor}
 use Rattle.failure.specs.declared.failure.Failure.{Failure}
@@ -18,8 +20,8 @@ use Rattle.lookups.specs.declared.metadata.Metadata.{Metadata}
 use Rattle.lookups.proofs.Reading.{part_before}
 use Rattle.lookups.proofs.Settling.{course_on, read_files, stays}
 use Rattle.paths.specs.Names.{ArePathsOf}
-use Rattle.update.specs.Opened.{AreListed, IsFollowedOn, paths_from, paths_of}
-use Rattle.update.specs.Runs.{AreWanted, IsStored, IsStoredOn, IsPrinted, IsPrintedOf, Request, State, start_of, state_text, why_of, why_text}
+use Rattle.update.specs.Opened.{AreListed, IsFollowedOn, IsToldBy, paths_from, paths_of}
+use Rattle.update.specs.Runs.{AreWanted, IsStored, IsStoredOn, IsPrinted, IsPrintedOf, Request, Seen, State, start_of, state_text, why_of, why_text}
 use Rattle.update.specs.Same.{IsSame}
 use Rattle.update.specs.Stored.{AreCopiesOf, AreInstalled, AreSomeInstalled, Lookup}
 use Rattle.update.specs.World.{Mirror, OthersKept}
@@ -29,7 +31,7 @@ use Rattle.update.specs.declared.start.Start as program
 use Rattle.update.specs.declared.start.Wanted.{Wanted}
 use Rattle.update.specs.declared.start.Wanted.TheVariants.{Every}
 use Rattle.update.proofs.Copied.{copies_of, stored_since}
-use Rattle.update.proofs.Storing.{closed_outcome}
+use Rattle.update.proofs.Storing.{closed_outcome, why_told}
 
 -- ---- what is neither the state nor below the folder for copies
 
@@ -53,8 +55,8 @@ still_stored mid after place text same kept = same text ∙ kept
 pub followed : (m : Mirror) (a b : Giving) (s : program.Start) (wanted : Wanted) (o : Opened) (later : Metadata) (f : Followed) (r : Request) (p : List (String Global))
     → IsSameFolder m.metadata a → IsSameFolder a b → m.targets.lists (map string_bytes o.names.items) ≡ true → f.names ≡ o.names → p ≡ paths_from wanted f.listed.items
     → r ≡ start_of s (map string_bytes p) → IsPart b later → Grows o.metadata later → IsSettledOn r later f.course → AreListed a s wanted o f.listed.items
-    → string_bytes f.why ≡ why_text s.detail (file_in later.repo.metadata) s.moment f.course.trusted f.course.end → IsFollowedOn m s wanted f
-followed m a b s wanted o later f r p first second names same is requested part grows settled are why =
+    → string_bytes f.stop ≡ why_text s.detail (file_in later.repo.metadata) s.moment f.course.trusted f.course.end → IsFollowedOn m s wanted f
+followed m a b s wanted o later f r p first second names same is requested part grows settled are stop =
     let paths = paths_of wanted f in
     let there : IsSettledOn (start_of s paths) later f.course =
     subst (λ (l : List (String Global)). IsSettledOn (start_of s (map string_bytes l)) later f.course) is (subst (λ q. IsSettledOn q later f.course) requested settled) in
@@ -66,7 +68,7 @@ followed m a b s wanted o later f r p first second names same is requested part 
           (subst (λ l. AreWanted wanted (course (start_of s paths) (file_in later.repo.metadata)).trusted.root.reading.consistent (list l) paths) (sym same)
           (are later (part_before a b later second part) grows));
       of_request = course_on m.metadata later here (start_of s paths) f.course there;
-      why = subst (λ (l : Files). string_bytes f.why ≡ why_text s.detail l s.moment f.course.trusted f.course.end) (read_files m.metadata later here) why;
+      stop = subst (λ (l : Files). string_bytes f.stop ≡ why_text s.detail l s.moment f.course.trusted f.course.end) (read_files m.metadata later here) stop;
     }
 
 -- the paths of names, by a course that more files don't change
@@ -83,42 +85,44 @@ placed_in site obstacles state = record { site = site; obstacles = obstacles; st
 
 -- ---- its end
 
-module _ (m n : Mirror) (s : program.Start) (wanted : Wanted) (f : Followed) (o : Outcome) (keeps : List ℕ → Bool) (trusted : State)
-    (d : IsFollowedOn m s wanted f) (same : IsSame m n) (closed : IsClosed n.targets.lists n.targets.holds f.course o) (state : trusted ≡ o.trusted)
-    (kept : keeps (state_text trusted) ≡ true) where
-  pub stored : (follows : Request → Files → Outcome → Type 0) → follows (start_of s (paths_of wanted f)) (files_read d.of_request.seen) o → IsStoredOn m s wanted keeps follows
+module _ (m n : Mirror) (s : program.Start) (wanted : Wanted) (f : Followed) (k : Known) (t : Told) (keeps : List ℕ → Bool) (trusted : State)
+    (d : IsFollowedOn m s wanted f) (same : IsSame m n) (measured : IsMeasured n.targets.lists n.targets.holds f.course k) (told : IsToldBy s.detail f.course (string_bytes f.stop) k t)
+    (state : trusted ≡ t.outcome.trusted) (kept : keeps (state_text trusted) ≡ true) where
+  abbrev metadata : Files
+  metadata = files_read d.of_request.seen
+
+  pub stored : (follows : Request → Files → Seen → Outcome → Type 0) → follows (start_of s (paths_of wanted f)) metadata measured.seen t.outcome → IsStoredOn m s wanted keeps follows
   stored follows then =
       let paths = paths_of wanted f in
       let names : List (List ℕ) = map string_bytes f.names.items in
-      let ended : o.trusted ≡ f.course.trusted = ap (λ (x : Outcome). x.trusted) (closed.outcome closed.files closed.are_seen) in
+      let ended : t.outcome.trusted ≡ f.course.trusted = ap (λ (x : Outcome). x.trusted) (told.outcome measured.seen measured.known measured.files measured.are_seen) in
       record {
         names = names;
         listed = d.names;
         paths = paths;
-        outcome = o;
-        are_wanted = subst (λ (t : State). AreWanted wanted t.root.reading.consistent names paths) (sym ended) d.are_wanted;
-        of_workflow = closed_outcome m n.targets (start_of s paths) f.course o d.of_request same.targets.lists same.targets.holds closed;
-        kept = subst (λ (t : State). keeps (state_text t) ≡ true) state kept;
+        outcome = t.outcome;
+        are_wanted = subst (λ (x : State). AreWanted wanted x.root.reading.consistent names paths) (sym ended) d.are_wanted;
+        of_workflow = closed_outcome m n.targets (start_of s paths) f.course k t.outcome d.of_request same.targets.lists same.targets.holds measured told.outcome;
+        kept = subst (λ (x : State). keeps (state_text x) ≡ true) state kept;
         then = then;
       }
 
-  -- what says why it stopped is what was told of its course
-  why_told : string_bytes f.why ≡ why_of s.detail (start_of s (paths_of wanted f)) (files_read d.of_request.seen) o
-  why_told = subst (λ (x : Outcome). string_bytes f.why ≡ why_text s.detail (files_read d.of_request.seen) s.moment x.trusted x.end)
-      (sym (closed.outcome closed.files closed.are_seen)) d.why
+  -- what says why is what was told
+  why_is : t.why ≡ why_of s.detail (start_of s (paths_of wanted f)) metadata measured.seen t.outcome
+  why_is = why_told s.detail m.metadata n.targets.lists n.targets.holds (start_of s (paths_of wanted f)) f.course (string_bytes f.stop) k t d.of_request measured told d.stop
 
   -- and its lines were printed
   pub stored_printed : {E : Type 0} (old new : Option (List ℕ)) (p : List (String Global)) (r : Result ℕ E) → p ≡ paths_from wanted f.listed.items
-      → IfOk r (λ status. IsPrinted o (string_bytes f.why) (map string_bytes p) status old new) → IfOk r (λ status. IsStoredOn m s wanted keeps (IsPrintedOf s.detail old new status))
+      → IfOk r (λ status. IsPrinted t.outcome t.why (map string_bytes p) status old new) → IfOk r (λ status. IsStoredOn m s wanted keeps (IsPrintedOf s.detail old new status))
   stored_printed old new p (Ok status) is lines = stored (IsPrintedOf s.detail old new status)
-      (subst (λ w. IsPrinted o w (paths_of wanted f) status old new) why_told (subst (λ (l : List (String Global)). IsPrinted o (string_bytes f.why) (map string_bytes l) status old new) is lines))
+      (subst (λ w. IsPrinted t.outcome w (paths_of wanted f) status old new) why_is (subst (λ (l : List (String Global)). IsPrinted t.outcome t.why (map string_bytes l) status old new) is lines))
   stored_printed old new p (Err e) is lines = tt
 
   -- ---- and copies were stored, of the paths by another name
 
   module _ {K : Type 0} (given p : Placing) (same_placing : given ≡ p) (placed : p.state ≡ s.state.now)
       (took : K → List ℕ → Bool) (l : List (String Global)) (copies lent : List (Option K)) (verdicts : List Verdict) (mid before after : Kept)
-      (paths : l ≡ paths_from wanted f.listed.items) (copies_are : lent ≡ copies) (verdicts_are : verdicts ≡ o.verdicts)
+      (paths : l ≡ paths_from wanted f.listed.items) (copies_are : lent ≡ copies) (verdicts_are : verdicts ≡ t.outcome.verdicts)
       (only : (place : List ℕ) → place ≢ s.state.now → IsSameAt place before mid)
       (for_course : AreCopiesFor took copies f.course.searches) where
     abbrev request : Request
@@ -130,40 +134,40 @@ module _ (m n : Mirror) (s : program.Start) (wanted : Wanted) (f : Followed) (o 
     -- what holds whatever the targets are holds of those of the searches
     as_found : (P : Placing → Lookup → List (List ℕ) → List Verdict → Type 0)
         → ((found : Lookup) → AreCopiesOf took found (map string_bytes l) lent → P given found (map string_bytes l) verdicts)
-        → P p (target_for request (files_read d.of_request.seen)) (paths_of wanted f) o.verdicts
+        → P p (target_for request metadata) (paths_of wanted f) t.outcome.verdicts
     as_found P copied =
         let all = paths_of wanted f in
         let same_paths : map string_bytes l ≡ all = ap (map string_bytes) paths in
-        let found = target_for request (files_read d.of_request.seen) in
-        let are = copies_of took copies request (files_read d.of_request.seen) f.course d.of_request.on_read for_course in
-        subst (λ z. P z found all o.verdicts) same_placing
+        let found = target_for request metadata in
+        let are = copies_of took copies request metadata f.course d.of_request.on_read for_course in
+        subst (λ z. P z found all t.outcome.verdicts) same_placing
         (subst (λ v. P given found all v) verdicts_are
         (subst (λ q. P given found q verdicts) same_paths
         (copied found (subst (λ q. AreCopiesOf took found q lent) (sym same_paths) (subst (AreCopiesOf took found all) (sym copies_are) are)))))
 
     all_stored : (stored : List Bool) → AreInstalled took lent given (map string_bytes l) verdicts mid after stored
-        → AreStored p (target_for request (files_read d.of_request.seen)) (paths_of wanted f) o.verdicts stored before after
-    all_stored stored copied = stored_since p _ (paths_of wanted f) o.verdicts stored before mid after others
+        → AreStored p (target_for request metadata) (paths_of wanted f) t.outcome.verdicts stored before after
+    all_stored stored copied = stored_since p _ (paths_of wanted f) t.outcome.verdicts stored before mid after others
         (as_found (λ z found q v. AreStored z found q v stored mid after) copied)
 
-    pub stored_into : {E : Type 0} (old new : Option (List ℕ)) (r : Result ℕ E) (stored told : List Bool) → told ≡ stored → length stored ≡ length l
+    pub stored_into : {E : Type 0} (old new : Option (List ℕ)) (r : Result ℕ E) (stored flags : List Bool) → flags ≡ stored → length stored ≡ length l
         → AreInstalled took lent given (map string_bytes l) verdicts mid after stored
-        → IfOk r (λ status. IsPrintedWith o (string_bytes f.why) (map string_bytes l) told status old new)
+        → IfOk r (λ status. IsPrintedWith t.outcome t.why (map string_bytes l) flags status old new)
         → IfOk r (λ status. IsStoredOn m s wanted keeps (IsPrintedInto s.detail p old new before after status))
-    stored_into old new (Ok status) list told same count copied lines = stored (IsPrintedInto s.detail p old new before after status) (record {
+    stored_into old new (Ok status) list flags same count copied lines = stored (IsPrintedInto s.detail p old new before after status) (record {
       stored = list;
       by_position = count ∙ sym (length-map l string_bytes) ∙ ap (λ (q : List (String Global)). length (map string_bytes q)) paths;
       are_stored = all_stored list copied;
-      is_printed = subst (λ w. IsPrintedWith o w (paths_of wanted f) list status old new) why_told
-          (subst (λ q. IsPrintedWith o (string_bytes f.why) q list status old new) (ap (map string_bytes) paths)
-          (subst (λ t. IsPrintedWith o (string_bytes f.why) (map string_bytes l) t status old new) same lines));
+      is_printed = subst (λ w. IsPrintedWith t.outcome w (paths_of wanted f) list status old new) why_is
+          (subst (λ q. IsPrintedWith t.outcome t.why q list status old new) (ap (map string_bytes) paths)
+          (subst (λ x. IsPrintedWith t.outcome t.why (map string_bytes l) x status old new) same lines));
     })
-    stored_into old new (Err e) list told same count copied lines = tt
+    stored_into old new (Err e) list flags same count copied lines = tt
 
     pub begun_into : AreSomeInstalled took lent given (map string_bytes l) verdicts mid after → IsStoredOn m s wanted keeps (AreBegun p before after)
     begun_into copied =
         let some = as_found (λ z found q v. AreSomeStored z found q v mid after) copied in
-        stored (AreBegun p before after) (some.0, stored_since p _ (paths_of wanted f) o.verdicts some.0 before mid after others some.1)
+        stored (AreBegun p before after) (some.0, stored_since p _ (paths_of wanted f) t.outcome.verdicts some.0 before mid after others some.1)
 
     -- all of them, though the lines were not printed
     pub all_begun : (list : List Bool) → AreInstalled took lent given (map string_bytes l) verdicts mid after list → IsStoredOn m s wanted keeps (AreBegun p before after)

@@ -66,7 +66,7 @@ IsCauseToStart settings shows gives refuses f = IsCauseToBegin (moment_text sett
 abbrev pub IsCauseBy : program.Start → Wanted → Obstacles → List Mirror → World → Failure → Type 0
 IsCauseBy s wanted obstacles mirrors new Output =
     (obstacles.fails s.state.now ≡ true)
-    ⊎ IsStored mirrors s wanted (new.keeps s.state.now) (λ _ _ _. ⊤)
+    ⊎ IsStored mirrors s wanted (new.keeps s.state.now) (λ _ _ _ _. ⊤)
 IsCauseBy s wanted obstacles mirrors new f = IsCauseToRead mirrors new.mirrors f
 
 abbrev pub IsCauseFrom : program.Start → Wanted → World → World → Failure → Type 0

@@ -11,10 +11,10 @@ use Rattle.failure.specs.declared.failure.Failure.TheVariants.{Output, Words}
 use Rattle.folder.specs.Folders.{path_below}
 use Rattle.folder.specs.Seen.{is_named}
 use Rattle.measured.specs.Copied.{IsContentOf}
-use Rattle.report.specs.Lines.{is_good, stored_outcome_status, stored_outcome_text}
+use Rattle.report.specs.Lines.{Whys, is_good, stored_outcome_status, stored_outcome_text}
 use Rattle.system.specs.Blocked.{Obstacles}
 use Rattle.update.specs.Causes.{IsCauseBy, IsCauseOf, IsCauseToRead, Mirror}
-use Rattle.update.specs.Runs.{Files, IsUntouched, Outcome, Request, Stores, StoresFrom, World, course, why_of}
+use Rattle.update.specs.Runs.{Files, IsUntouched, Outcome, Request, Seen, Stores, StoresFrom, World, course, why_of}
 use Rattle.update.specs.declared.start.Detail.{Detail}
 use Rattle.update.specs.declared.start.Start as program
 use Rattle.update.specs.declared.start.Terms.{Terms}
@@ -130,26 +130,27 @@ OutsideKept into state old new = (place : List ℕ) → place ≢ state
 
 -- # What a verification stores and prints.
 
--- the lines of an outcome of which these copies were stored were printed, with these of why it
--- stopped, and this is its status
-pub record IsPrintedWith (o : Outcome) (why : List ℕ) (wanted : List (List ℕ))
+-- the lines of an outcome of which these copies were stored were printed, with these that say why,
+-- and this is its status
+pub record IsPrintedWith (o : Outcome) (why : Whys) (wanted : List (List ℕ))
     (stored : List Bool) (status : ℕ) (old new : Option (List ℕ)) : Type 0 where
   pub lines : Appends old new (stored_outcome_text o why wanted stored)
   pub answered : status ≡ stored_outcome_status o stored
 
 -- for each wanted path it was decided whether its copy is stored, and that was printed
 pub record IsPrintedInto (d : Detail) (p : Placing) (old new : Option (List ℕ))
-    (before after : Kept) (status : ℕ) (start : Request) (metadata : Files) (o : Outcome)
-    : Type 0 where
+    (before after : Kept) (status : ℕ) (start : Request) (metadata : Files) (targets : Seen)
+    (o : Outcome) : Type 0 where
   pub stored : List Bool
   pub by_position : length stored ≡ length start.wanted
   pub are_stored : AreStored p (target_for start metadata) start.wanted o.verdicts stored before
       after
-  pub is_printed : IsPrintedWith o (why_of d start metadata o) start.wanted stored status old new
+  pub is_printed : IsPrintedWith o (why_of d start metadata targets o) start.wanted stored status
+      old new
 
 -- copies of some of the first wanted paths were stored
-abbrev pub AreBegun : Placing → Kept → Kept → Request → Files → Outcome → Type 0
-AreBegun p old new start metadata o =
+abbrev pub AreBegun : Placing → Kept → Kept → Request → Files → Seen → Outcome → Type 0
+AreBegun p old new start metadata targets o =
     AreSomeStored p (target_for start metadata) start.wanted o.verdicts old new
 
 -- # A verification of the only repository, with copies of its good targets.

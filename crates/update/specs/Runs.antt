@@ -1,18 +1,21 @@
 -- A verification: what it begins with, its outcome, and what it stores and prints.
 use Rattle.std.specs.Bool.{⊤}
 use Rattle.std.specs.Io.KnownBytes.{Appends}
-use Rattle.std.specs.Prelude.{IfSome, ◌≡◌, ◌⊎◌, ℕ, List, Bool, true, Option, Ok, map, option_map, string_bytes, [], ◌∷◌}
+use Rattle.std.specs.Option.{option_map_or}
+use Rattle.std.specs.Prelude.{IfSome, ◌≡◌, ◌⊎◌, ℕ, List, Bool, true, Option, None, Some, Ok, map, option_map, string_bytes, [], ◌∷◌}
 use Rattle.rolechain.specs.Text.{state_of}
 use Rattle.rolechain.specs.Kept.{kept_of, kept_text}
 pub use Rattle.rolechain.specs.Advance.{State}
 pub use Rattle.rolechain.specs.declared.end.End.{End}
 use Rattle.rolechain.specs.declared.end.End.TheVariants.{Ready, Stopped}
-pub use Rattle.cycle.specs.Workflow.{Files, Outcome, Repository, Request, course, request, workflow}
+use Rattle.deleg.specs.declared.accepted.Search.{Search}
+use Rattle.cycle.specs.Workflow.{target_of}
+pub use Rattle.cycle.specs.Workflow.{Course, Files, Outcome, Repository, Request, course, request, workflow}
 use Rattle.lookups.specs.Lookups.{IsLookedUp, files_read}
-use Rattle.measured.specs.Closed.{is_found}
+use Rattle.measured.specs.Closed.{is_found, seen_file}
 use Rattle.paths.specs.Names.{ArePathsOf}
-use Rattle.report.specs.Lines.{outcome_status, outcome_text}
-use Rattle.whys.specs.Whys.{stop_text}
+use Rattle.report.specs.Lines.{Whys, outcome_status, outcome_text}
+use Rattle.whys.specs.Whys.{stop_text, target_text}
 pub use Rattle.folder.specs.Seen.{Seen, AreSeen, MayBeSeen}
 pub use Rattle.update.specs.Moments.{IsMomentOf, Moment}
 pub use Rattle.update.specs.World.{Mirror, World, IsUntouched}
@@ -111,9 +114,9 @@ abbrev pub has_consistent_names : Outcome → Bool
 has_consistent_names o = o.trusted.root.reading.consistent
 
 -- The outcome on the folders of a repository, for the paths that are wanted: its new state is
--- stored, and more holds of the request, of the metadata and of it.
+-- stored, and more holds of the request, of the metadata, of what was seen of the targets and of it.
 pub record IsStoredOn (mirror : Mirror) (s : program.Start) (wanted : Wanted)
-    (keeps : List ℕ → Bool) (follows : Request → Files → Outcome → Type 0) : Type 0 where
+    (keeps : List ℕ → Bool) (follows : Request → Files → Seen → Outcome → Type 0) : Type 0 where
   pub names : List (List ℕ)
   pub listed : mirror.targets.lists names ≡ true
   pub paths : List (List ℕ)
@@ -121,11 +124,12 @@ pub record IsStoredOn (mirror : Mirror) (s : program.Start) (wanted : Wanted)
   pub are_wanted : AreWanted wanted (has_consistent_names outcome) names paths
   pub of_workflow : IsOutcomeOn mirror (start_of s paths) outcome
   pub kept : keeps (state_text outcome.trusted) ≡ true
-  pub then : follows (start_of s paths) (files_read of_workflow.metadata) outcome
+  pub then : follows (start_of s paths) (files_read of_workflow.metadata) of_workflow.targets
+      outcome
 
 -- the same on the only repository
 abbrev pub IsStored : List Mirror → program.Start → Wanted → (List ℕ → Bool)
-    → (Request → Files → Outcome → Type 0) → Type 0
+    → (Request → Files → Seen → Outcome → Type 0) → Type 0
 IsStored (m ∷ []) s wanted keeps follows = IsStoredOn m s wanted keeps follows
 IsStored _ s wanted keeps follows = ⊥
 
@@ -135,21 +139,35 @@ why_text Reasons metadata now s (Stopped step fault) = stop_text metadata now s 
 why_text Reasons metadata now s Ready = []
 why_text Faults metadata now s end = []
 
--- the outcome's lines were printed, with these of why it stopped, and the status is its own
-pub record IsPrinted (o : Outcome) (why : List ℕ) (wanted : List (List ℕ)) (status : ℕ)
+-- those that say why the file of the target is refused that a search found, by what was read of it
+abbrev pub path_text : Seen → Bool → Option Search → List ℕ
+path_text targets consistent s = option_map_or
+    (λ t. target_text consistent t (seen_file targets consistent t)) (target_of s) []
+
+-- for each search, if they are asked for
+abbrev pub path_texts : Detail → Seen → Course → Option (List (List ℕ))
+path_texts Reasons targets c =
+    Some (map (path_text targets c.trusted.root.reading.consistent) c.searches)
+path_texts Faults targets c = None
+
+-- what says why, by the metadata files and what was seen of the targets
+abbrev pub why_of : Detail → Request → Files → Seen → Outcome → Whys
+why_of d r metadata targets o = record {
+  stop = why_text d metadata r.moment o.trusted o.end;
+  paths = path_texts d targets (course r metadata);
+}
+
+-- the outcome's lines were printed, with these that say why, and the status is its own
+pub record IsPrinted (o : Outcome) (why : Whys) (wanted : List (List ℕ)) (status : ℕ)
     (old new : Option (List ℕ)) : Type 0 where
   pub lines : Appends old new (outcome_text o why wanted)
   pub answered : status ≡ outcome_status o
 
--- what says why it stopped, by the metadata files that were read
-abbrev pub why_of : Detail → Request → Files → Outcome → List ℕ
-why_of d r metadata o = why_text d metadata r.moment o.trusted o.end
-
 -- the same of the paths of the request
 abbrev pub IsPrintedOf : Detail → Option (List ℕ) → Option (List ℕ) → ℕ
-    → Request → Files → Outcome → Type 0
-IsPrintedOf d old new status r metadata o =
-    IsPrinted o (why_of d r metadata o) r.wanted status old new
+    → Request → Files → Seen → Outcome → Type 0
+IsPrintedOf d old new status r metadata targets o =
+    IsPrinted o (why_of d r metadata targets o) r.wanted status old new
 
 -- # A verification of the only repository.
 
@@ -157,7 +175,7 @@ IsPrintedOf d old new status r metadata o =
 
 -- its new state is stored, and more holds of its outcome
 abbrev pub StoresFrom : program.Start → Wanted → World → World
-    → (Request → Files → Outcome → Type 0) → Type 0
+    → (Request → Files → Seen → Outcome → Type 0) → Type 0
 StoresFrom s wanted old new = IsStored old.mirrors s wanted (new.keeps s.state.now)
 
 -- its lines were printed too, and this is its status
@@ -168,11 +186,11 @@ IsVerifiedFrom s wanted old new status =
 -- nothing was stored or printed, or the new state was stored
 abbrev pub IsUntouchedOrStoredFrom : program.Start → Wanted → World → World → Type 0
 IsUntouchedOrStoredFrom s wanted old new =
-    IsUntouched old new ⊎ StoresFrom s wanted old new (λ _ _ _. ⊤)
+    IsUntouched old new ⊎ StoresFrom s wanted old new (λ _ _ _ _. ⊤)
 
 -- ---- from those that the words name
 
-abbrev pub Stores : Terms → World → World → (Request → Files → Outcome → Type 0) → Type 0
+abbrev pub Stores : Terms → World → World → (Request → Files → Seen → Outcome → Type 0) → Type 0
 Stores terms old new follows =
     Begins terms.settings old (λ s. StoresFrom s terms.wanted old new follows)
 
@@ -181,4 +199,4 @@ IsVerified terms old new status =
     Stores terms old new (IsPrintedOf terms.settings.detail old.printed new.printed status)
 
 abbrev pub IsUntouchedOrStored : Terms → World → World → Type 0
-IsUntouchedOrStored terms old new = IsUntouched old new ⊎ Stores terms old new (λ _ _ _. ⊤)
+IsUntouchedOrStored terms old new = IsUntouched old new ⊎ Stores terms old new (λ _ _ _ _. ⊤)

@@ -13,14 +13,14 @@ use crate::answer::tell_copied;
 use crate::following::Followed;
 use crate::host::{Folders, HasWorld, Host};
 use crate::installing::{Places, store_copies};
+use crate::refused::told_of;
 use crate::start::{Locking, Start, Terms, Wanted, begin};
 use crate::state::keep_state;
 use copies::Destination;
 use cycle::{Gate, Threading, Watch};
 use failure::{Failure, of_io};
 use folder::Folder;
-use measured::{Copied, close_into};
-use report::Told;
+use measured::{Copied, measure_into};
 use std::alloc::Global;
 use std::io::Write;
 use std::sync::Wait;
@@ -108,13 +108,14 @@ impl<S: System, M: Folder, T: Folder, W: Write> Host<S, Folders<M, T>, W> {
             course,
             names,
             listed,
-            why,
+            stop,
         } = followed;
-        let copied = close_into(alloc, course, &mut self.folders.targets, names, to)?;
-        let Copied { outcome, copies } = copied;
+        let copied = measure_into(alloc, &course, &mut self.folders.targets, names, to)?;
+        let Copied { known, copies } = copied;
+        let told = told_of(start, course, stop, &known)?;
         let paths = wanted.paths(listed.as_slice());
-        keep_state(alloc, &mut self.system, start.state, outcome.trusted())?;
-        let (verdicts, copies) = (outcome.verdicts(), copies.as_slice());
+        keep_state(alloc, &mut self.system, start.state, told.outcome.trusted())?;
+        let (verdicts, copies) = (told.outcome.verdicts(), copies.as_slice());
         let places = Places {
             alloc,
             to: &*to,
@@ -122,7 +123,6 @@ impl<S: System, M: Folder, T: Folder, W: Write> Host<S, Folders<M, T>, W> {
         };
         let stored = store_copies(&places, paths, verdicts, copies, &mut self.system)?;
         flush(alloc, paths, stored.as_slice(), to)?;
-        let told = Told { outcome, why };
         tell_copied(alloc, &told, paths, stored.as_slice(), &mut self.out)
     }
 }

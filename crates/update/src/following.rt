@@ -31,7 +31,7 @@ pub struct Followed {
     pub(crate) course: Course,
     pub(crate) names: Vec<String>,
     pub(crate) listed: Vec<String>,
-    pub(crate) why: String,
+    pub(crate) stop: String,
 }
 
 /// What was seen of the folders so far, and the keeper of the state that a course begins with.
@@ -68,13 +68,13 @@ impl<M: Folder, T: Folder> Folders<M, T> {
             mut keeper,
         } = begun;
         let course = (opened.metadata).follow(folder, threading, &mut keeper, &asked)?;
-        let why = why_lines(start, &opened.metadata.repo.metadata, &course)?;
+        let stop = why_lines(start, &opened.metadata.repo.metadata, &course)?;
         let Opened { names, .. } = opened;
         Ok(Followed {
             course,
             names,
             listed,
-            why,
+            stop,
         })
     }
 }

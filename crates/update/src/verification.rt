@@ -11,13 +11,13 @@ ghost use Rattle.update.specs.World.{IsUntouched, OthersKept};
 use crate::answer::tell_outcome;
 use crate::following::Followed;
 use crate::host::{Folders, HasWorld, Host};
+use crate::refused::told_of;
 use crate::start::{Locking, Start, Terms, Wanted, begin};
 use crate::state::keep_state;
 use cycle::{Gate, Threading, Watch};
 use failure::Failure;
 use folder::Folder;
-use measured::{Readers, close};
-use report::Told;
+use measured::{Readers, measure};
 use std::alloc::Global;
 use std::io::Write;
 use std::sync::Wait;
@@ -97,15 +97,16 @@ impl<S: System, M: Folder, T: Folder + Sync, W: Write> Host<S, Folders<M, T>, W>
             course,
             names,
             listed,
-            why,
+            stop,
         } = followed;
         let readers = Readers {
             rt: threading.rt,
             threads: start.threads(),
         };
-        let outcome = close(&readers, alloc, course, &mut self.folders.targets, names)?;
+        let known = measure(&readers, alloc, &course, &mut self.folders.targets, names)?;
+        let told = told_of(start, course, stop, &known)?;
         let paths = wanted.paths(listed.as_slice());
-        keep_state(alloc, &mut self.system, start.state, outcome.trusted())?;
-        tell_outcome(alloc, &Told { outcome, why }, paths, &mut self.out)
+        keep_state(alloc, &mut self.system, start.state, told.outcome.trusted())?;
+        tell_outcome(alloc, &told, paths, &mut self.out)
     }
 }

@@ -262,7 +262,7 @@ const WHY: Argument = Argument {
         needs: &[],
         conflicts: &[],
     },
-    help: "Print why an update stopped: the file, and what was compared",
+    help: "Print why files are refused: the file, and what was compared",
 };
 
 const PROGRESS: Argument = Argument {

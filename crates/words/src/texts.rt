@@ -58,8 +58,9 @@ The trusted state is locked until the run has ended; another run with it waits. 
 locked is an error, unless there is --unlocked.
 Workers check signatures in advance, and then digest the target files. For them at most 4 MB of
 metadata are read twice. Lines, state and status are the same for any number of workers.
-With --why a line `end STEP FAULT` is followed by lines that begin with `why`: the file that was
-refused, and what the check compared that it failed. Nothing else changes.
+With --why a line `end STEP FAULT`, or `no NAME FAULT` of a target's file, is followed by lines that
+begin with `why`: the file that was refused, and what the check compared that it failed. Nothing
+else changes.
 With --progress it also prints to standard error, at most once a second,
   tufcheck: N files read, N signatures checked, N of N bytes digested
 

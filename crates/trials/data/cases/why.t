@@ -1,4 +1,4 @@
-Why an update stopped. Expected are the lines of `checks/second/reading.py` on the same files, so Python computed each length and digest; the ids are also those of the keys of `checks/tuf.py`.
+Why an update stopped, or a target's file is refused. Expected are the lines of `checks/second/reading.py` on the same files, so Python computed each length and digest; the ids are also those of the keys of `checks/tuf.py`.
 
 One of two keys signed. Two ids more count for nothing.
   $ make
@@ -275,3 +275,131 @@ The lines of `replay`, after each end.
   why expires 2026-01-01T00:00:00Z moment 2026-01-01T00:00:00Z
   no "abc.txt" NotSearched
   [2]
+
+A target's file that is absent, one of other bytes, and one that is longer than listed. A path that no role lists has no such line.
+  $ make
+  > @keys
+  > target targets b 62 both
+  > target targets d/e 6465 sha256
+  > write root 1 1
+  > @files
+  $ init old
+  root 1
+  $ remove targets/abc.txt
+  $ put targets/b
+  > c
+  $ put targets/d/e
+  > longer
+  $ verify old new --why abc.txt b gone d/e
+  root 1
+  end ready
+  no "abc.txt" Missing
+  why absent "abc.txt"
+  no "b" HashWrong
+  why file "b" 1
+  why sha256 2e7d2c03a9507ae265ecf5b5356885a53393a2029d241394997265a1a25aefc6 listed 3e23e8160039594a33894f6564e1b1348bbd7a0088d42c4acb73eeaed59c009d
+  why sha512 acc28db2beb7b42baa1cb0243d401ccb4e3fce44d7b02879a52799aadff541522d8822598b2fa664f9d5156c00c924805d75c3868bd56c2acb81d37e98e35adc listed 5267768822ee624d48fce15ec5ca79cbd602cb7f4c2157a516556991f22ef8c7b5ef7b18d1ff41c59370efb0858651d44a936c11b7b144c48fe04df3c6a3e8da
+  no "gone" NotFound
+  no "d/e" LengthWrong
+  why file "d/e" 3
+  why length 3 listed 2
+  [1]
+
+The same with copies, where an accepted target has none. Then in each cycle of `replay`.
+  $ put targets/b
+  > b
+  $ folder copies/b
+  $ verify old new --why --into copies abc.txt b d/e
+  root 1
+  end ready
+  no "abc.txt" Missing
+  why absent "abc.txt"
+  no "b" NoPlace
+  no "d/e" LengthWrong
+  why file "d/e" 3
+  why length 3 listed 2
+  [1]
+  $ put targets/abc.txt
+  > ab
+  $ tufcheck replay --why --state old --now 2026-01-01T00:00:00Z --out new abc.txt . .
+  cycle 1
+  root 1
+  end ready
+  no "abc.txt" LengthWrong
+  why file "abc.txt" 2
+  why length 2 listed 3
+  cycle 2
+  root 1
+  end ready
+  no "abc.txt" LengthWrong
+  why file "abc.txt" 2
+  why length 2 listed 3
+  [1]
+
+Under consistent names each name that was looked up, and then the file that is there.
+  $ make
+  > @keys
+  > consistent yes
+  > delegate targets a 1 4 go paths r
+  > target a r 72 sha512
+  > target targets d/b 62 both
+  > write a 3 4
+  > write root 1 1
+  > @files
+  $ init old
+  root 1
+  $ remove targets/d/3e23e8160039594a33894f6564e1b1348bbd7a0088d42c4acb73eeaed59c009d.b
+  $ remove targets/a882f0ac848b0b6b4ca7b42bfa1d266afd0ddeba9204ae57a984a69376d59816b1ef3f4d442ea8a70396067ff5b70e0ae8eab3935b617b8e366d8e35c3bfe14c.r
+  $ verify old new --why r d/b
+  root 1
+  end ready
+  role "a" 3
+  no "r" Missing
+  why absent "a882f0ac848b0b6b4ca7b42bfa1d266afd0ddeba9204ae57a984a69376d59816b1ef3f4d442ea8a70396067ff5b70e0ae8eab3935b617b8e366d8e35c3bfe14c.r"
+  no "d/b" Missing
+  why absent "d/3e23e8160039594a33894f6564e1b1348bbd7a0088d42c4acb73eeaed59c009d.b"
+  why absent "d/5267768822ee624d48fce15ec5ca79cbd602cb7f4c2157a516556991f22ef8c7b5ef7b18d1ff41c59370efb0858651d44a936c11b7b144c48fe04df3c6a3e8da.b"
+  [1]
+  $ put targets/d/5267768822ee624d48fce15ec5ca79cbd602cb7f4c2157a516556991f22ef8c7b5ef7b18d1ff41c59370efb0858651d44a936c11b7b144c48fe04df3c6a3e8da.b
+  > c
+  $ verify old new --why d/b
+  root 1
+  end ready
+  no "d/b" HashWrong
+  why file "d/5267768822ee624d48fce15ec5ca79cbd602cb7f4c2157a516556991f22ef8c7b5ef7b18d1ff41c59370efb0858651d44a936c11b7b144c48fe04df3c6a3e8da.b" 1
+  why sha256 2e7d2c03a9507ae265ecf5b5356885a53393a2029d241394997265a1a25aefc6 listed 3e23e8160039594a33894f6564e1b1348bbd7a0088d42c4acb73eeaed59c009d
+  why sha512 acc28db2beb7b42baa1cb0243d401ccb4e3fce44d7b02879a52799aadff541522d8822598b2fa664f9d5156c00c924805d75c3868bd56c2acb81d37e98e35adc listed 5267768822ee624d48fce15ec5ca79cbd602cb7f4c2157a516556991f22ef8c7b5ef7b18d1ff41c59370efb0858651d44a936c11b7b144c48fe04df3c6a3e8da
+  [1]
+
+A wrong digest in capitals beside a right one, and no digest that is known.
+  $ make
+  > @wide
+  > write root 1 1
+  > @files
+  $ init old
+  root 1
+  $ change metadata/timestamp.json 2
+  > "hashes":{..."version":1}
+  > "version":1}
+  $ change metadata/snapshot.json 3
+  > "hashes":{..."version":1}
+  > "version":1}
+  $ change metadata/targets.json 4
+  > "hashes":{...}
+  > "hashes":{"sha256":"ABABABABABABABABABABABABABABABABABABABABABABABABABABABABABABABAB","sha512":"ddaf35a193617abacc417349ae20413112e6fa4e89a97ea20a9eeee64b55d39a2192992a274fc1a836ba3c23a3feebbd454d4423643ce80e2a9ac94fa54ca49f"}
+  $ verify old new --why abc.txt
+  root 1
+  end ready
+  no "abc.txt" HashWrong
+  why file "abc.txt" 3
+  why sha256 ba7816bf8f01cfea414140de5dae2223b00361a396177a9cb410ff61f20015ad listed abababababababababababababababababababababababababababababababab
+  [1]
+  $ change metadata/targets.json 4
+  > "hashes":{...}
+  > "hashes":{"md5":""}
+  $ verify old new --why abc.txt
+  root 1
+  end ready
+  no "abc.txt" NoKnownHash
+  why file "abc.txt" 3
+  [1]

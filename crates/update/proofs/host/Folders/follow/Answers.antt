@@ -21,4 +21,4 @@ returns-clause-followed g c =
     (c.asked_of-asked.ensures.request c.listed_paths.new.begun.keeper
     ∙ ap (λ t. request t s.moment c.paths.result.now s.limits.roles) (c.in_ok-listed.ensures.state ∙ c.in_ok-keeper.ensures.state ∙ c.in_ok-copy.ensures.equal))
     c.in_ok-course.ensures.part c.in_ok-course.ensures.grows c.in_ok-course.ensures.settled c.in_ok-listed.ensures.paths
-    c.in_ok-why.ensures.lines
+    c.in_ok-stop.ensures.lines
