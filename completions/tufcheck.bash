@@ -13,7 +13,7 @@ _tufcheck() {
         return
     fi
     case ${COMP_WORDS[1]} in
-    init) mapfile -t COMPREPLY < <(compgen -W "--out --help -h" -f -- "$word") ;;
+    init) mapfile -t COMPREPLY < <(compgen -W "--new --out --help -h" -f -- "$word") ;;
     verify) mapfile -t COMPREPLY < <(compgen -W "--state --unlocked --metadata --targets --now --limit --workers --paths-from --null --every --into --why --progress --out --help -h" -- "$word") ;;
     replay) mapfile -t COMPREPLY < <(compgen -W "--state --unlocked --now --limit --workers --keep --paths-from --null --why --progress --out --help -h" -d -- "$word") ;;
     next) mapfile -t COMPREPLY < <(compgen -W "--state --metadata --targets --now --limit --paths-from --null --only --progress --help -h" -- "$word") ;;

@@ -16,6 +16,7 @@ complete -c tufcheck -n "not __fish_seen_subcommand_from $commands" -a make -d '
 complete -c tufcheck -n "not __fish_seen_subcommand_from $commands" -a help -d 'Print help'
 complete -c tufcheck -n '__fish_seen_subcommand_from help' -a 'init verify replay next show key text attach signers make'
 complete -c tufcheck -n '__fish_seen_subcommand_from init make replay show key text attach signers' -F
+complete -c tufcheck -n '__fish_seen_subcommand_from init' -l new -d 'Fail if there is a file already'
 complete -c tufcheck -n '__fish_seen_subcommand_from init verify replay' -l out -r -F -d 'Where the state is written'
 complete -c tufcheck -n '__fish_seen_subcommand_from verify replay next' -l state -r -F -d 'The trusted state'
 complete -c tufcheck -n '__fish_seen_subcommand_from verify replay' -l unlocked -d 'Read the trusted state without a lock'

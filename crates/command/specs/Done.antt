@@ -106,8 +106,8 @@ IsNextOf wants folders old new status =
 
 -- what the subcommand does, by its run's own definition
 abbrev pub IsDone : Subcommand → Option (List ℕ) → Option (List ℕ) → ℕ → Type 0
-IsDone (Init root state) old new status =
-    OfHeld (λ h k. IsFirst root.now state.now (system_of h [] old) (system_of k [] new) status)
+IsDone (Init first) old new status = OfHeld (λ h k.
+    IsFirst first.root.now first.state.now (system_of h [] old) (system_of k [] new) status)
 IsDone (Verify terms folders) old new status = IsVerifiedOf terms folders old new status
 IsDone (VerifyInto terms folders into) old new status =
     IsVerifiedIntoOf terms folders into.now old new status
@@ -139,8 +139,7 @@ IsCauseOf cause old new =
 
 -- the cause by the run's own definition; of the steps of a ceremony and of `make` none is known
 abbrev pub IsCause : Subcommand → Option (List ℕ) → Option (List ℕ) → Failure → Type 0
-IsCause (Init root state) old new f =
-    IsCauseOf (λ w v. IsCauseOfFirst root.now state.now w v f) old new
+IsCause (Init first) old new f = IsCauseOf (λ w v. IsCauseOfFirst first w v f) old new
 IsCause (Verify terms folders) old new f = IsCauseOf (λ w v. run.IsCause terms w v f) old new
 IsCause (VerifyInto terms folders into) old new f =
     IsCauseOf (λ w v. IsCauseToVerifyInto terms (site_at into.now) w v f) old new

@@ -20,7 +20,7 @@ use std::io::Write;
 use std::sync::Wait;
 use std::thread::Threads;
 use system::Machine;
-use update::Host;
+use update::{First, Host};
 
 /// Carries out a subcommand on the file system, and returns its status: 0 if all wanted targets
 /// are accepted, 1 if one is refused or a file that is shown expires too soon or isn't there, 2 if
@@ -42,7 +42,7 @@ pub fn carry_out<T: Threads + Wait + Sync, W: Write>(
 {
     let (rt, alloc) = (run.host, run.alloc);
     match subcommand {
-        Subcommand::Init { root, state } => init(rt, alloc, root, state, out),
+        Subcommand::Init { first } => init(rt, alloc, first, out),
         Subcommand::Verify { terms, folders } => verify_in(run, terms, *folders, out),
         Subcommand::VerifyInto {
             terms,
@@ -69,17 +69,17 @@ pub fn carry_out<T: Threads + Wait + Sync, W: Write>(
 fn init<W: Write>(
     rt: &HostRuntime,
     alloc: Global,
-    root: &str,
-    state: &str,
+    first: &First<'_>,
     out: W,
 ) -> (Result<u8, Failure>, W)
     ensures known { IfOk result.0 IsStatus }
-    ensures first { IfOk result.0 (λ status. OfHeld (λ h k. IsFirst root.now state.now
-        (system_of h [] (W.contents out)) (system_of k [] (W.contents result.1)) status)) }
+    ensures first { IfOk result.0 (λ status. OfHeld (λ h k. IsFirst first.now.root.now
+        first.now.state.now (system_of h [] (W.contents out))
+        (system_of k [] (W.contents result.1)) status)) }
     ensures quiet { IfErr result.0 (λ f. f ≢ Failure.Memory → f ≢ Failure.Output
         → W.contents result.1 ≡ W.contents out) }
     ensures cause { IfErr result.0 (λ f. IsCauseOf
-        (λ w v. IsCauseOfFirst root.now state.now w v f)
+        (λ w v. IsCauseOfFirst first.now w v f)
         (W.contents out) (W.contents result.1)) }
 {
     let mut host = Host {
@@ -87,7 +87,7 @@ fn init<W: Write>(
         folders: (),
         out,
     };
-    let done = host.init(alloc, root, state);
+    let done = host.init(alloc, first);
     (done, host.out)
 }
 

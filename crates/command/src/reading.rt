@@ -10,7 +10,7 @@ use cycle::Step;
 use failure::Failure;
 use replay::Cycles;
 use std::alloc::Global;
-use update::{Terms, Wanted};
+use update::{First, Terms, Wanted};
 
 /// Returns the subcommand that the arguments name. Reads the file of `--paths-from`, if there is
 /// one. Fails with `Words` if an argument is missing, and as [`given_paths`] does.
@@ -44,8 +44,11 @@ pub fn has_progress(matches: &ArgMatches<'_>) -> bool {
 
 fn init_of<'a>(words: &ArgMatches<'a>) -> Result<Subcommand<'a>, Failure> {
     Ok(Subcommand::Init {
-        root: word(words, "ROOT")?,
-        state: word(words, "out")?,
+        first: First {
+            root: word(words, "ROOT")?,
+            state: word(words, "out")?,
+            is_new: words.get_flag("new"),
+        },
     })
 }
 

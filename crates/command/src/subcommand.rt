@@ -3,7 +3,7 @@
 use ceremony::{AttachPaths, By};
 use cycle::Step;
 use replay::Cycles;
-use update::{Terms, Wants};
+use update::{First, Terms, Wants};
 
 /// The paths of a repository's two folders.
 #[derive(Clone, Copy)]
@@ -18,10 +18,8 @@ pub struct FolderPaths<'a> {
 pub enum Subcommand<'a> {
     /// Trusts the root file of a path, and stores the state for a path.
     Init {
-        /// The path of the root file.
-        root: &'a str,
-        /// The path of the state file.
-        state: &'a str,
+        /// What the arguments name.
+        first: First<'a>,
     },
     /// Verifies the repository of two folders.
     Verify {
@@ -103,7 +101,7 @@ pub enum Subcommand<'a> {
 impl<'a> Drop for Subcommand<'a> {
     fn drop(self) {
         match self {
-            Subcommand::Init { root, state } => {}
+            Subcommand::Init { first } => {}
             Subcommand::Verify { terms, folders } => {}
             Subcommand::VerifyInto {
                 terms,

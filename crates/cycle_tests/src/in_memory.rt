@@ -3,12 +3,13 @@
 use crate::found::{LINES, PLAIN, wanted};
 use crate::repositories::{limits_of, made, metadata};
 use cycle::{Open, Threading};
+use failure::Failure;
 use file_tests::{Desk, Kept, Memory};
 use meta::Repo;
 use std::alloc::Global;
 use std::process::Abort;
 use system::System;
-use update::{Detail, Folders, Host, Locking, Settings, Terms, Wanted, Workers};
+use update::{Detail, First, Folders, Host, Locking, Settings, Terms, Wanted, Workers};
 
 /// 2026-01-01T00:00:00Z, in seconds since 1970.
 const SECONDS: u64 = 1_767_225_600;
@@ -76,8 +77,16 @@ fn a_run_in_memory_stores_state_and_copies(rt: HostRuntime) {
         folders: folders(&rt),
         out: Vec::new(alloc),
     };
-    let first = host.init(alloc, "root", "state").expect(&rt, "a state");
-    assert!(rt; first == 0 && host.out.as_slice() == b"root 1\n".as_slice());
+    let mut first = First {
+        root: "root",
+        state: "state",
+        is_new: true,
+    };
+    let status = host.init(alloc, &first).expect(&rt, "a state");
+    assert!(rt; status == 0 && host.out.as_slice() == b"root 1\n".as_slice());
+    assert!(rt; matches!(host.init(alloc, &first), Err(Failure::State)));
+    first.is_new = false;
+    assert!(rt; host.init(alloc, &first).expect(&rt, "a state") == 0);
     host.out.clear();
     let (mut to, terms) = (Kept::working(), terms(&rt, alloc));
     let threading = Threading {

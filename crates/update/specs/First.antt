@@ -3,6 +3,7 @@ use Rattle.std.specs.Bool.{⊤}
 use Rattle.std.specs.Io.KnownBytes.{Appends}
 use Rattle.std.specs.Prelude.{◌≡◌, ◌⊎◌, ℕ, List, Bool, true, Result, Ok, Err}
 use Rattle.failure.specs.declared.failure.Failure.{Failure}
+use Rattle.failure.specs.declared.failure.Failure.TheVariants as failure
 use Rattle.failure.specs.declared.failure.Failure.TheVariants.{Input, Memory, Output}
 use Rattle.meta.specs.declared.fault.Fault.{Fault}
 use Rattle.meta.specs.declared.fault.Fault.TheVariants as fault
@@ -15,6 +16,7 @@ use Rattle.rolechain.specs.declared.fault.StateFault.TheVariants.{TooLong}
 pub use Rattle.rolechain.specs.declared.fault.StateFault.{StateFault}
 use Rattle.update.specs.Runs.{state_text}
 pub use Rattle.update.specs.World.{World, IsUntouched}
+use Rattle.update.specs.declared.first.First.{First}
 
 -- the fault that is printed of a refused root: a root over its limit, or one without a reading
 abbrev pub fault_of : StateFault → Fault
@@ -62,12 +64,18 @@ IsBrokenOff root state old new =
     ((new.keeps ≡ old.keeps) × ((new.printed ≡ old.printed) ⊎ Refuses root old (λ _. ⊤)))
     ⊎ Trusts root state old new (λ _. ⊤)
 
--- why it fails: the root can't be read; the state couldn't be stored, or it was, or the root is
--- refused, and the line wasn't written
-abbrev pub IsCauseOfFirst : List ℕ → List ℕ → World → World → Failure → Type 0
-IsCauseOfFirst root state old new Input = old.refuses root ≡ true
-IsCauseOfFirst root state old new Output =
-    (old.obstacles.fails state ≡ true)
-    ⊎ (Refuses root old (λ _. ⊤) ⊎ Trusts root state old new (λ _. ⊤))
-IsCauseOfFirst root state old new Memory = ⊤
-IsCauseOfFirst root state old new _ = ⊥
+-- a file gives some bytes, or may be refused though it is there
+abbrev pub MayBeThere : (List ℕ → Bool) → Bool → Type 0
+MayBeThere gives refuses = ((bytes : List ℕ) × (gives bytes ≡ true)) ⊎ (refuses ≡ true)
+
+-- why it fails: the state has to be new, and a file may be there; the root can't be read; the state
+-- couldn't be stored, or it was, or the root is refused, and the line wasn't written
+abbrev pub IsCauseOfFirst : First → World → World → Failure → Type 0
+IsCauseOfFirst f old new failure.State = (f.is_new ≡ true)
+    × MayBeThere (old.gives f.state.now) (old.refuses f.state.now)
+IsCauseOfFirst f old new Input = old.refuses f.root.now ≡ true
+IsCauseOfFirst f old new Output =
+    (old.obstacles.fails f.state.now ≡ true)
+    ⊎ (Refuses f.root.now old (λ _. ⊤) ⊎ Trusts f.root.now f.state.now old new (λ _. ⊤))
+IsCauseOfFirst f old new Memory = ⊤
+IsCauseOfFirst f old new _ = ⊥

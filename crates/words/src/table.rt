@@ -10,6 +10,14 @@ pub const INIT: &[Argument] = &[
         help: "The root file",
     },
     Argument {
+        name: "new",
+        form: Form::Switch {
+            needs: &[],
+            conflicts: &[],
+        },
+        help: "Fails if there is a file already",
+    },
+    Argument {
         name: "out",
         form: Form::Needed("STATE"),
         help: "Where the state is written",

@@ -25,14 +25,15 @@ EXIT STATUS:
 /// The end of the help of `init`.
 pub const INIT_END: &str = "\
 It prints `root N`, with the root's version, or `end root FAULT`. A refused root writes no state.
+Without --new a state that is there is replaced, and what it guarded against is forgotten.
 
 EXAMPLES:
-  tufcheck init 1.root.json --out state
+  tufcheck init --new 1.root.json --out state
 
 EXIT STATUS:
   0  the state was written
   2  the root file was refused
-  3  the command line was refused
+  3  the command line, or with --new a state file that is there, was refused
   4  the root file, the output or memory failed";
 
 /// The end of the help of `verify`.

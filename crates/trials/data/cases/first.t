@@ -23,6 +23,24 @@ A folder is verified twice. The state that is read stays, and the new one is the
   ok "abc.txt" 3 "targets"
   $ same two three
 
+A state that has to be new is stored where there is no file. A file that is there stays, whatever it is, and no root is read.
+  $ tufcheck init --new metadata/1.root.json --out fresh
+  root 1
+  $ same fresh one
+  $ tufcheck init --new metadata/1.root.json --out two
+  ! tufcheck: state file
+  [3]
+  $ same two three
+  $ tufcheck init --new none --out targets/abc.txt
+  ! tufcheck: state file
+  [3]
+  $ tufcheck init --new metadata/1.root.json --out metadata
+  ! tufcheck: state file
+  [3]
+  $ tufcheck init --new none --out other
+  ! tufcheck: input
+  [4]
+
 What the targets file signs, and the brace behind it: 209 bytes and one.
   $ copy metadata/targets.json part
   $ change part
