@@ -1,7 +1,10 @@
 #!/usr/bin/env python3
 """Runs the sessions of crates/trials by the program itself, as one process for each command, and compares what it prints.
 
-  checks/gate/sessions.py [SESSION..]      all unless given, by the names of their files
+  checks/gate/sessions.py [--why] [SESSION..]      all unless given, by the names of their files
+
+With --why each run of `verify` and `replay` has this option, too. The lines that begin with `why` aren't compared then: all
+others, the status and the files must be those of the run without it. Sessions that give it themselves are run as they are.
 
 crates/command_cases/README.md has the commands of sessions; here they are done by Python, which shares no code with the
 crates. Left out are `system.t`, whose clocks and folders fail as only a test's do, and `differs.t`, which is knowingly
@@ -163,16 +166,22 @@ def digests():
 # Runs.
 
 
+def untold(out):
+    return b"".join(line for line in out.splitlines(keepends=True) if not line.startswith(b"why "))
+
+
 class Shell:
     """Runs the commands of sessions. All runs share one standard input."""
 
-    def __init__(self, program, stdin):
-        self.program, self.stdin = program, stdin
+    def __init__(self, program, stdin, is_told):
+        self.program, self.stdin, self.is_told = program, stdin, is_told
 
     def run(self, *words, **streams):
         both = {"stdout": subprocess.PIPE, "stderr": subprocess.PIPE, **streams}
-        ran = subprocess.run([self.program, *words], stdin=self.stdin, check=False, **both)
-        return Output(ran.stdout or b"", ran.stderr or b"", ran.returncode)
+        is_more = self.is_told and words[:1] in (("verify",), ("replay",)) and "--why" not in words
+        more = ["--why"] if is_more else []
+        ran = subprocess.run([self.program, *words[:1], *more, *words[1:]], stdin=self.stdin, check=False, **both)
+        return Output(untold(ran.stdout or b"") if is_more else ran.stdout or b"", ran.stderr or b"", ran.returncode)
 
     def full(self, stream, words):
         with open("/dev/full", "wb") as full:
@@ -270,7 +279,9 @@ def session(shell, name):
 
 
 def main():
-    names = sys.argv[1:] or sorted({*fnmatch.filter(os.listdir(f"{TRIALS}/data/cases"), "*.t")} - {*LEFT_OUT})
+    is_told = "--why" in sys.argv[1:]
+    names = [word for word in sys.argv[1:] if word != "--why"]
+    names = names or sorted({*fnmatch.filter(os.listdir(f"{TRIALS}/data/cases"), "*.t")} - {*LEFT_OUT})
     os.umask(0o022)
     with tempfile.TemporaryDirectory() as room, open(f"{TRIALS}/stdin", "rb") as stdin:
         os.mkdir(f"{room}/room")
@@ -283,7 +294,7 @@ def main():
             os.setegid(NOBODY)
             os.seteuid(NOBODY)
         try:
-            counts = [session(Shell(f"{room}/program", stdin), name) for name in names]
+            counts = [session(Shell(f"{room}/program", stdin, is_told), name) for name in names]
         finally:
             os.seteuid(os.getuid())
     steps, differing = map(sum, zip(*counts))
