@@ -9,7 +9,8 @@ PYTHONPATH has its module and second.py; each LINES is a program that library.sh
 The lines, the status and the new state must be the same, and so must be
 
   - the outcome with target files given by length and digests, all or some;
-  - the outcome after `fetch_all` into an empty job, which asks for no file twice;
+  - the outcome after `fetch_all` into an empty job, which asks for no file twice, but that a file past the limit of its kind
+    may have the wrong length there;
   - the listing's state and end, and what it lists beside the verdicts;
   - what each language writes of the listing, of the files that are needed with these target files
     and without any, and of what both states trust;
@@ -140,6 +141,11 @@ class Fetcher:
         return None if data is None else data[: need.most + 1]
 
 
+def as_fetched(outcome):
+    """The outcome of a stop by a file past its kind's limit, of which no more was fetched than its listed length and a byte."""
+    return dataclasses.replace(outcome, fault=Fault.LENGTH_WRONG) if outcome.fault == Fault.TOO_LONG else outcome
+
+
 def compared(case):
     """What differs of a case, or its outcome."""
     folder, state, metadata, targets, wanted, limit, draw = case
@@ -173,7 +179,7 @@ def compared(case):
     fetcher = Fetcher(metadata, targets)
     absent = tufcheck.fetch_all(begun, fetcher)
     fetched = begun.verify()
-    if fetched != outcome:
+    if fetched not in (outcome, as_fetched(outcome)):
         return f"all {brief(outcome)}\nfetched {brief(fetched)}", outcome
     if not absent and not outcome.verdicts:
         return "nothing was absent", outcome
